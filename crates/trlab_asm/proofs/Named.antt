@@ -16,7 +16,7 @@ use Rattle.trlab_asm.specs.Laws.{RegistersAreNamed, InputsAreNamed, Instructions
 some_inside : {X : Type 0} {a b : X} → ◌≡◌ {A = Option X} (Some a) (Some b) → a ≡ b
 some_inside h = cc
 
--- what is found passes the test
+-- an element that `find` returns passes the test
 find_passes : {X : Type 0} (p : X → Bool) (xs : List X) (x : X) → find p xs ≡ Some x → p x ≡ true
 find_passes p [] x h = absurd cc
 find_passes p (y ∷ ys) x h =
@@ -25,7 +25,7 @@ find_passes p (y ∷ ys) x h =
       | inr fails ↦ find_passes p ys x (rw fails at h)
     ]
 
--- a word in which something is found is its text
+-- a word for which an element is found is the text of this element
 found : {X : Type 0} (text : X → List ℕ) (xs : List X) (word : List ℕ) (x : X) → find (λ y. bytes_eq (text y) word) xs ≡ Some x → word ≡ text x
 found text xs word x h = sym ((bytes_eq-Decides (text x) word).0 (find_passes (λ y. bytes_eq (text y) word) xs x h))
 

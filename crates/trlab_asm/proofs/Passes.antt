@@ -8,7 +8,7 @@ use Rattle.trlab_asm.specs.Reading.{Labels, Line, line_content}
 use Rattle.trlab_asm.specs.Assembly.{Parts, LineDraft, in_line, with_line, first_pass, resolve, second_pass, instrs_of}
 use Rattle.trlab_asm.specs.declared.fault.AsmFault.{AsmFault}
 
--- a line that says something
+-- a line that is not empty
 pub first_next : (parts : Parts) (number : ℕ) (line : List ℕ) (left : List (List ℕ)) (said : Line) → Ok said ≡ in_line number (line_content parts.labels (length parts.drafts) line)
     → first_pass parts number (line ∷ left) ≡ first_pass (with_line parts number said) (number + 1) left
 unfolding first_pass
@@ -50,6 +50,6 @@ pub second_end : (labels : Labels) (drafts : List LineDraft) (i : ℕ) (before :
 unfolding second_pass
 second_end labels drafts i before past = rw (drop_of_length-le drafts past) (ap Ok (append-nil before))
 
--- where there is an instruction, the second pass tells the rest
+-- if there is an instruction, the second pass decides the result
 pub some_instrs : (parts : Parts) (drafts : List LineDraft) (labels : Labels) → false ≡ (length drafts == 0) → drafts ≡ parts.drafts → labels ≡ parts.labels → instrs_of parts ≡ second_pass labels drafts
 some_instrs parts drafts labels some all known = rw (← all, ← known, ← some) refl

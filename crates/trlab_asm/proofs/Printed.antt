@@ -1,4 +1,4 @@
--- An operand that is printed is read again.
+-- A printed operand is read back.
 use Rattle.std.proofs.Common.{◌≡◌, ◌||◌, ◌&&◌, ◌==◌, ℕ, ◌-◌, ◌<◌, ◌≤◌, ◌^◌, List, [], ◌∷◌, length, refl, arith, Bool, true, false, cond}
 use Rattle.std.specs.Prelude.{None, Some, Ok, nat_lt, nat_le, decimal}
 use Rattle.std.specs.Char.{is_ascii_digit, is_ascii_alphanumeric}
@@ -59,7 +59,7 @@ input_again SideBack = refl
 input_again Lane = refl
 input_again Headspeed = refl
 
--- the text of a name is one plain word, and names it
+-- the text of a name is one plain word, which is read back as this name
 pub record IsName (x : Mnemonic) : Type 0 where
   pub plain : plain_word (mnemonic_text x) ≡ true
   pub some : 0 < length (mnemonic_text x)
@@ -133,7 +133,7 @@ and_false : (b : Bool) → (b && false) ≡ false
 and_false true = refl
 and_false false = refl
 
--- where a printed target goes
+-- the target of a printed jump
 abbrev pub goal_of : ℕ → ℕ → WrittenTarget
 goal_of count pc = cond (nat_lt pc count) (record { pc = 0; label = Some (label_text pc) }) (record { pc = pc; label = None })
 

@@ -1,4 +1,4 @@
--- An instruction that is printed is read again.
+-- A printed instruction is read back.
 use Rattle.std.proofs.Common.{◌≡◌, ℕ, ◌<◌, List, ◌∷◌, ◌++◌, length, refl, arith, false, length-append}
 use Rattle.std.specs.Prelude.{None, Some, Ok, decimal, ◌==◌}
 use Rattle.std.proofs.lemmas.Bool.{lt-ltb, ne_eqb}
@@ -54,13 +54,13 @@ draft_again count Stay = plain_draft Stay
 not_empty : (text rest : List ℕ) → 0 < length text → (length (text ++ rest) == 0) ≡ false
 not_empty text rest some = ne_eqb (length (text ++ rest)) 0 (λ e. absurd (omega (arith, length-append text rest)))
 
--- a name and operands that say a draft
+-- a name and its operands give a draft
 named_again : (pc : ℕ) (x : Mnemonic) (operands : List ℕ) (draft : InstrDraft) → pc < MAX_INSTRUCTIONS → draft_of x (32 ∷ operands) ≡ Ok draft → body pc (with_operands x operands) ≡ Ok (Some draft)
 named_again pc x operands draft room says =
     let known = name_again x in
     rw (not_empty (mnemonic_text x) (32 ∷ operands) known.some, word_and_more (mnemonic_text x) operands known.plain, known.again, lt-ltb pc MAX_INSTRUCTIONS room, says) refl
 
--- an instruction's text says the instruction
+-- the text of an instruction is read back as the instruction
 pub instr_again : (count pc : ℕ) (i : Instr) → pc < MAX_INSTRUCTIONS → Fits i → body pc (instr_text count i) ≡ Ok (Some (draft_again count i))
 instr_again count pc (Num d n) room fits = named_again pc name.Num (register_text d comma decimal n) (plain_draft (Num d n)) room (rw (one_number_again d n fits.1) refl)
 instr_again count pc (Get d k) room fits = named_again pc name.Get (register_text d comma input_text k) (plain_draft (Get d k)) room (rw (get_again d k) refl)

@@ -1,4 +1,4 @@
--- A line that is printed is read again.
+-- A printed line is read back.
 use Rattle.std.proofs.Common.{◌≡◌, ◌==◌, ℕ, ◌<◌, ◌≤◌, ◌^◌, List, [], ◌∷◌, ◌++◌, get_or, refl, sym, ◌∙◌, arith, Bool, true, false, cond, not}
 use Rattle.std.specs.Prelude.{Option, None, Some, Ok, decimal}
 use Rattle.std.proofs.lemmas.Bool.{eq-eqb}
@@ -80,7 +80,7 @@ instr_none p count (Go a) aside fits = named_none p name.Go (register_text a) as
 instr_none p count Cross aside fits = none_in_plain p (mnemonic_text name.Cross) aside.word refl
 instr_none p count Stay aside fits = none_in_plain p (mnemonic_text name.Stay) aside.word refl
 
--- it begins with no blank
+-- the text does not begin with a space
 begins_plain : (count : ℕ) (i : Instr) → is_plain (get_or (instr_text count i) 0 0) ≡ true
 begins_plain count (Num d n) = refl
 begins_plain count (Get d k) = refl
@@ -126,7 +126,7 @@ none_append : (p : ℕ → Bool) (a b : List ℕ) → none_of p a ≡ true → n
 none_append p [] b first second = second
 none_append p (c ∷ a) b first second = let both = and_parts (not (p c)) (none_of p a) first in and_both (not (p c)) (none_of p (a ++ b)) both.0 (none_append p a b both.1 second)
 
--- a printed label and what stands after it
+-- no byte of a printed label with its instruction passes such a test
 marked_none : (p : ℕ → Bool) (count pc : ℕ) (i : Instr) → IsAside p → p 58 ≡ false → pc < MAX_INSTRUCTIONS → Fits i → none_of p (label_text pc ++ (58 ∷ 32 ∷ instr_text count i)) ≡ true
 marked_none p count pc i aside colon room fits =
     none_append p (label_text pc) (58 ∷ 32 ∷ instr_text count i)
@@ -146,15 +146,15 @@ none_is_end (c ∷ line) none =
     let both = and_parts (not (c == 10)) (none_of (λ b. b == 10) line) none in
     All-cons (λ byte. byte ≡ 10 → ⊥) c line (is_no_end c (not_true (c == 10) both.0)) (none_is_end line both.1)
 
--- no line that is printed has an LF
+-- a printed line contains no LF
 pub line_has_no_end : (count pc : ℕ) (marked : Bool) (i : Instr) → pc < MAX_INSTRUCTIONS → Fits i → HasNoLineFeed (instr_line count marked pc i)
 line_has_no_end count pc marked i room fits = none_is_end (instr_line count marked pc i) (line_none count pc marked i room fits)
 
--- the label of a line that is marked
+-- the label of a line that has one
 abbrev pub mark : Bool → ℕ → Option (List ℕ)
 mark marked pc = cond marked (Some (label_text pc)) None
 
--- a line that is printed says its instruction and its label
+-- a printed line is read back as its instruction and its label
 pub line_again : (labels : Labels) (count pc : ℕ) (marked : Bool) (i : Instr) → pc < MAX_INSTRUCTIONS → Fits i → labels (label_text pc) ≡ None
     → line_content labels pc (instr_line count marked pc i) ≡ Ok (record { label = mark marked pc; draft = Some (draft_again count i) })
 line_again labels count pc true i room fits free =

@@ -1,4 +1,4 @@
--- The canonical text of a program says the program.
+-- The canonical text of a program is read back as the program.
 use Rattle.std.proofs.Common.{◌≡◌, ◌≢◌, ◌==◌, ◌||◌, ℕ, zero, suc, ◌+◌, ◌<◌, ◌≤◌, ◌^◌, List, [], ◌∷◌, ◌++◌, length, take, All, refl, sym, ◌∙◌, ap, arith, Bool, true, false, cond, append_assoc, append-nil, length-append, add-one, subst}
 use Rattle.std.specs.Prelude.{None, Some, Ok, nat_lt, nat_eq, decimal, bytes_eq}
 use Rattle.std.specs.List.{AllByRecursion}
@@ -54,13 +54,13 @@ other_step : (labels : Labels) (n t : ℕ) (b : Bool) → n < 2 ^ 32 → t < 2 ^
 other_step labels n t true small small_too differ = rw (other_label n t small small_too differ) refl
 other_step labels n t false small small_too differ = refl
 
--- a label is not there before its pc
+-- a label is not known before its pc
 free : (instrs : List Instr) (n t : ℕ) → n ≤ t → t < 2 ^ 32 → labels_below instrs n (label_text t) ≡ None
 free instrs zero t le small = refl
 free instrs (suc n) t le small =
     other_step (labels_below instrs n) n t (is_jumped_to instrs n) (omega arith) small (λ e. absurd (omega arith)) ∙ free instrs n t (omega arith) small
 
--- but it is there after that, if some jump goes there
+-- but it is known from there on, if some jump goes there
 here_step : (labels : Labels) (n t : ℕ) (b : Bool) → n ≡ t → b ≡ true → with_label labels n (mark b n) (label_text t) ≡ Some t
 here_step labels n t true is marked = rw (is, same_label t) refl
 here_step labels n t false is marked = cc
@@ -96,7 +96,7 @@ first_again instrs pc number before (i ∷ left) at room fit =
     let end : pc + 1 + length left ≡ pc + length (i ∷ left) = omega arith in
     ap (first_pass (record { labels = labels_below instrs pc; drafts = before }) number) line ∙ (next ∙ rw (marked, end, append_assoc) at more)
 
--- where a jump goes is read again
+-- the target of a jump is read back
 jump_again : (labels : Labels) (count line t : ℕ) (instr : ℕ → Instr) → ((pc q : ℕ) → with_target pc (instr q) ≡ instr pc) → (t < count → labels (label_text t) ≡ Some t)
     → resolve_label labels line (instr (goal_of count t).pc) (goal_of count t).label ≡ Ok (instr t)
 jump_again labels count line t instr aim known = by_cases (nat_lt t count) refl
@@ -138,7 +138,7 @@ or_right : (a b : Bool) → b ≡ true → (a || b) ≡ true
 or_right true b e = refl
 or_right false b e = e
 
--- the second pass, where the jumps that are left are jumps of the program
+-- the second pass, for a rest of the instructions whose jumps are jumps of the program
 second_again : (instrs : List Instr) (number : ℕ) (left : List Instr) → length instrs < 2 ^ 32 → ((t : ℕ) → is_jumped_to left t ≡ true → is_jumped_to instrs t ≡ true)
     → second_pass (labels_below instrs (length instrs)) (reads_of (length instrs) number left) ≡ Ok left
 unfolding second_pass
@@ -161,7 +161,7 @@ all_fit [] in_range has_word = tt
 all_fit (i ∷ instrs) in_range has_word =
     ((All-head IsInRange i instrs in_range, All-head FitsIn32Bits i instrs has_word), all_fit instrs (All-tail IsInRange i instrs in_range) (All-tail FitsIn32Bits i instrs has_word))
 
--- the text of a program says the program
+-- the text of a program is read back as the program
 pub again : CanonicalTextGivesProgram
 again program stored =
     let instrs = program.instrs in
@@ -172,14 +172,14 @@ again program stored =
     let first = rw end at (first_again program.instrs 0 1 [] program.instrs refl (omega arith) fit) in
     rw (first, some_read program.instrs (omega arith), second_again program.instrs 1 program.instrs (omega arith) (λ t here. here)) refl
 
--- so programs of one kind with one text are one
+-- so two programs of the same kind with the same text are equal
 pub one_program : TextDeterminesProgram
 one_program first second stored stored_too kinds texts =
     let one = again first stored in
     let other = again second stored_too in
     cc
 
--- the same where a machine has seen all the words
+-- the same, for a machine that has checked all the words of the instructions
 pub reread : (program : Program) (instrs : List Instr) (text : List ℕ) (n : ℕ) → instrs ≡ program.instrs → IsValidProgram program → length instrs ≤ n → All FitsIn32Bits (take n instrs) → text ≡ canonical_text instrs
     → code_of program.kind (lines_of text) ≡ Ok program
 reread program instrs text n same stored all words canonical =

@@ -1,4 +1,4 @@
--- Any text says a program, or has a first fault, which is never that memory ran out.
+-- Every text is a program or has a first fault, and this fault is never that memory ran out.
 use Rattle.std.proofs.Common.{◌≡◌, ◌≢◌, ℕ, suc, ◌+◌, ◌-◌, ◌<◌, ◌≤◌, Bool, true, false, ◌&&◌, ◌==◌, if◌then◌else◌, nat_le, nat_lt, List, [], ◌∷◌, length, All, Option, Some, None, Result, Ok, Err, MatchResult, refl, arith, length-append, leb-true, ltb-true, codes}
 use Rattle.std.specs.Prelude.{ok_or}
 use Rattle.std.specs.Str.Parse.{digits_value}
@@ -207,7 +207,7 @@ line_gives labels pc line =
 
 -- the two passes
 
--- the same of faults with a line
+-- the same for faults with a line number
 abbrev Tells : {A : Type 0} → (A → Type 0) → Result A AsmFault → Type 0
 Tells P r = MatchResult r P (λ fault. fault.why ≢ Memory)
 
@@ -220,7 +220,7 @@ in_line_tells : {A : Type 0} (P : A → Type 0) (number : ℕ) (r : Result A Why
 in_line_tells P number (Ok x) h = h
 in_line_tells P number (Err why) h = h
 
--- what was read has instructions in range, and not too many
+-- the drafts that were read have instructions in range, and not too many
 record Kept (drafts : List LineDraft) : Type 0 where
   few : length drafts ≤ MAX_INSTRUCTIONS
   fit : All (λ (read : LineDraft). IsInRange read.draft.instr) drafts
@@ -304,7 +304,7 @@ instrs_tell parts true e kept = rw e (λ f. cc)
 instrs_tell parts false e kept =
     rw e (whole_of (length parts.drafts) (second_pass parts.labels parts.drafts) (omega (arith, eqb-false (length parts.drafts) 0 e)) kept.few (second_tells parts.labels parts.drafts kept.fit))
 
--- any lines say something
+-- any lines are a program or have a first fault
 pub lines_say : (kind : Kind) (lines : List (List ℕ)) → MatchResult (code_of kind lines) IsValidProgram (λ fault. fault.why ≢ Memory)
 lines_say kind lines =
     then_tells (λ (all : Parts). Kept all.drafts) IsValidProgram (first_pass no_parts 1 lines) _

@@ -11,13 +11,13 @@ pub both_said : {A B : Type 0} (first : List ℕ → Result A Why) (rest : List 
     → Some (x, y) ≡ cut 44 text → a ≡ first x → b ≡ rest y → r ≡ (a >>= λ p. b >>= λ q. Ok (p, q)) → r ≡ (first then rest) text
 both_said first rest text x y a b r parts said left e = rw (e, said, left, ← parts) refl
 
--- what is known of the first
+-- a property of the first operand
 pub first_known : {A B : Type 0} (P : A → Type 0) (a : Result A Why) (b : Result B Why) (r : Result (A × B) Why) → r ≡ (a >>= λ p. b >>= λ q. Ok (p, q)) → IfOk a P → IfOk r (λ x. P x.0)
 first_known P (Ok p) (Ok q) r e known = rw e known
 first_known P (Ok p) (Err f) r e known = rw e tt
 first_known P (Err f) b r e known = rw e tt
 
--- and of the rest
+-- a property of the rest
 pub rest_known : {A B : Type 0} (P : B → Type 0) (a : Result A Why) (b : Result B Why) (r : Result (A × B) Why) → r ≡ (a >>= λ p. b >>= λ q. Ok (p, q)) → IfOk b P → IfOk r (λ x. P x.1)
 rest_known P (Ok p) (Ok q) r e known = rw e known
 rest_known P (Ok p) (Err f) r e known = rw e tt

@@ -1,4 +1,4 @@
--- Words of no byte at which a line is cut.
+-- Words without any byte at which a line is cut.
 use Rattle.std.proofs.Common.{◌≡◌, ◌==◌, ◌||◌, ◌&&◌, ℕ, ◌+◌, ◌<◌, List, [], ◌∷◌, ◌++◌, length, refl, sym, ◌∙◌, ap, arith, Bool, true, false, not, append-nil, length-append}
 use Rattle.std.specs.Prelude.{None, Some, Result, Ok, nat_lt}
 use Rattle.std.specs.List.{position, position_or_len, list_all}
@@ -14,7 +14,7 @@ use Rattle.trlab_asm.specs.declared.fault.Why.{Why}
 abbrev pub is_plain : ℕ → Bool
 is_plain c = nat_lt 47 c && not (c == 58 || c == 59)
 
--- such bytes alone
+-- words of such bytes only
 abbrev pub plain_word : List ℕ → Bool
 plain_word w = list_all (λ c. is_plain c) w
 

@@ -14,7 +14,7 @@ use Rattle.trlab_sequential_book.specs.Machine.{BookState, JobState, JobsOutcome
 use Rattle.trlab_sequential_book.specs.Replay.{call_of, event, replies_from, reply_of_event, state_from}
 use Rattle.trlab_book.specs.FreeJobs.{NoJobIsFree}
 
--- all jobs of these are not free
+-- none of these jobs is free
 abbrev NoneFree : List JobState → Type 0
 NoneFree jobs = All (λ (job : JobState). is_free job ≡ false) jobs
 
@@ -27,7 +27,7 @@ far_by : (jobs : List JobState) (low : Bool) → nat_lt (position_or_len is_free
 far_by jobs true is none = absurd (cc none)
 far_by jobs false is none = none_passes jobs (ltb-false (position_or_len is_free jobs) (length jobs) is)
 
--- a lease that goes out is not answered with `NoLease`
+-- if a lease goes out, the reply is not `NoLease`
 lent_by : (jobs : List JobState) (index next : ℕ) (found : Option JobState)
     → let ended : JobsOutcome = elim found [ None ↦ record { reply = Refused NoSuchJob; jobs = jobs } | Some job ↦ record { reply = (lease_outcome index next job).reply; jobs = slice_set jobs index (lease_outcome index next job).job } ] in
     ended.reply ≡ NoLease → ⊥

@@ -210,7 +210,7 @@ module _ {L : Type 0} {ledger : Ghosts L} where
       goes_one (Has (turn_of lease)) (Has (turn_of next)) a b (OrderCall (offered lease made.0)) (order_reply (Ok order)) made.1.1.0 made.1.0 made.1.1.1 refl
       (rw (offers_own lease made.0, lt-ltb lease.step lease.steps left) (ap (λ (now : LeaseState). Has (turn_of now)) (sym ran.grown)))
 
-  -- an order or a lease that is given back is refused: if this is an event, the lease has ended
+  -- an order or the return of a lease is refused: if the call is an event, the lease has ended
   refused_goes : (Holds : BookState → Type 0) (s t : Stage) (a b c : Desk L ledger) (call : Call) (fault : BookFault) → Goes s t a b → MakesCallOn Holds b call (Refused fault) c
       → is_runner_call call ≡ true → stage_after t (event call (Refused fault)) ≡ Free → MatchBool (is_event (Refused fault)) (Goes s Free a c) (AddsRunnerCalls a c)
   refused_goes Holds s t a b c call fault before made of_runner next = by_event (is_event (Refused fault)) made.1
@@ -230,7 +230,7 @@ module _ {L : Type 0} {ledger : Ghosts L} where
   refused_back Holds s a b c lease fault before made =
       refused_goes (Holds made.0) s (Has (turn_of lease)) a b c (GiveBack (offered lease made.0)) fault before made.1 refl (rw (offers_own lease made.0) refl)
 
-  -- a lease is given back
+  -- a lease is returned
   pub back_goes : (Holds : Bool → BookState → Type 0) (a b : Desk L ledger) (lease : LeaseState)
       → (same : Bool) × MakesCallOn (Holds same) a (GiveBack (offered lease same)) Done b → Goes (Has (turn_of lease)) Free a b
   back_goes Holds a b lease made =

@@ -39,7 +39,7 @@ full_reply : (told : Reply) → is_history_full told ≡ true → told ≡ Refus
 full_reply (Refused HistoryFull) is = refl
 full_reply told is = absurd (cc is)
 
--- a reply says that the history is full exactly if it is
+-- the reply is that the history is full exactly if it is full
 pub full_told : (old : Kept) (told : Reply) → RefusesIfFull old told → is_history_full told ≡ has_full_history old.book
 full_told old told full = by (is_history_full told) (has_full_history old.book) refl refl
   where

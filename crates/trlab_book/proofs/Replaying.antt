@@ -171,7 +171,7 @@ call_is_event s (Revoke job) free = revoke_is_event s job free
 call_is_event s (Cancel job) free = cancel_is_event s job free
 call_is_event s (Read job) free = read_is_event s job free
 
--- an answer that reports a failed allocation
+-- a reply that reports a failed allocation
 pub memory_is : {A : Type 0} (answer : Result A BookFault) → is_memory answer ≡ true → answer ≡ Err Memory
 memory_is {A} (Ok done) is = absurd (false≢true is)
 memory_is {A} (Err fault) is = ap Err (by fault is)
@@ -191,7 +191,7 @@ pub memory_free : {A : Type 0} (answer : Result A BookFault) (full : Bool) → (
 memory_free answer false says is = refl
 memory_free answer true says is = absurd (false≢true (sym (ap is_memory (says refl)) ∙ is))
 
--- a call of a book, its answer, and the history before and after it
+-- a call of a book, the reply, and the history before and after it
 pub record IsPut (s t : BookState) (call : Call) (said : Reply) (history items : List Event) : Type 0 where
   pub ran_out : Bool
   pub free : ran_out ≡ true → has_full_history s ≡ false
@@ -296,7 +296,7 @@ makes_put old ready new call said same p = by (settled p)
       answered = grows.reply ∙ ap (λ b. reply_of b call) same.book;
     })
 
--- its answer says that the history is full exactly if it is
+-- the reply is that the history is full exactly if it is full
 pub tells_put : {t : BookState} {call : Call} {items : List Event} (old ready : Kept) (said : Reply) → IsUnchanged old ready
     → IsPut ready.book t call said ready.history.items items → RefusesIfFull old said
 tells_put {t} {call} {items} old ready said same p =
@@ -310,7 +310,7 @@ tells_put {t} {call} {items} old ready said same p =
       λ full. absurd (false≢true (sym grows.free ∙ full)),
     )
 
--- two answers to one question are the same
+-- two tests of the same property are equal
 one_answer : (a b : Bool) (P : Type 0) → (IsTrue a ↔ P) → (IsTrue b ↔ P) → a ≡ b
 one_answer true true P x y = refl
 one_answer false false P x y = refl

@@ -60,7 +60,7 @@ flow_below_peak distance cells steps limit some_cell some_step low =
     let e = ap (λ k. k / ((limit + 1) * (cells * steps))) b ∙ ap (λ k. distance * 1000000 * (limit + 1) / k) c ∙ mul-div-mul_right (distance * 1000000) (cells * steps) some in
     subst (λ k. k ≤ limit * 1000000 / (limit + 1)) e within
 
--- the road of a point at the start: what its cars can go, by the counts of cells and cars
+-- the initial road of a point: how far its cars can go, by the numbers of cells and cars
 module _ (shape : Shape) (count : ℕ) (start : Cells) (fits : CanSpreadOn shape count) (even : IsEvenlySpaced shape.lanes shape.length shape.limit count start) where
   all_cars : cars start ≡ count
   all_cars = even_count shape.lanes shape.length shape.limit count start fits even
@@ -76,7 +76,7 @@ module _ (shape : Shape) (count : ℕ) (start : Cells) (fits : CanSpreadOn shape
   at_limit = ap (λ k. k * cars start) even.same_limit ∙ ap (λ k. shape.limit * k) all_cars
 
 module _ (common : Setup) (counted : 1 ≤ common.span.measure) where
-  -- what is told of one point
+  -- the bounds of one point
   told_within : (number cars : ℕ) (point : Point) → CanSpreadOn common.shape cars → IsPoint common number cars point → IsUnderTriangle common.shape.limit point
   told_within number count point fits is =
       let shape = common.shape in
@@ -131,7 +131,7 @@ module _ (common : Setup) (counted : 1 ≤ common.span.measure) where
       let limit_each : is.tally.distance + shape.limit * is.tally.stopped ≤ span.measure * (shape.limit * count) = rw (← steps, ← most, ← stops) moving.limit_each in
       subst (HasBoundedMovingSpeed shape.limit) (sym is.told) (record { cell_each = cell_each; limit_each = limit_each })
 
--- what is so of each point of a sweep, once it is told of any
+-- a property of every point of a sweep, if it holds of any point with this setup
 module _ (IsSo : ℕ → Point → Type 0) (told : (common : Setup) → 1 ≤ common.span.measure → (number cars : ℕ) (point : Point) → CanSpreadOn common.shape cars → IsPoint common number cars point → IsSo common.shape.limit point) where
   each_point : (text : List ℕ) (sweep : Sweep) (points : List Point) → ParsesAsSweep text (Ok sweep) → ArePoints sweep points → All (IsSo sweep.setup.shape.limit) points
   each_point text sweep points says are =

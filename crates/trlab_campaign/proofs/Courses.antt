@@ -1,4 +1,4 @@
--- The course of a run, and what is counted along it.
+-- The course of a run, and the sums that are counted along it.
 use Rattle.std.proofs.Common.{◌≡◌, ℕ, zero, suc, ◌+◌, ◌-◌, ◌*◌, ◌/◌, ◌<◌, ◌≤◌, ◌↔◌, true, List, length, refl, sym, ◌∙◌, ap, subst, arith, add-one}
 use Rattle.std.proofs.lemmas.Bool.{le-leb}
 use Rattle.std.proofs.lemmas.Nat.{div-add-mod', le-div, mul-le}
@@ -20,7 +20,7 @@ use Rattle.trlab_step.specs.Progress.{Progress, IsReachedByRun}
 use Rattle.trlab_campaign.specs.Counting.{IsBoundedCount, IsLaterBy}
 use Rattle.trlab_campaign.specs.SeriesOutput.{AreRoads, IsCourse, IsStepAt, cars_on, lane_count, roads_after, total_speed_on, stopped_on, tallies_from, window_of}
 
--- a run that has come to a step came there by one more step
+-- a run that has come to a step took one more step to come there
 last_step : (seed : Seed) (sheet : Sheet) (step : ℕ) (before after : Cells) (sum : StepTally) (comes : ComesTo seed sheet (suc step) after sum) → comes.0 ≡ before
     → IsStepAt seed sheet step before after comes.3
 last_step seed sheet step before after sum comes same = record {
@@ -54,7 +54,7 @@ one_tally seed sheet step before after other tally count a b =
     let ruled = subst (λ (r : Programs). IsNext r (dice_at seed step) before after tally) rule a.next in
     (next_road_is_one b.rule (dice_at seed step) before after other tally count ruled b.next).1
 
--- so much was counted in these steps, beside what was counted before
+-- the tallies of these steps, added to the sum that was counted before
 pub record IsSumSince (tallies : List StepTally) (old new : StepTally) : Type 0 where
   pub distance : new.distance ≡ old.distance + sum_by (λ (tally : StepTally). tally.distance) tallies
   pub stopped : new.stopped ≡ old.stopped + sum_by (λ (tally : StepTally). tally.stopped) tallies
@@ -72,7 +72,7 @@ sum_more tallies first count old mid new since is =
     let c = since.changes in
     rw is (record { distance = omega (arith, distance, a); stopped = omega (arith, stopped, b); changes = omega (arith, changes, c) })
 
--- what a run counts in the steps from one on
+-- the sums that a run counts from some step on
 module _ (seed : Seed) (sheet : Sheet) (roads : ℕ → Cells) (tallies : ℕ → StepTally) (course : IsCourse seed sheet roads tallies) (counts : seed.warm ≡ 0) where
   counted_here : (step : ℕ) (road : Cells) (sum : StepTally) (comes : ComesTo seed sheet (suc step) road sum) → sum ≡ tally_sum comes.1 (tallies step)
   counted_here step road sum comes =
@@ -94,7 +94,7 @@ module _ (seed : Seed) (sheet : Sheet) (roads : ℕ → Cells) (tallies : ℕ �
       sum_more tallies first count old comes.1 new (sum_since first count (first + count) before comes.0 old comes.1 refl start comes.4)
       (counted_here (first + count) road new comes)
 
--- what stands on a lane after one step more
+-- the counts of a lane after one more step
 pub lane_more : (lane : ℕ) (roads : ℕ → Cells) (first done : ℕ) (road : Cells) (old now new : LaneCount) → old ≡ lane_count lane (roads_after roads first done)
     → roads (first + 1 + done) ≡ road → now.cars ≡ cars_on lane road → now.distance ≡ total_speed_on lane road → now.stopped ≡ stopped_on lane road
     → new.cars ≡ old.cars + now.cars → new.distance ≡ old.distance + now.distance → new.stopped ≡ old.stopped + now.stopped
@@ -114,7 +114,7 @@ lane_more lane roads first done road old now new is here cars distance stopped a
         let same : of x.cars x.distance x.stopped ≡ of y.cars y.distance y.stopped = cc (p, q, r) in
         same
 
--- as many windows as that are whole
+-- so many windows are complete
 pub whole_windows : (every from steps : ℕ) → 1 ≤ every → (k : ℕ) → (k < (steps - from) / every) ↔ (from + (k + 1) * every ≤ steps)
 whole_windows every from steps some k = (ends, fits)
   where
@@ -130,7 +130,7 @@ whole_windows every from steps some k = (ends, fits)
         let many = le-div (k + 1) (steps - from) every (omega arith) (omega (arith, within)) in
         omega (arith, many)
 
--- what was counted in some steps of a run, by its sums of tallies before and after them
+-- the point of some steps of a run, by the sums of the tallies before and after them
 pub record IsPointSince (road : Cells) (count : ℕ) (old new : StepTally) (point : Point) : Type 0 where
   pub cars : point.cars ≡ cars road
   pub cells : point.cells ≡ length road.lanes * length (lane_of road 0)
@@ -174,7 +174,7 @@ pub road_here : (seed other : Seed) (sheet also : Sheet) (n step : ℕ) (roads :
     → IsRoadAt other also step road → roads n ≡ road
 road_here seed other sheet also n step roads road a b c each at = road_at_is_one seed sheet n (roads n) road (each n) (rw (← a, ← b, ← c) at)
 
--- after one step more still few cars are counted
+-- after one more step the number of counted cars is still small
 pub few_more : (steps : ℕ) (old now new : LaneCount) → IsBoundedCount steps old → IsBoundedCount 1 now → new.cars ≡ old.cars + now.cars → new.distance ≡ old.distance + now.distance
     → new.stopped ≡ old.stopped + now.stopped → IsBoundedCount (steps + 1) new
 few_more steps old now new few more a b c =
@@ -186,7 +186,7 @@ few_more steps old now new few more a b c =
     let i = more.stopped in
     record { cars = omega (arith, a, d, g); distance = omega (arith, b, e, h); stopped = omega (arith, c, f, i) }
 
--- a run that went on for some steps, by its sums of tallies
+-- a run that continued for some steps, by its sums of tallies
 module _ (old new : Progress) (count : ℕ) (before : StepTally) (on : IsLaterBy count old new) (counts : old.seed.warm ≡ 0)
     (tally : IsTallyAt old.seed old.sheet old.step before) (under : IsReachedByRun new) where
   pub run_since : (roads : ℕ → Cells) (tallies : ℕ → StepTally) → IsCourse old.seed old.sheet roads tallies → IsSumSince (tallies_from tallies old.step count) before new.sum

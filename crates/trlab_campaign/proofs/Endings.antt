@@ -1,4 +1,4 @@
--- How runs end, by what was written.
+-- How runs end, by the output that was written.
 use Rattle.std.proofs.Common.{◌≡◌, ◌∙◌, List, ℕ, length, refl, subst, sym, Bool, true, false, inl, inr}
 use Rattle.std.specs.Prelude.{Option, None, Some, IfSome, Result, Ok, Err}
 use Rattle.trlab_campaign.specs.declared.end.End.{End}
@@ -15,11 +15,11 @@ use Rattle.trlab_campaign.specs.Ending.{EngineEnds, WroteAtEnd, LeavesWriter, Wr
 use Rattle.trlab_campaign.specs.Writers.{SinkBytes, AddsNone, bytes_of}
 use Rattle.trlab_campaign.proofs.WrittenBytes.{kept, prefix_kept}
 
--- a whole output was written, and the last call kept the bytes
+-- a complete output was written, and the last call kept the bytes
 pub all_kept : (IsWhole : Outputs) (refused : Bool) (old a b : SinkBytes) → WroteAll IsWhole refused old a → AddsNone a b → WrotePrefix IsWhole old b
 all_kept IsWhole refused old a b wrote keeps = inr (refused, (wrote.0, (wrote.1.0, prefix_kept old a b wrote.0 wrote.1.1 keeps)))
 
--- a whole output of a text, whose writing ended so
+-- the complete output of a text, whose writing ended with this result
 pub output_ends : (IsWhole : Outputs) (refused : Bool) (out : List ℕ) (e : End) (old new : SinkBytes) → IsWhole refused out
     → WroteOutputAtEnd refused out e old new → WroteAtEnd IsWhole e old new
 output_ends IsWhole refused out Done old new whole ends = (out, (subst (λ (r : Bool). IsWhole r out) ends.0 whole, ends.1))
@@ -27,7 +27,7 @@ output_ends IsWhole refused out Refused old new whole ends = (out, (subst (λ (r
 output_ends IsWhole refused out Memory old new whole ends = inl ends
 output_ends IsWhole refused out DeviceFault old new whole ends = inr (refused, (out, (whole, ends)))
 
--- an end by some outputs is one by all outputs that include them
+-- an end that is correct for some outputs is correct for all outputs that include them
 ends_among : (IsOwn IsWhole : Outputs) (e : End) (old new : SinkBytes) → ((refused : Bool) (out : List ℕ) → IsOwn refused out → IsWhole refused out)
     → WroteAtEnd IsOwn e old new → WroteAtEnd IsWhole e old new
 ends_among IsOwn IsWhole Done old new among ends = (ends.0, (among false ends.0 ends.1.0, ends.1.1))
@@ -37,7 +37,7 @@ ends_among IsOwn IsWhole Memory old new among (inr wrote) = inr (wrote.0, (wrote
 ends_among IsOwn IsWhole DeviceFault old new among (inl kept) = inl kept
 ends_among IsOwn IsWhole DeviceFault old new among (inr wrote) = inr (wrote.0, (wrote.1.0, (among wrote.0 wrote.1.0 wrote.1.1.0, wrote.1.1.1)))
 
--- an engine of some outputs is one of all outputs that these are among
+-- an engine that is correct for some outputs is correct for all outputs that include them
 pub engine_ends_among : {S K : Type 0} (source : Source.Ghosts S) (sink : Sink.Ghosts K) (own whole : List ℕ → Outputs) (e : End) (before after : S) (old new : K)
     → ((text : List ℕ) (refused : Bool) (out : List ℕ) → own text refused out → whole text refused out)
     → EngineEnds source sink own e before after old new → EngineEnds source sink whole e before after old new
@@ -52,30 +52,30 @@ engine_ends_among source sink own whole e before after old new among ends = reco
   whole = ends.whole;
 }
 
--- what is written for what a text says, where it has no fault
+-- the output for the meaning of a text without a fault
 pub said_ends : {A : Type 0} (Says : List ℕ → Result A Fault → Type 0) (Output : A → Outputs) (e : End) (text : List ℕ) (x : A) (old new : SinkBytes)
     → Says text (Ok x) → WroteAtEnd (Output x) e old new → WroteAtEnd (IsOutputForText Says Output text) e old new
 said_ends Says Output e text x old new says ends = ends_among (Output x) (IsOutputForText Says Output text) e old new (λ refused out is. (Ok x, (says, is))) ends
 
--- the refusal of a text with a fault
+-- the output for a text with a fault
 pub refusal_ends : {A : Type 0} (Says : List ℕ → Result A Fault → Type 0) (Output : A → Outputs) (e : End) (text : List ℕ) (fault : Fault) (old new : SinkBytes)
     → Says text (Err fault) → WroteOutputAtEnd true (fault_line fault) e old new → WroteAtEnd (IsOutputForText Says Output text) e old new
 refusal_ends Says Output e text fault old new says ends =
     output_ends (IsOutputForText Says Output text) true (fault_line fault) e old new (Err fault, (says, (refl, refl))) ends
 
--- an input says what was read of it says
+-- the meaning of the bytes that were read is the meaning of the input
 pub read_says : {A : Type 0} (Says : List ℕ → Result A Fault → Type 0) (text input : List ℕ) (says : Result A Fault)
     → IsInputOrTooLong text input → TextParsesTo Says text says → TextParsesTo Says input says
 read_says Says text input says (inl same) is = subst (λ (t : List ℕ). TextParsesTo Says t says) same is
 read_says Says text input says (inr long) is =
     rw (lt-ltb TEXT_LIMIT (length input) long.1) (rw (lt-ltb TEXT_LIMIT (length text) long.0) at is)
 
--- what holds of each text holds of the one that is told, if one is
+-- a property of every text holds for the remaining text, if there is one
 pub if_told : (P : List ℕ → Type 0) (left : Option (List ℕ)) → ((text : List ℕ) → P text) → IfSome left P
 if_told P None holds = tt
 if_told P (Some text) holds = holds text
 
--- if an allocation fails, the writing of one whole output wrote nothing
+-- if an allocation fails while a complete output is written, nothing was written
 pub kept_at_memory : (refused : Bool) (out : List ℕ) (e : End) (old new : SinkBytes) → WroteOutputAtEnd refused out e old new → e ≡ Memory → AddsNone old new
 kept_at_memory refused out Memory old new ends is = ends
 kept_at_memory refused out Done old new ends is = absurd (cc is)

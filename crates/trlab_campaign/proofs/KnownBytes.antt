@@ -1,4 +1,4 @@
--- The bytes of a reader, over several calls: first those that it tells.
+-- The bytes of a reader, over several calls. First: the bytes that a reader reports.
 use Rattle.std.proofs.Common.{◌≡◌, ℕ, ◌<◌, List, [], ◌++◌, length, take, refl, arith, append_assoc, sym, ◌∙◌, ap, length-append, append-nil, subst, inl, inr}
 use Rattle.std.specs.Prelude.{Option, None, Some, IfSome}
 use Rattle.std.specs.Io.KnownBytes.{Consumes, IsAtEnd, Keeps}
@@ -22,11 +22,11 @@ consumes_kept (Some x) None c xs p q = absurd p
 consumes_kept (Some x) (Some y) None xs p q = absurd q
 consumes_kept (Some x) (Some y) (Some z) xs p q = p ∙ ap (λ t. xs ++ t) (sym q)
 
--- a call that gave no byte
+-- a call that returned no byte
 pub consumes_last : (a b c : Option (List ℕ)) (xs part : List ℕ) (count : ℕ) → count ≡ 0 → Consumes a b xs → Consumes b c (take count part) → Consumes a c xs
 consumes_last a b c xs part count is p q = subst (λ (t : List ℕ). Consumes a c t) (append-nil xs) (consumes_more a b c xs [] p (rw is at q))
 
--- all bytes that there were
+-- all bytes of the input
 pub read_whole : (a b : Option (List ℕ)) (xs : List ℕ) → Consumes a b xs → IsAtEnd b → IfSome a (IsInputOrTooLong xs)
 read_whole None b xs p end = tt
 read_whole (Some x) None xs p end = absurd p
@@ -38,7 +38,7 @@ read_over None b xs over p = tt
 read_over (Some x) None xs over p = absurd p
 read_over (Some x) (Some y) xs over p = inr (over, omega (arith, ap length p, length-append xs y))
 
--- all bytes that a reader has given: a call gave more, none, and none since it counted 0
+-- all bytes that a reader has returned: a call returned more bytes, or none, and none after it had counted 0
 pub given_more : (a b c xs ys : List ℕ) → b ≡ a ++ xs → c ≡ b ++ ys → c ≡ a ++ (xs ++ ys)
 given_more a b c xs ys p q = q ∙ (ap (λ t. t ++ ys) p ∙ append_assoc a xs ys)
 

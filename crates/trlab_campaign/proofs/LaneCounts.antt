@@ -1,4 +1,4 @@
--- What is counted on a lane among all cars of a road is what the line of the lane has.
+-- The counts of a lane among all cars of a road are the counts of the lane's line of cars.
 use Rattle.std.proofs.Common.{◌≡◌, ◌≢◌, ℕ, zero, suc, ◌+◌, ◌<◌, ◌≤◌, ◌&&◌, Bool, true, false, cond, eqb, Some, None, List, [], ◌∷◌, length, get_or, map, refl, sym, ◌∙◌, ap, subst, arith, nat_eq}
 use Rattle.std.proofs.lemmas.Bool.{cond-true, cond-false, eq-eqb, ne_eqb}
 use Rattle.std.proofs.lemmas.List.Sums.{sum_by-append, sum_by-cons}
@@ -23,7 +23,7 @@ ones {A = A} (x ∷ xs) =
     let rest = ones xs in
     omega (arith, more, rest)
 
--- sums of numbers that are the same
+-- sums of equal numbers
 pub same_sum : (f g : Car → ℕ) (xs : List Car) → ((car : Car) → f car ≡ g car) → sum_by f xs ≡ sum_by g xs
 same_sum f g [] same = refl
 same_sum f g (x ∷ xs) same =
@@ -37,7 +37,7 @@ pub both_tests : (a b : Bool) (n : ℕ) → cond (a && b) n 0 ≡ cond a (cond b
 both_tests true b n = refl
 both_tests false b n = refl
 
--- a number that is taken by a test is no greater
+-- a number that is kept or set to 0 by a test is not greater
 pub at_most : (b : Bool) (n : ℕ) → cond b n 0 ≤ n
 at_most true n = omega arith
 at_most false n = omega arith
@@ -73,7 +73,7 @@ none_later lane base f (cells ∷ lanes) low =
     let rest = none_later lane (suc base) f lanes (omega (arith, low)) in
     omega (arith, a, b, rest)
 
--- what is counted on a lane of some lanes, of which the first has a number
+-- the counts of one lane in a list of lanes of which the first has a number
 lane_alone : (lane l base : ℕ) (f : Car → ℕ) (lanes : List Lane) → lane ≡ base + l → sum_by (on lane f) (standing_from_lane base lanes) ≡ sum_by f (standing_from lane 0 (get_or lanes l []))
 lane_alone lane l base f [] is = refl
 lane_alone lane zero base f (cells ∷ lanes) is =
@@ -94,7 +94,7 @@ no_lane [] l past = refl
 no_lane (cells ∷ lanes) zero past = absurd (omega (arith, past))
 no_lane (cells ∷ lanes) (suc l) past = no_lane lanes l (omega (arith, past))
 
--- where there is no such lane, nothing is counted
+-- if the road does not have this lane, nothing is counted
 module _ (road : Cells) (lane : ℕ) (past : length road.lanes ≤ lane) where
   none : (f : Car → ℕ) → sum_by (on lane f) (standing road) ≡ 0
   none f = lane_alone lane lane 0 f road.lanes (omega arith) ∙ ap (λ (cells : Lane). sum_by f (standing_from lane 0 cells)) (no_lane road.lanes lane past)
@@ -119,7 +119,7 @@ sum_of_line f lane (car ∷ line) =
     let rest = sum_of_line f lane line in
     omega (arith, a, b, rest)
 
--- what the line of a lane has
+-- the counts from the line of a lane
 module _ (road : Cells) (lane : ℕ) (line : List LaneCar) (is : IsLineOf road lane line) where
   of_line : (f : Car → ℕ) → sum_by (λ (car : LaneCar). f (car_on lane car)) line ≡ sum_by (on lane f) (standing road)
   of_line f = sym (lane_alone lane lane 0 f road.lanes (omega arith) ∙ ap (sum_by f) (sym is) ∙ sum_of_line f lane line)

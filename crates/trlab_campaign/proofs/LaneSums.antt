@@ -1,4 +1,4 @@
--- What the lanes of a window have together is what its road has.
+-- The counts of the lanes of a window add up to the counts of the road.
 use Rattle.std.proofs.Common.{◌≡◌, ℕ, zero, suc, ◌+◌, ◌*◌, ◌<◌, ◌&&◌, cond, List, [], ◌∷◌, length, get_or, refl, sym, ◌∙◌, ap, subst, arith, nat_eq}
 use Rattle.std.proofs.lemmas.List.Sums.{sum_by-cons}
 use Rattle.std.proofs.lemmas.List.FromFn.{get_or-map-range_with_len, length-map-range_with_len}
@@ -41,7 +41,7 @@ split_sum f (x ∷ xs) low =
     let rest = split_sum f xs (λ k d inside. low (suc k) d (omega arith)) in
     omega (arith, first, second, both, here, rest)
 
--- each car of a legal road stands on lane 0 or on lane 1
+-- each car of a legal road is on lane 0 or on lane 1
 on_two : (road : Cells) → IsLegal road → (k : ℕ) (d : Car) → k < length (standing road) → (get_or (standing road) k d).lane < 2
 on_two road legal k d inside =
     let count = length-standing_from_lane 0 road.lanes in
@@ -50,7 +50,7 @@ on_two road legal k d inside =
     let few = legal.shape.lanes.few_lanes in
     omega (arith, on, few)
 
--- what stands on both lanes of a legal road
+-- the cars on both lanes of a legal road
 both_cars : (road : Cells) → IsLegal road → cars_on 0 road + cars_on 1 road ≡ cars road
 both_cars road legal = split_sum (λ (car : Car). 1) (standing road) (on_two road legal) ∙ ones (standing road) ∙ length-standing_from_lane 0 road.lanes
 
@@ -64,7 +64,7 @@ both_stopped road legal =
     let second = same_sum (λ (car : Car). cond (is_on 1 car && nat_eq car.speed 0) 1 0) (λ (car : Car). cond (is_on 1 car) (cond (nat_eq car.speed 0) 1 0) 0) (standing road) (λ car. both_tests (is_on 1 car) (nat_eq car.speed 0) 1) in
     omega (arith, split, first, second)
 
--- the windows of a course of legal roads with so many cars
+-- the windows of a course of legal roads with this number of cars
 module _ (seed : Seed) (sheet : Sheet) (roads : ℕ → Cells) (tallies : ℕ → StepTally) (course : IsCourse seed sheet roads tallies)
     (legal : (step : ℕ) → IsLegal (roads step)) (most : ℕ) (kept : (step : ℕ) → cars (roads step) ≡ most) where
   all_cars : (first count : ℕ) → (lane_count 0 (roads_after roads first count)).cars + (lane_count 1 (roads_after roads first count)).cars ≡ count * most

@@ -1,24 +1,24 @@
--- Lines with a number, and what stands after them; texts that are put together of pieces.
+-- Lines with a number, and the text after them; texts that are composed of pieces.
 use Rattle.std.proofs.Common.{◌≡◌, ℕ, zero, suc, ◌+◌, ◌-◌, ◌<◌, List, [], ◌∷◌, ◌++◌, ◌∙◌, ap, arith, drop, flat_map, length, get_or, append_assoc, refl}
 use Rattle.std.specs.List.{range_with_len}
 use Rattle.std.proofs.lemmas.List.{drop_more}
 
--- a line was put after a text, and more stands after it
+-- a line was appended to a text, and more text follows it
 pub line_then : (front digits line old new rest : List ℕ) → line ≡ front ++ (digits ++ (10 ∷ [])) → new ≡ old ++ line
     → new ++ rest ≡ old ++ (front ++ (digits ++ (10 ∷ rest)))
 line_then front digits line old new rest p q = rw (q, p) (simp append_assoc)
 
--- of the pieces of a list the next was put after a text, in two parts
+-- the next piece of a list was appended to a text, in two parts
 pub next_piece : {X : Type 0} (f : X → List ℕ) (xs : List X) (i : ℕ) (d : X) (old mid new first last : List ℕ) → i < length xs → f (get_or xs i d) ≡ first ++ last
     → mid ≡ old ++ first → new ≡ mid ++ last → new ++ flat_map f (drop (i + 1) xs) ≡ old ++ flat_map f (drop i xs)
 next_piece f xs i d old mid new first last inside piece p q = rw (q, p, drop_more xs i d, piece) (simp append_assoc)
 
--- the same, where the piece was put there at once
+-- the same, if the piece was appended at once
 pub next_whole : {X : Type 0} (f : X → List ℕ) (xs : List X) (i : ℕ) (d : X) (old new piece : List ℕ) → i < length xs → f (get_or xs i d) ≡ piece
     → new ≡ old ++ piece → new ++ flat_map f (drop (i + 1) xs) ≡ old ++ flat_map f (drop i xs)
 next_whole f xs i d old new piece inside is added = rw (added, drop_more xs i d, is) (simp append_assoc)
 
--- of the pieces of the numbers below a count the next was put after a text
+-- the next piece of the numbers below a count was appended to a text
 pub next_number : (f : ℕ → List ℕ) (n count : ℕ) (old new : List ℕ) → n < count → new ≡ old ++ f n
     → new ++ flat_map f (range_with_len (n + 1) (count - (n + 1))) ≡ old ++ flat_map f (range_with_len n (count - n))
 next_number f n count old new inside added =

@@ -1,4 +1,4 @@
--- Percentages of a work: at most 100, no fewer by more parts, and 100 where no part is left.
+-- Percentages of some work: at most 100, never smaller if more parts are done, and 100 if no part is left.
 use Rattle.std.proofs.Common.{◌≡◌, ℕ, ◌*◌, ◌/◌, ◌<◌, ◌≤◌, refl, sym, ap, arith, inl, inr, Bool, true, false, cond, nat_le}
 use Rattle.std.proofs.lemmas.Bool.{cases_lt, le-leb, leb-false, lt-leb}
 use Rattle.std.proofs.lemmas.Nat.{le-div}
@@ -32,7 +32,7 @@ no_fewer before after whole rises = rises_by before after whole (nat_le whole af
 all_done : (before after whole : ℕ) → before ≤ after → whole ≤ before → percent_done before whole ≡ percent_done after whole
 all_done before after whole rises done = rw (le-leb whole before done, le-leb whole after (omega (arith, rises, done))) refl
 
--- where another percentage is reached, there is one, it is at most the last, and some part was left to be done
+-- if another percentage is reached, there is one, it is at most the last, and some part was left to be done
 pub record IsReached (before after whole : ℕ) : Type 0 where
   pub some : 1 ≤ percent_done after whole
   pub few : percent_done after whole ≤ 100

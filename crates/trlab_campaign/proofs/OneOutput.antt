@@ -1,4 +1,4 @@
--- A job text has one output only, whichever steps are shown.
+-- A job text has only one output, for any choice of the steps that are shown.
 use Rattle.std.proofs.Common.{◌≡◌, ℕ, ◌+◌, List, sym, ◌∙◌, ap, subst, Bool, arith}
 use Rattle.std.specs.Prelude.{Result, Ok, Err}
 use Rattle.trlab_step.proofs.RunLaws.{road_at_is_one}

@@ -1,4 +1,4 @@
--- A sweep text has one output only.
+-- A sweep text has only one output.
 use Rattle.std.proofs.Common.{◌≡◌, ℕ, List, Bool, get_or, ap, sym, ◌∙◌, subst, arith}
 use Rattle.std.proofs.lemmas.List.{same_lists}
 use Rattle.std.specs.Prelude.{Result, Ok, Err}

@@ -1,4 +1,4 @@
--- A job text has one series only, and it has one.
+-- A job text has exactly one series.
 use Rattle.std.proofs.Common.{◌≡◌, ◌↔◌, ℕ, ◌+◌, ◌-◌, ◌*◌, ◌/◌, ◌<◌, ◌≤◌, Bool, true, false, List, [], ◌∷◌, map, refl, sym, ◌∙◌, ap, subst, arith, inl, inr}
 use Rattle.std.proofs.lemmas.Bool.{cases_lt}
 use Rattle.std.specs.List.{range_with_len}
@@ -48,7 +48,7 @@ module _ (seed : Seed) (sheet : Sheet) (roads others : ℕ → Cells) (tallies c
   same_windows every from count =
       same_map (nth_window roads tallies every from) (nth_window others counts every from) (range_with_len 0 count) (λ k. same_window (from + k * every) every)
 
--- so many windows are whole
+-- this number of windows is complete
 same_count : (P : ℕ → Type 0) (m n : ℕ) → ((k : ℕ) → (k < m) ↔ P k) → ((k : ℕ) → (k < n) ↔ P k) → m ≡ n
 same_count P m n p q = elim (cases_lt m n) [
   | inl below ↦ let bad : m < m = (p m).1 ((q m).0 below) in absurd (omega (arith, bad))

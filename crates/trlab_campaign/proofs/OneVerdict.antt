@@ -1,4 +1,4 @@
--- A check text has one output only.
+-- A check text has only one output.
 use Rattle.std.proofs.Common.{◌≡◌, ℕ, List, refl, sym, ◌∙◌, ap, subst, Bool, true, false}
 use Rattle.std.specs.Prelude.{Result, Ok, Err}
 use Rattle.trlab_jobs.specs.Check.{Check}

@@ -5,7 +5,7 @@ use Rattle.std.proofs.lemmas.List.{take-append-drop}
 use Rattle.trlab_campaign.specs.Writers.{HasWritten, AddsPrefix, SinkBytes}
 use Rattle.trlab_campaign.proofs.WrittenBytes.{adds_none, adds_more}
 
--- of a whole text some was written, and the rest is owed
+-- a part of a whole text was written, and the rest is owed
 pub record Owes (whole rest : List ℕ) (old now : SinkBytes) : Type 0 where
   pub done : List ℕ
   pub parts : whole ≡ done ++ rest
@@ -23,12 +23,12 @@ owes_less whole next rest old a b owes wrote = record {
   wrote = adds_more old a b owes.done next owes.wrote wrote;
 }
 
--- where it stops, a prefix was written
+-- if writing stops, a prefix was written
 owes_stop : (whole rest : List ℕ) (old a : SinkBytes) → Owes whole rest old a → AddsPrefix old a whole
 owes_stop whole rest old a owes =
     record { count = length owes.done; prefix = subst (λ (t : List ℕ). HasWritten old a t) (sym (ap (take (length owes.done)) owes.parts ∙ take-append_seam owes.done rest)) owes.wrote }
 
--- where it stops within a piece
+-- if writing stops within a piece
 pub owes_prefix : (whole next rest : List ℕ) (old a b : SinkBytes) → Owes whole (next ++ rest) old a → AddsPrefix a b next → AddsPrefix old b whole
 owes_prefix whole next rest old a b owes prefix =
     owes_stop whole (drop prefix.count next ++ rest) old b (record {
@@ -37,6 +37,6 @@ owes_prefix whole next rest old a b owes prefix =
       wrote = adds_more old a b owes.done (take prefix.count next) owes.wrote prefix.prefix;
     })
 
--- where nothing is owed, all was written
+-- if nothing is owed, the whole text was written
 pub owes_none : (whole : List ℕ) (old a : SinkBytes) → Owes whole [] old a → HasWritten old a whole
 owes_none whole old a owes = subst (λ (t : List ℕ). HasWritten old a t) (sym (owes.parts ∙ append-nil owes.done)) owes.wrote

@@ -16,17 +16,17 @@ suits lanes common rule = record {
   rules = with_all (IsRuleFor lanes) common.rule [] rule (λ k d inside. absurd (omega arith));
 }
 
--- the cells of a road are some
+-- a road has at least one cell
 pub some_cells : (lanes cells : ℕ) → 1 ≤ lanes → 1 ≤ cells → 1 ≤ lanes * cells
 some_cells (suc lanes) (suc cells) p q = omega arith
 some_cells zero cells p q = absurd (omega arith)
 some_cells (suc lanes) zero p q = absurd (omega arith)
 
--- none are there yet
+-- no point is known yet
 pub no_points : (sweep : Sweep) → AreFirstPoints sweep []
 no_points sweep = record { few = omega arith; each = λ i cars point inside. absurd (omega arith); measured = λ k d inside. absurd (omega arith) }
 
--- one more is there
+-- one more point is known
 pub one_more : (sweep : Sweep) (points : List Point) (number cars : ℕ) (point : Point) → AreFirstPoints sweep points → length points ≡ number → number < length sweep.cars
     → cars ≡ get_or sweep.cars number 0 → IsPoint sweep.setup number cars point → IsMeasured point → AreFirstPoints sweep (points ++ (point ∷ []))
 one_more sweep points number cars point first here inside counted is measured =
@@ -52,6 +52,6 @@ one_more sweep points number cars point first here inside counted is measured =
           rw (get_or_push points point d i last) measured
     ]
 
--- all are there
+-- all points are known
 pub all_points : (sweep : Sweep) (points : List Point) → AreFirstPoints sweep points → length points ≡ length sweep.cars → ArePoints sweep points
 all_points sweep points first all = record { one_each = all; each = λ i cars point inside. first.each i cars point (omega (arith, all)) }

@@ -1,4 +1,4 @@
--- A run whose pictures are written step by step.
+-- A run whose snapshots are written step by step.
 use Rattle.std.proofs.Common.{◌≡◌, ℕ, zero, suc, ◌+◌, ◌<◌, ◌≤◌, Bool, List, [], ◌++◌, flat_map, refl, ◌∙◌, ap, arith, add-one, inr, false}
 use Rattle.std.specs.Prelude.{Result, Ok, Err}
 use Rattle.std.specs.List.{range_with_len}
@@ -14,7 +14,7 @@ use Rattle.trlab_campaign.specs.Writers.{HasWritten, AddsByResult, AddsPrefix, S
 use Rattle.trlab_campaign.proofs.Sheets.{plain_sheet}
 use Rattle.trlab_campaign.proofs.Owed.{Owes, owes_all, owes_less, owes_prefix, owes_none}
 
--- the text of so many steps from one on, as far as they are shown
+-- the text of a number of steps, of those that are shown
 abbrev pub text_from : (ℕ → Bool) → (ℕ → Cells) → ℕ → ℕ → List ℕ
 text_from shown roads step count = flat_map (λ s. shown_text shown s (roads s)) (range_with_len step count)
 
@@ -22,7 +22,7 @@ text_from shown roads step count = flat_map (λ s. shown_text shown s (roads s))
 abbrev pub Roads : Job → (ℕ → Cells) → Type 0
 Roads job roads = (s : ℕ) → IsRoadAt (seed_of job) (sheet_of job) s (roads s)
 
--- before a step, of the whole output the text from this step on is owed
+-- before a step, the text from this step on is owed of the whole output
 pub record Underway (shown : ℕ → Bool) (job : Job) (step left : ℕ) (old now : SinkBytes) : Type 0 where
   pub roads : ℕ → Cells
   pub each : Roads job roads
@@ -42,13 +42,14 @@ pub record Drives (job : Job) (step : ℕ) (run : Progress) : Type 0 where
   pub sheet : run.sheet ≡ sheet_of job
   pub step_is : run.step ≡ step
 
--- a run of so many steps is that of a job, and has not gone on yet
+-- a run of this number of steps is that of a job, and has not begun
 pub record Begins (job : Job) (steps : ℕ) (run : Progress) : Type 0 where
   pub stored : IsStoredJob job
   pub starts : run ≡ at_start (seed_of job) (sheet_of job)
   pub ends : steps ≡ job.steps
 
--- a run has come to a step, and so many are left: if it began as that of a job, it is on its way as that
+-- a run has come to a step, with this number of steps left: if it began as that of a job, it is under way
+-- as that
 abbrev pub Writes : (ℕ → Bool) → ℕ → Progress → ℕ → ℕ → Progress → SinkBytes → SinkBytes → Type 0
 Writes shown steps start step left run old now = (job : Job) → Begins job steps start → Underway shown job step left old now × Drives job step run
 
@@ -76,7 +77,7 @@ begin_run shown steps run old job begins = (
   rw begins.starts (record { seed = refl; sheet = refl; step_is = refl }),
 )
 
--- and goes on
+-- and continues
 drive_on : (job : Job) (step : ℕ) (old new : Progress) → Drives job step old → IsOneStepOn old new → Drives job (step + 1) new
 drive_on job step old new drives on = record {
   seed = on.same_seed ∙ drives.seed;

@@ -41,22 +41,22 @@ line_stops roads tallies every from k left step whole old a b is owes text =
     owes_prefix whole (window_text (nth_window roads tallies every from k)) (lines_from roads tallies every from (k + 1) left) old a b
     (rw (next_line roads tallies every from k left) at owes) (rw is at text)
 
--- the next window begins where this one ends
+-- the next window begins at the end of this one
 pub next_at : (from k every step next : ℕ) → step ≡ from + k * every → next ≡ step + every → next ≡ from + (k + 1) * every
 next_at from k every step next at later = omega (arith, at, later)
 
--- a prefix of a text is one of a text that begins with it
+-- a prefix of a text is a prefix of every text that begins with it
 pub prefix_of_first : (first rest : List ℕ) (old new : SinkBytes) → AddsPrefix old new first → AddsPrefix old new (first ++ rest)
 prefix_of_first first rest old new prefix = owes_prefix (first ++ rest) first rest old old new (owes_all (first ++ rest) old) prefix
 
--- a text was written, and then another one, or a prefix of that
+-- a text was written, and then another text or a prefix of it
 pub then_wrote : {A E : Type 0} (r : Result A E) (first rest : List ℕ) (old mid new : SinkBytes) → HasWritten old mid first → AddsByResult r mid new rest
     → AddsByResult r old new (first ++ rest)
 then_wrote (Ok x) first rest old mid new a b = adds_more old mid new first rest a b
 then_wrote (Err e) first rest old mid new a b =
     owes_prefix (first ++ rest) rest [] old mid new (record { done = first; parts = ap (λ t. first ++ t) (sym (append-nil rest)); wrote = a }) b
 
--- the series of a job, of which the run is that from its start
+-- the series of a job whose run is the run from its start
 module _ (job : Job) (every from count steps : ℕ) (run : Progress) (stored : IsStoredJob job) (starts : run ≡ at_start (seed_of job) (sheet_of job)) (ends : steps ≡ job.steps)
     (whole : (k : ℕ) → (k < count) ↔ (from + (k + 1) * every ≤ steps)) where
   job_course : (roads : ℕ → Cells) × (tallies : ℕ → StepTally) × IsCourse (seed_of job) (sheet_of job) roads tallies

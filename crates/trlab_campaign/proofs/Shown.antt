@@ -19,7 +19,7 @@ both false b is = absurd (false≢true is)
 both_true : (a b : Bool) → a ≡ true → b ≡ true → (a && b) ≡ true
 both_true a b p q = rw (p, q) refl
 
--- a step that is shown is so many times `every` steps after `from`
+-- a step that is shown is a multiple of `every` steps after `from`
 pub apart : (every from step : ℕ) → every_from every from step ≡ true → (k : ℕ) × (step ≡ from + k * every)
 apart every from step is =
     let parts = both (nat_le from step) (nat_eq ((step - from) % every) 0) is in
@@ -39,7 +39,7 @@ pub every_so_many_are_shown : EveryNthStepIsShown
 every_so_many_are_shown every from step =
     (apart every from step, λ at. subst (λ (s : ℕ). every_from every from s ≡ true) (sym at.1) (at_multiple every from at.0))
 
--- what is not true is false
+-- a test that is not true is false
 not_true : (b : Bool) → (b ≡ true → ⊥) → b ≡ false
 not_true true never = absurd (never refl)
 not_true false never = refl
@@ -76,7 +76,7 @@ every_one step =
     let one : step ≡ 0 + step * 1 = omega arith in
     subst (λ (s : ℕ). every_from 1 0 s ≡ true) (sym one) (at_multiple 1 0 step)
 
--- where the same steps are shown, the outputs are the same
+-- if the same steps are shown, the outputs are the same
 shown_alike : (shown other : ℕ → Bool) → ((step : ℕ) → shown step ≡ other step) → (says : Result Job Fault) (refused : Bool) (out : List ℕ)
     → IsOutputForResult (IsOutputForJob shown) says refused out → IsOutputForResult (IsOutputForJob other) says refused out
 shown_alike shown other same (Ok job) refused out p =

@@ -1,4 +1,4 @@
--- A job text has an output, whichever steps are shown.
+-- A job text has an output, for any choice of the steps that are shown.
 use Rattle.std.proofs.Common.{ℕ, ◌+◌, List, refl, Bool, true, false}
 use Rattle.std.specs.Prelude.{Result, Ok, Err, IfOk}
 use Rattle.trlab_texts.specs.Reading.{Fault}

@@ -30,7 +30,7 @@ even_some lanes cells limit n fits = let said = something lanes cells limit n in
     of_said (Ok road) says = (road, (says.1, says.2))
     of_said (Err fault) says = absurd (says.1 (no_fault lanes cells limit n fault fits says.0))
 
--- a point of a sweep for any number and count of cars that fits
+-- a point of a sweep for any number, and any number of cars that fits
 point_some : (common : Setup) (number cars : ℕ) → IsRuleFor common.shape.lanes common.rule → CanSpreadOn common.shape cars → (point : Point) × IsPoint common number cars point
 point_some common number cars rule fits =
     let start = even_some common.shape.lanes common.shape.length common.shape.limit cars fits in

@@ -1,4 +1,4 @@
--- A sweep text whose sixth line states the rule of 1992 has that rule.
+-- A sweep text whose sixth line states the Nagel-Schreckenberg rule has this rule.
 use Rattle.std.proofs.Common.{◌≡◌, ℕ, suc, ◌+◌, Bool, true, false, List, [], ◌∷◌, length, get_or, sym, ◌∙◌, ap, subst, arith}
 use Rattle.std.specs.Prelude.{Result, Ok, Err, nat_lt}
 use Rattle.trlab_rules.specs.Laws.{ComputesSpeed}
@@ -23,11 +23,11 @@ use Rattle.trlab_jobs.proofs.SweepLines.{after_cells, after_key, after_limit, af
 use Rattle.trlab_asm.specs.Results.{map_ok}
 use Rattle.trlab_campaign.specs.Triangle.{stated_rule}
 
--- the parts of what is read
+-- the parts of a result
 ok_parts : {A B : Type 0} (x y : A) (a b : B) → ◌≡◌ {A = Result (A × B) Fault} (Ok (x, a)) (Ok (y, b)) → (x ≡ y) × (a ≡ b)
 ok_parts {A = A} {B = B} x y a b h = let e : ◌≡◌ {A = A × B} (x, a) (y, b) = cc h in (ap (λ (p : A × B). p.0) e, ap (λ (p : A × B). p.1) e)
 
--- what is read by one reading after another is read by each
+-- if two readings in a row succeed, each of them succeeds
 record Both {A B : Type 0} (first : Reading A) (next : A → Reading B) (rest : Rest) (out : B × Rest) : Type 0 where
   x : A
   after : Rest
@@ -38,11 +38,11 @@ both : {A B : Type 0} (first : Reading A) (next : A → Reading B) (rest : Rest)
 both first next rest out (Ok found) one two = record { x = found.0; after = found.1; one = one; two = two }
 both first next rest out (Err fault) one two = absurd (cc two)
 
--- a reading of so many lines: the line at an index of what is left stands so many lines further on before
+-- a reading that takes a number of lines: index i of the rest is index i plus this number before it
 record Takes {A : Type 0} (reading : Reading A) (n : ℕ) : Type 0 where
   left : (rest : Rest) (x : A) (after : Rest) (k : ℕ) → reading rest (Ok (x, after)) → get_or rest.left (n + k) [] ≡ get_or after.left k []
 
--- what one line says
+-- the meaning of one line
 record Line {A : Type 0} (says : List ℕ → Result A Cause) (left : List (List ℕ)) (x : A) (after : Rest) : Type 0 where
   said : says (get_or left 0 []) ≡ Ok x
   behind : (k : ℕ) → get_or left (1 + k) [] ≡ get_or after.left k []
@@ -92,7 +92,7 @@ shape_takes =
     (λ limit. then_takes (line (exactly length_line)) (after_cells limit) 1 1 (line_takes length_line)
     (λ cells. then_takes (line (exactly lanes_line)) (λ lanes. give (record { limit = limit; length = cells; lanes = lanes })) 1 0 (line_takes lanes_line) (λ lanes. say_takes _)))
 
--- a line that states the rule of 1992 gives it
+-- a line that states the Nagel-Schreckenberg rule gives this rule
 is_nasch : (p : ℕ) (first : Programs) → IsMotionRule (nasch_program p) (Ok first) → IsNasch p first
 is_nasch p first says = record {
   motion = record {

@@ -1,11 +1,11 @@
--- What was written, over several calls.
+-- The bytes that were written, over several calls.
 use Rattle.std.proofs.Common.{◌≡◌, ℕ, ◌+◌, ◌≤◌, List, [], ◌++◌, length, take, drop, refl, arith, append_assoc, sym, ◌∙◌, ap, append-nil, take-add, subst}
 use Rattle.std.proofs.Math.Seq.{take-length}
 use Rattle.std.specs.Prelude.{Option, None, Some}
 use Rattle.std.specs.Io.KnownBytes.{Appends, Keeps}
 use Rattle.trlab_campaign.specs.Writers.{SinkBytes, HasWritten, AddsNone, AddsPrefix}
 
--- of the bytes that a writer tells
+-- the bytes that a writer reports
 told_none : (a : Option (List ℕ)) → Appends a a []
 told_none None = tt
 told_none (Some xs) = sym (append-nil xs)
@@ -33,7 +33,7 @@ adds_none a = record { accepted = sym (append-nil a.accepted); told = told_none 
 pub kept : (a : SinkBytes) → AddsNone a a
 kept a = record { accepted = refl; told = told_same a.told }
 
--- a call that took nothing
+-- a call that took no bytes
 pub nothing_taken : (a b : SinkBytes) → b.accepted ≡ a.accepted ++ [] → Keeps a.told b.told → AddsNone a b
 nothing_taken a b p q = record { accepted = p ∙ append-nil a.accepted; told = q }
 
@@ -46,18 +46,18 @@ adds_more a b c xs ys p q = record {
 pub adds_kept : (a b c : SinkBytes) (xs : List ℕ) → HasWritten a b xs → AddsNone b c → HasWritten a c xs
 adds_kept a b c xs p q = record { accepted = q.accepted ∙ p.accepted; told = told_kept a.told b.told c.told xs p.told q.told }
 
--- of a text whose first `done` bytes are there, `count` more
+-- a text of which the first `done` bytes are written, and `count` more
 pub adds_part : (a b c : SinkBytes) (text : List ℕ) (done count : ℕ) → HasWritten a b (take done text) → HasWritten b c (take count (drop done text)) → HasWritten a c (take (done + count) text)
 adds_part a b c text done count p q =
     subst (λ (t : List ℕ). HasWritten a c t) (sym (take-add done count text)) (adds_more a b c (take done text) (take count (drop done text)) p q)
 
--- of a text all bytes are there
+-- the text is complete
 pub adds_whole : (a b : SinkBytes) (text : List ℕ) (done : ℕ) → done ≤ length text → length text ≤ done → HasWritten a b (take done text) → HasWritten a b text
 adds_whole a b text done inside all p =
     let here : done ≡ length text = omega arith in
     subst (λ (t : List ℕ). HasWritten a b t) (ap (λ (n : ℕ). take n text) here ∙ take-length text) p
 
--- a whole text is a prefix of it
+-- a complete text is a prefix of itself
 pub prefix_whole : (a b : SinkBytes) (text : List ℕ) → HasWritten a b text → AddsPrefix a b text
 prefix_whole a b text p = record { count = length text; prefix = subst (λ (t : List ℕ). HasWritten a b t) (sym (take-length text)) p }
 

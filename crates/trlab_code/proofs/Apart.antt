@@ -6,7 +6,7 @@ use Rattle.trlab_code.specs.declared.fault.CodeFault.TheVariants as fault
 use Rattle.trlab_code.specs.Faults.{HasOpcode, IsFirstCodeFault, row_at}
 use Rattle.trlab_code.proofs.EncodedCode.{opcode_of_row}
 
--- the order in which faults are met; those of rows are told apart by their rows
+-- the order in which faults are found; faults of rows differ by their rows
 rank : CodeFault → ℕ
 rank fault.Short = 0
 rank fault.Magic = 1
@@ -19,7 +19,7 @@ rank fault.NeedlessVersion = 7
 rank fault.Trailing = 8
 rank fault.Memory = 9
 
--- an opcode of no instruction and a field out of range are not both first
+-- an opcode that is no instruction's and a field out of range are not both the first fault
 rows_apart : (bytes : List ℕ) (pc qc : ℕ) → IsFirstCodeFault bytes (fault.Opcode pc) → IsFirstCodeFault bytes (fault.Field qc) → ⊥
 rows_apart bytes pc qc f g =
     elim (cases_order pc qc) [

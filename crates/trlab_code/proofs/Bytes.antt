@@ -1,4 +1,4 @@
--- The encoding of a program is of bytes.
+-- The encoding of a program consists of bytes.
 use Rattle.std.proofs.Common.{ℕ, Bool, true, false, cond, ◌/◌, ◌%◌, ◌^◌, ◌<◌, ◌≤◌, List, [], ◌∷◌, All, length, arith}
 use Rattle.std.specs.List.{flat_map}
 use Rattle.std.proofs.lemmas.List.Elements.{All-cons, All-append, All-head, All-tail}
@@ -15,7 +15,7 @@ use Rattle.trlab_code.specs.Machine.{register_number, input_number}
 use Rattle.trlab_code.specs.Encoding.{kind_byte, row, row_bytes, instr_bytes, header, encoding}
 use Rattle.trlab_code.specs.Laws.{AreBytes, FitsIn32Bits, IsRepresentable}
 
--- the same, so that the list is told by the type
+-- the same as a record, so that its type determines the list
 record Small (bytes : List ℕ) : Type 0 where
   all : AreBytes bytes
 

@@ -51,7 +51,7 @@ row_of_spelling program k d h =
     let more : 8 + 8 * k ≡ suc (suc (suc (suc (suc (suc (suc (suc (8 * k)))))))) = omega arith in
     rw more (row_is program.instrs k d h)
 
--- the version is one that has each instruction
+-- the version covers each instruction
 of_version : (program : Program) (k : ℕ) → k < length program.instrs → VersionAllows (stated_version (encoding program)) (get_or program.instrs k Stay)
 unfolding encoding
 of_version program k h reads = ap (λ (b : Bool). cond b 2 1) (list_any_at reads_headspeed program.instrs k Stay h reads)
@@ -60,7 +60,7 @@ row_of_program : (program : Program) → IsValidProgram program → (k : ℕ) �
 row_of_program program is k h =
     (get_or program.instrs k Stay, (row_of_spelling program k Stay h, is.in_range k Stay h, of_version program k h))
 
--- all is well in the encoding of a program
+-- nothing is wrong in the encoding of a program
 pub good_spelling : (program : Program) → IsValidProgram program → (k : ℕ) → k ≤ length program.instrs → IsValidBefore (encoding program) k
 good_spelling program is k h = record {
   header = header_is program is;

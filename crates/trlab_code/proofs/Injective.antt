@@ -22,7 +22,7 @@ same_kind Motion Motion h = refl
 same_kind Change Change h = refl
 same_kind _ _ h = cc
 
--- what the bytes of an instruction were made of
+-- the instruction whose bytes these are, part by part
 abbrev register_of : ℕ → Register
 register_of n = get_or (R0 ∷ R1 ∷ R2 ∷ R3 ∷ R4 ∷ R5 ∷ R6 ∷ R7 ∷ []) n R0
 
@@ -108,7 +108,7 @@ both false q h = absurd (cc h)
 and_true : (p q : Bool) → p ≡ true → q ≡ true → (p && q) ≡ true
 and_true p q e f = rw (e, f) refl
 
--- rows are one where their fields are
+-- rows with equal fields are equal
 same_row : (r s : InstructionRow) → r.opcode ≡ s.opcode → r.a ≡ s.a → r.b ≡ s.b → r.c ≡ s.c → r.number ≡ s.number → r ≡ s
 same_row r s o a b c n = λ i. record { opcode = o i; a = a i; b = b i; c = c i; number = n i }
 
@@ -126,7 +126,7 @@ of_itself x =
     let r = row_of x in
     and_true _ _ (n r.opcode) (and_true _ _ (n r.a) (and_true _ _ (n r.b) (and_true _ _ (n r.c) (n r.number))))
 
--- the test of two instructions says whether they are one
+-- the test of two instructions decides whether they are equal
 pub same_decides : (x y : Instr) → Decides (same.it x y) (x ≡ y)
 same_decides x y = (from_same x y, λ e. subst (λ z. same.it x z ≡ true) e (of_itself x))
 

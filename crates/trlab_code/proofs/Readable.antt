@@ -28,7 +28,7 @@ use Rattle.trlab_code.proofs.Rows.{rows_more, good_more}
 use Rattle.trlab_code.proofs.Versions.{needless, needs_version, version_needed}
 use Rattle.trlab_code.proofs.Whole.{spelling_of_parts}
 
--- the register of a byte; any register for a byte of none
+-- the register of a byte; any register if the byte is not a register's
 register_of : ℕ → Register
 register_of byte = get_or (R0 ∷ R1 ∷ R2 ∷ R3 ∷ R4 ∷ R5 ∷ R6 ∷ R7 ∷ []) byte R0
 
@@ -43,7 +43,7 @@ register_back R5 = refl
 register_back R6 = refl
 register_back R7 = refl
 
--- the input of a byte; any input for a byte of none
+-- the input of a byte; any input if the byte is not an input's
 input_of : ℕ → Input
 input_of byte = get_or (Speed ∷ Limit ∷ Gap ∷ SideGap ∷ SideBack ∷ Lane ∷ Headspeed ∷ []) byte Speed
 
@@ -148,7 +148,7 @@ spells_or_not version row =
       | inr other ↦ inr (λ h. let e = same h.0 h.1.0 in let f : row ≡ instr_bytes i = rw e h.1.0 in let t = (bytes_eq-Decides row (instr_bytes i)).1 f in cc)
     ]
 
--- some fault of bytes is the first, and it is not that memory runs out
+-- some fault of the bytes is the first one, and it is not that memory ran out
 abbrev Faulty : List ℕ → Type 0
 Faulty bytes = (f : CodeFault) × (IsFirstCodeFault bytes f × (f ≢ fault.Memory))
 
@@ -250,7 +250,7 @@ needs_or_not bytes good =
       | inr other ↦ inr (needless bytes program rows.many rows.spelt good other.1)
     ]
 
--- the program that bytes with a good header and good rows of a version that they need spell
+-- the program of bytes with a valid header and valid rows, of a version that they need
 spelt : (bytes : List ℕ) → All (λ byte. byte < 2 ^ 8) bytes → IsValidBefore bytes (stated_count bytes) → VersionIsNeeded bytes → length bytes ≤ 8 + 8 * stated_count bytes → (program : Program) × ((bytes ≡ encoding program) × IsValidProgram program)
 spelt bytes small good needs short =
     let kind = good.header.kind in
@@ -264,7 +264,7 @@ spelt bytes small good needs short =
       ),
     )
 
--- bytes say something
+-- all bytes are a program or have a first fault
 pub something : (bytes : List ℕ) → All (λ byte. byte < 2 ^ 8) bytes → (said : Result Program CodeFault) × BytesMean bytes said
 something bytes small =
     elim (header_or_fault bytes) [

@@ -17,7 +17,7 @@ rows_more bytes instrs pc i spelt here =
     let same = drop-drop (8 * pc) 8 bytes in
     cc
 
--- all is well before the next instruction
+-- nothing is wrong before the next instruction
 pub good_more : (bytes : List ℕ) (pc : ℕ) (i : Instr) → IsValidBefore bytes pc → EncodesInstr (stated_version bytes) i (row_at bytes pc) → IsValidBefore bytes (pc + 1)
 good_more bytes pc i before here = record {
   header = before.header;

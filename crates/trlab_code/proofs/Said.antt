@@ -1,4 +1,4 @@
--- What bytes say is one thing.
+-- Bytes have only one meaning.
 use Rattle.std.proofs.Common.{◌≡◌, ◌↔◌, ℕ, List, Result, Ok, Err, refl, sym, ap, ◌∙◌, subst}
 use Rattle.trlab_code.specs.declared.fault.CodeFault.{CodeFault}
 use Rattle.trlab_code.specs.Program.{Program, IsValidProgram}

@@ -12,7 +12,7 @@ use Rattle.trlab_code.specs.Faults.{IsValidBefore, HasHeadspeed, VersionIsNeeded
 use Rattle.trlab_code.proofs.Injective.{same_instr}
 use Rattle.trlab_code.proofs.EncodedCode.{row_is}
 
--- the row of an instruction, where the rows of bytes are those of instructions
+-- the row of an instruction, if the rows of the bytes are those of instructions
 stated_row : (bytes : List ℕ) (instrs : List Instr) (count : ℕ) → length instrs ≡ count → flat_map instr_bytes instrs ≡ take (8 * count) (drop 8 bytes) → (k : ℕ) (d : Instr) → k < length instrs → row_at bytes k ≡ instr_bytes (get_or instrs k d)
 stated_row bytes instrs count many rows k d h =
     let rest = 8 * (count - k) in
@@ -37,7 +37,7 @@ module _ (bytes : List ℕ) (program : Program) (many : length program.instrs �
       let some = Any-from_list_any reads_headspeed program.instrs e in
       (some.0, some.1, omega (arith, many, some.2), stated_row bytes program.instrs (stated_count bytes) many rows some.0 some.1 some.2 ∙ ap instr_bytes some.3, some.4)
 
-  -- good rows have an instruction that came with the second version only where the second is stated
+  -- valid rows contain an instruction of the second version only if the second version is stated
   second : IsValidBefore bytes (stated_count bytes) → HasHeadspeed bytes → stated_version bytes ≡ 2
   second good h =
       let row = good.rows h.0 h.2 in

@@ -1,4 +1,4 @@
--- What is known of a reader's answer from the one encoding and the one first fault.
+-- Consequences for a reader's result, from the one encoding and the one first fault.
 use Rattle.std.proofs.Common.{◌≡◌, ◌≢◌, ℕ, ◌+◌, ◌*◌, ◌≤◌, ◌⊎◌, List, ◌++◌, length, take, drop, Result, Ok, Err, sym, ap, ◌∙◌, subst, arith, inl, inr, length-drop}
 use Rattle.std.proofs.lemmas.List.{take-append-drop, take_all}
 use Rattle.std.specs.List.{flat_map}

@@ -1,4 +1,4 @@
--- What the name of a command alone asks for.
+-- The request of a command line that is only the name of a command.
 use Rattle.std.proofs.Common.{◌≡◌, ◌∙◌, ℕ, Bool, true, false, refl, sym, ap, List, [], ◌∷◌, Option, None, Some, Result, Ok, codes}
 use Rattle.std.specs.Prelude.{option_map}
 use Rattle.std.specs.Str.{bytes_eq}
@@ -20,7 +20,7 @@ use Rattle.trlab_command_line.specs.declared.arguments.Request.{Request}
 use Rattle.trlab_command_line.specs.declared.arguments.Request.TheVariants.{Check, Explain, Run, Series, Sweep}
 use Rattle.trlab_command_line.proofs.Rows.{some_same}
 
--- what is asked for has the name of the command that was entered
+-- the request has the name of the command that was entered
 pub asks_its_name : (name : Text) (rows : List Row) (request : Request) → IsRequestOf (Some (name, rows)) request → name ≡ command_name request
 asks_its_name name rows request a = ap (λ t. t.0) (some_same _ _ a.1)
 
@@ -28,7 +28,7 @@ asks_its_name name rows request a = ap (λ t. t.0) (some_same _ _ a.1)
 differ : (a b : Text) → bytes_eq a b ≡ false → a ≡ b → ⊥
 differ a b other is = false≢true (sym other ∙ (bytes_eq-Decides a b).1 is)
 
--- an option that has a numeral gives its number
+-- the number of an option with a numeral
 number_is : (option numeral : Text) (rows : List Row) (n : ℕ) → one_of option rows ≡ Some numeral → GivesNumber option rows n
     → n ≡ digits_value 10 (without_leading_plus numeral)
 number_is option numeral rows n has gives =
@@ -45,7 +45,7 @@ ok_same x y e = cc
 
 -- ---- `run`
 
--- the name of a command, and what its options have
+-- the name of a command, and the texts of its options
 abbrev of_numbers : Text × List Row → Text × Option Text × Option Text × Option Text × Option Text
 of_numbers p = (
   p.0,

@@ -1,5 +1,5 @@
--- Which words the command line takes without a fault: first a command's name, and then words that
--- the command takes.
+-- The words that the command line takes without a fault: first the name of a command, and then words that
+-- this command takes.
 use Rattle.std.proofs.Common.{◌≡◌, ◌∙◌, ◌&&◌, ◌||◌, ◌⊎◌, ℕ, zero, suc, Bool, cond, true, false, not, refl, sym, ap, subst, inl, inr, List, [], ◌∷◌, length, drop, Option, Some, None, codes}
 use Rattle.std.specs.Prelude.{encode_utf8, fold, find, option_map, slice_get}
 use Rattle.std.specs.List.{list_any}
@@ -29,17 +29,17 @@ top = line.top
 abbrev names : Names
 names = names_of line
 
--- the flag that calls for help, which each command has
+-- the flag for help, which each command has
 abbrev help_flag : Rule
 help_flag = filled help_rule
 
--- the flag that calls for the version, which the program alone has
+-- the flag for the version, which only the program itself has
 abbrev version_flag : Rule
 version_flag = filled version_rule
 
 -- ---- before a command is named
 
--- `--name` is unknown, or calls for help or the version
+-- `--name` is unknown, or is the flag for help or for the version
 abbrev asked : Bool → Bool → Option Rule
 asked for_help for_version = cond for_help (Some help_flag) (cond for_version (Some version_flag) None)
 
@@ -53,7 +53,7 @@ long_fails c false true (Some o) e = some_fault _ _ e
 long_fails c true v None e = some_fault _ _ e
 long_fails c true v (Some o) e = some_fault _ _ e
 
--- so do the flags of `-abc`, unless there are none
+-- so are the flags of `-abc`, unless there are none
 flags_fail : (k : ℕ) (flags : Text) → flags_fault top.rules false k flags 0 nothing_held ≡ [] → bundle_met top.rules k flags 0 plain nothing_held ≡ (nothing_held, plain)
 unfolding flags_fault bundle_met
 flags_fail zero flags e = refl
@@ -69,7 +69,7 @@ flags_fail (suc k) flags e = go (slice_get (chars flags) 0) e
     go None h = refl
     go (Some x) h = absurd (flag top.rules (not false && has_short help_flag x) (not false && has_short version_flag x) (drop (length (encode_utf8 x)) flags) _ h)
 
--- the word is no command's name and not `--`
+-- the word is not `--`, nor the name of a command
 abbrev StrayFault : Text → Option Text → Kinds
 StrayFault word name =
     let met = subcommand_or_other top.rules name idle 1 word nothing_held in
@@ -114,7 +114,7 @@ met_by a word o is =
     names_are None = refl
     names_are (Some s) = refl
 
--- the walk stops there
+-- the walk over the words stops there
 stops_at : (a : App) (word name : Text) (rest : List Text) → subcommand_met (names_of a) idle word ≡ Some name
     → (walk a.top.rules (names_of a) nothing_held (word ∷ rest)).stopped ≡ Some (name, rest)
 unfolding walked
@@ -133,11 +133,11 @@ passes_behind a name words rest e stops =
     let below : entered_fault a stop ≡ [] = (none_fails (entered_fault a stop) _ steps.1).0 in
     subst (λ o. entered_fault a o ≡ []) stops below
 
--- a command has one name alone
+-- a command has only one name
 abbrev HasOneName : Shape → Type 0
 HasOneName s = s.aliases ≡ []
 
--- a command that a word names has it as its name
+-- a command that a word names has this word as its name
 own_name : (xs : List Shape) → Each HasOneName xs → (word : Text) (s : Shape) → find (λ s. answers_to word (label_of s)) xs ≡ Some s → s.name ≡ word
 own_name [] one word s e = cc
 own_name (x ∷ xs) one word s e = go (answers_to word (label_of x)) refl e (own_name xs one.1 word s)
@@ -180,7 +180,7 @@ entered_name name rows e =
 
 -- ---- words without a fault
 
--- the words, where no fault is met: a command's name, and words that it takes
+-- the words, if they have no fault: the name of a command, and words that it takes
 pub record Taken (words : List Text) : Type 0 where
   pub name : Text
   pub rest : List Text
@@ -189,16 +189,16 @@ pub record Taken (words : List Text) : Type 0 where
   pub enters : subcommand_of command_line words ≡ Some (name, rows)
   pub is_entered : IsEntered name rows
 
--- the walk over the words comes first
+-- the walk over the words ends first
 walk_passes : (words : List Text) → fault_of command_line words ≡ [] → walk_fault top names start words ≡ []
 walk_passes words e = (none_fails (walk_fault top names start words) _ e).0
 
--- `help` is a call for help
+-- `help` is a request for help
 help_fails : (rest : List Text) → walk_fault top names start (codes "help" ∷ rest) ≡ [] → ⊥
 unfolding walk_fault
 help_fails rest e = cc
 
--- after `--` every word is a stray one, and a command is missing
+-- after `--` every word is an extra argument, and a command is missing
 dashes_fail : (rest : List Text) → fault_of command_line ((45 ∷ 45 ∷ []) ∷ rest) ≡ [] → ⊥
 unfolding clap_on_literals
 dashes_fail [] e =
@@ -218,7 +218,7 @@ other_fails word rest none other e =
 is_word : (a b : Text) → bytes_eq a b ≡ true → a ≡ b
 is_word a b same = (bytes_eq-Decides a b).0 same
 
--- the first word, by whether it is a command's name or `--`
+-- the first word: the name of a command, `--`, or another word
 first_word : (word : Text) (rest : List Text) → fault_of command_line (word ∷ rest) ≡ [] → Taken (word ∷ rest)
 first_word word rest e = by_name (named_by line word) refl
   where

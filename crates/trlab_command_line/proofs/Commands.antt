@@ -3,7 +3,7 @@ use Rattle.std.proofs.Common.{◌≡◌, ◌∙◌, ap, ap₂}
 use Rattle.std.specs.Prelude.{Result, Ok, Err, IfOk, MatchResult}
 use Rattle.clap.specs.Words.{App, with_subcommand}
 
--- a program with a command that was made, if the program and the command are these
+-- a program and one of its commands, as they are built
 pub added : {C E : Type 0} (command : Result C E) (app : C → App) (old made new : App) {before : App} → old ≡ before
     → MatchResult command (λ c. new ≡ with_subcommand old (app c).top) (λ _. ⊥)
     → IfOk command (λ c. app c ≡ made) → new ≡ with_subcommand before made.top

@@ -1,4 +1,4 @@
--- What the arguments of each command have among its matches, where its words have no fault.
+-- The arguments of each command that its matches contain, if its words have no fault.
 use Rattle.std.proofs.Common.{◌≡◌, ◌∙◌, ℕ, false, refl, sym, ap, subst, inl, inr, List, [], Some, codes}
 use Rattle.std.specs.Prelude.{pos}
 use Rattle.std.specs.List.{slice_index_or}
@@ -14,7 +14,7 @@ use Rattle.trlab_command_line.proofs.CommandLine.{line, named_by}
 use Rattle.trlab_command_line.proofs.Options.{AllKnown, own_if_given, own_value}
 use Rattle.trlab_command_line.proofs.Rows.{some_same}
 
--- a command: its name, what a parse reads of it, and of which kind its arguments are
+-- a command: its name, the values that a parse reads of it, and the kinds of its arguments
 pub record Command : Type 0 where
   pub name : Text
   pub level : Shape
@@ -22,7 +22,7 @@ pub record Command : Type 0 where
   pub once : record level { args_override_self = false } ≡ level
   pub all : AllKnown level.rules level.rules
 
--- what holds of the matches at words without a fault holds of those of a command that was entered
+-- a property of the matches of words without a fault is one of the matches of a command that was entered
 of_entered : (c : Command) (P : List Row → Type 0) (rows : List Row) → IsEntered c.name rows
     → ((words : List Text) → level_fault (record c.level { args_override_self = false }) [] nothing_held words false [] ≡ [] → P (rows_after c.level.rules [] words)) → P rows
 of_entered c P rows e holds =

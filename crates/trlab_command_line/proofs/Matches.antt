@@ -1,4 +1,4 @@
--- What the matches of a parse of the command line tell its caller.
+-- The results of parsing the command line, as its caller reads them.
 use Rattle.std.proofs.Common.{◌≡◌, ◌∙◌, ◌≤◌, ◌<◌, ◌^◌, ◌||◌, ℕ, Bool, true, false, inl, inr, refl, sym, ap, ap₂, subst, arith, List, [], ◌∷◌, Option, Some, None, Result, Ok, codes}
 use Rattle.std.specs.Prelude.{option_map, unwrap_or, Box}
 use Rattle.std.specs.Str.{bytes_eq}
@@ -27,7 +27,7 @@ use Rattle.trlab_command_line.specs.Requests.{IsEntered}
 use Rattle.trlab_command_line.proofs.CommandLine.{taken}
 use Rattle.trlab_command_line.proofs.Rows.{some_same}
 
--- the command that was entered, of a command that is the command line
+-- the command that was entered, of a command that is the whole command line
 entered_of : (app : App) (words : List Text) (m : ArgMatches) → app ≡ command_line → HasMatchesOf app words m → subcommand_rows_of m ≡ subcommand_of command_line words
 entered_of app words m is has =
     let here : HasMatchesOf command_line words m = subst (λ a. HasMatchesOf a words m) is has in
@@ -51,12 +51,12 @@ among_front : (kind : _) (front behind : Kinds) → IsAmong kind front → IsAmo
 among_front kind [] behind among = absurd among
 among_front kind (k ∷ ks) behind among = among
 
--- an error of the first step is one of both
+-- an error of the first step is an error of both
 pub has_front : (front behind : Kinds) (error : Error) → HasKind front error → HasKind (or_else front behind) error
 has_front front behind error (inl memory) = inl memory
 has_front front behind error (inr among) = inr (among_front _ front behind among)
 
--- an error of words that are refused
+-- an error in words that are rejected
 pub fault_some : (app : App) (words : List Text) (behind : Kinds) (error : Error) → app ≡ command_line → (is_simple_and_free app ≡ true → HasKind (fault_of app words) error)
     → HasKind (or_else (fault_of command_line words) behind) error
 fault_some app words behind error is h =
@@ -66,7 +66,7 @@ fault_some app words behind error is h =
 
 -- ---- the command that was entered
 
--- what a parse of the command line found: a command of this name, with these matches
+-- the result of parsing the command line: a command of this name, with these matches
 pub record Met (words : List Text) (name : Text) (rows : List Row) : Type 0 where
   pub fault : fault_of command_line words ≡ []
   pub at : subcommand_of command_line words ≡ Some (name, rows)
@@ -97,9 +97,9 @@ module _ (app : App) (words : List Text) (m : ArgMatches) (r : Option (Bor Text 
       let bad : None ≡ Some t.name = ap (option_map (λ p. p.0.now)) (sym none) ∙ name ∙ name_of_rows (out-ArgMatches m).subcommand ∙ ap (option_map (λ p. p.0)) (entered_of app words m is has ∙ t.enters) in
       absurd cc
 
--- ---- what the getters of the matches answer
+-- ---- the getters of the matches
 
--- the number that is read of an option
+-- the number of an option
 module _ (E : Type 0) (G : List ℕ → Result ℕ E → Type 0) (only : (u : List ℕ) (x : Result ℕ E) → G u x → ParsesUnsigned 32 10 u x)
     (option : Text) (rows : List Row) (least most : ℕ) (fits : most < 2 ^ 32) (given : (v : Text) × HasValueFrom option least most rows v)
     (r : Option ℕ) (read : (t : List ℕ) → one_of option rows ≡ Some t → ReadsOne G t r) where
@@ -117,7 +117,7 @@ module _ (E : Type 0) (G : List ℕ → Result ℕ E → Type 0) (only : (u : Li
       let parsed : ParsesUnsigned {E = E} 32 10 (without_minus given.0) (Ok n) = only (without_minus given.0) (Ok n) (subst (ReadsOne G (without_minus given.0)) is (read (without_minus given.0) given.1.0)) in
       ((without_minus given.0, given.1.0, sym parsed.1), (subst (λ k. least ≤ k) same bounds.2, subst (λ k. k ≤ most) same bounds.3))
 
--- the number that is read of an argument that may be given
+-- the number of an optional argument
 module _ (E : Type 0) (G : List ℕ → Result ℕ E → Type 0) (only : (u : List ℕ) (x : Result ℕ E) → G u x → ParsesUnsigned 32 10 u x)
     (argument : Text) (rows : List Row) (r : Option ℕ) (unread : one_of argument rows ≡ None → r ≡ None)
     (read : (t : List ℕ) → one_of argument rows ≡ Some t → ReadsOne G t r) where
@@ -150,7 +150,7 @@ flag_says : (given : Bool) → is_true_value (flag_text given) ≡ given
 flag_says true = refl
 flag_says false = refl
 
--- what they ask for, by what was found of each
+-- the request of `explain`, by the values of its arguments
 pub explained_same : (rows : List Row) (asked : Result ExplainRequest ErrorKind) (what : Option Text) (number : Option ℕ) (json : Bool)
     → asked ≡ explain_request what number json → what ≡ first_of (codes "what") rows → number ≡ argument_number (codes "number") rows → GivesFlag (codes "json") rows json
     → asked ≡ request_from_matches rows

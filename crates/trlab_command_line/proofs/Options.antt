@@ -1,5 +1,5 @@
--- The matches of a command whose arguments take one value, or are flags and calls for help: where a
--- parse meets no fault, each value that an argument has passed that argument's parser.
+-- The matches of a command whose arguments take one value, or are flags or requests for help: if a parse
+-- finds no fault, each value of an argument has passed the parser of this argument.
 use Rattle.std.proofs.Common.{◌≡◌, ◌∙◌, ◌&&◌, ◌||◌, ◌⊎◌, ℕ, zero, suc, Bool, cond, true, false, not, refl, sym, ap, subst, inl, inr, List, [], ◌∷◌, ◌++◌, length, drop, Option, Some, None, append-nil}
 use Rattle.std.proofs.lemmas.Slice.Eq.{bytes_eq-Decides}
 use Rattle.std.specs.Prelude.{option_and_then, encode_utf8, fold, is_some, find, slice_get}
@@ -18,20 +18,20 @@ use Rattle.clap.specs.declared.parser.matches.ValueSource.TheVariants.{CommandLi
 use Rattle.trlab_command_line.proofs.Rows.{Each, found_holds, none_fails, not_empty, some_same, at_end, has_more, has_last, same_id}
 use Rattle.trlab_command_line.proofs.Uses.{TakesOne, IsFlag, IsHelp, help_fault, UsesOne, values_pass, one_use, flag_use, used_so, one_used, flag_used}
 
--- an argument of one of these kinds, which no other argument of the command has the id of
+-- an argument of one of these kinds, whose id no other argument of the command has
 abbrev pub Known : List Rule → Rule → Type 0
 Known c a = (TakesOne a ⊎ (IsFlag a ⊎ IsHelp a)) × (arg_by_id c a.id ≡ Some a)
 
--- each of some arguments is so
+-- every one of some arguments is such an argument
 abbrev pub AllKnown : List Rule → List Rule → Type 0
 AllKnown c xs = Each (Known c) xs
 
--- `all` says what arguments the command has
+-- `all` states this of the arguments of the command
 module _ (c : List Rule) (all : AllKnown c c) where
   known : (test : Rule → Bool) (a : Rule) → find test c ≡ Some a → Known c a
   known test a e = found_holds (Known c) test c all a e
 
-  -- the row has a value that passed its argument's parser, and is read as that parser says
+  -- the row has a value that has passed its argument's parser, and is read as the parser's result
   abbrev Passed : Row → Type 0
   Passed r = (a : Rule) × (v : Text) × (arg_by_id c r.id ≡ Some a) × (slice_get r.values 0 ≡ Some v) × (value_passes a v ≡ true) × (r.reading ≡ reading_by a)
 
@@ -43,7 +43,7 @@ module _ (c : List Rule) (all : AllKnown c c) where
   one_more [] r h passed = (passed, tt)
   one_more (x ∷ xs) r h passed = (h.0, one_more xs r h.1 passed)
 
-  -- values of which the first passed make a row that does
+  -- if the first value has passed, the row has a value that has passed
   new_row : (a : Rule) (source : ValueSource) (v : Text) (vs : List Text) (rows : List Row) → Known c a → value_passes a v ≡ true
       → has_row a.id rows ≡ false → AllPassed rows → AllPassed (with_values a.id (reading_by a) source (v ∷ vs) rows)
   new_row a source v vs rows is passes none h =
@@ -70,7 +70,7 @@ module _ (c : List Rule) (all : AllKnown c c) where
           ∙ ap (with_values a.id (reading_by a) CommandLine (given.0 ∷ [])) none in
           subst AllPassed (sym (same ∙ so)) row
 
-  -- what waits for its values is used
+  -- an argument that waits for its values is used
   held_passes : (pending : Option (Text × List Text)) (rows : List Row)
       → option_map_or (λ p. option_map_or (λ a. use_fault false a p.1 rows) (arg_by_id c p.0) []) pending [] ≡ [] → AllPassed rows → AllPassed (settled_rows c pending rows)
   held_passes None rows e h = h
@@ -135,7 +135,7 @@ module _ (c : List Rule) (all : AllKnown c c) where
           flag (drop (length (encode_utf8 x)) flags) (arg_by_short c x) (known (λ a. not (is_some a.index) && has_short a x)) f later
       step (Some x) (suc skip) f later = later (drop (length (encode_utf8 x)) flags) skip so_far h f passed
 
-  -- a word that is no flag changes no row
+  -- a word that is not a flag changes no row
   plain_held : (waiting : Waiting) (word : Text) (h : Held) → Holds h → Holds (plain_word c waiting word h).0
   plain_held idle word h passed = passed
   plain_held positional word h passed = passed
@@ -151,7 +151,7 @@ module _ (c : List Rule) (all : AllKnown c c) where
   after_flag_held waiting word h plain passed = plain_held waiting word h passed
   after_flag_held waiting word h refused passed = plain_held waiting word h passed
 
-  -- no word names a subcommand, where there is none
+  -- a command without subcommands finds none in a word
   none_met : (waiting : Waiting) (word : Text) → subcommand_met [] waiting word ≡ None
   none_met idle word = refl
   none_met positional word = refl
@@ -193,7 +193,7 @@ module _ (c : List Rule) (all : AllKnown c c) where
       let steps = none_fails (default_fault rows a) (defaults_fault (with_default rows a) rest) e in
       defaults_pass rest (with_default rows a) is.1 steps.1 (default_passes a rows is.0 steps.0 h)
 
-  -- a row that is there stays there
+  -- a row that exists remains
   row_stays : (id : Text) (a : Rule) (rows : List Row) → has_row id rows ≡ true → has_row id (with_default rows a) ≡ true
   row_stays id a rows is = go (has_row a.id rows) refl a.defaults
     where
@@ -214,7 +214,7 @@ module _ (c : List Rule) (all : AllKnown c c) where
       go true h = h
       go false h = rw (is, at_end a.id (more_values DefaultValue (v ∷ [])) _ rows h) (has_last a.id rows _ (same_id a.id))
 
-  -- what is read of an argument, where all rows have passed: what passed, if it has a row
+  -- the value that is read of an argument, if all rows have passed: the one that passed, if it has a row
   abbrev Read : Rule → Option Text → Type 0
   Read own text = (v : Text) × (text ≡ Some (read_as (reading_by own) v)) × (value_passes own v ≡ true)
 
@@ -232,7 +232,7 @@ module _ (c : List Rule) (all : AllKnown c c) where
       go true same there later = read same h.0
       go false same there later = later there h.1
 
-  -- nothing is read where there is no row
+  -- an argument without a row has no value
   reads_none : (id : Text) (rows : List Row) → has_row id rows ≡ false → one_of id rows ≡ None
   reads_none id [] e = refl
   reads_none id (r ∷ rs) e = go (bytes_eq r.id id) e (reads_none id rs)
@@ -264,7 +264,7 @@ module _ (c : List Rule) (all : AllKnown c c) where
         subst (λ o. Holds (subcommand_or_other c o waiting position word h).0) (sym none)
         (other_word_passes waiting position word h (subst (λ o. other_fault level o word h ≡ []) none e) passed)
 
-    -- a word that goes to a positional ends what waited
+    -- a word for a positional argument ends the argument that waited
     placed_passes : (a : Rule) (word : Text) (h : Held) → positional_fault c false a h ≡ [] → Holds h
         → Holds (pushed a.id word (cond (is_pending a h.pending && takes_several a) h (settled c h)))
     placed_passes a word h e passed = go (is_pending a h.pending && takes_several a) e
@@ -273,7 +273,7 @@ module _ (c : List Rule) (all : AllKnown c c) where
         go true f = passed
         go false f = settle_passes h f passed
 
-    -- what is held after a word
+    -- the rows and the waiting argument after a word
     step_held : (word : Text) (w : Walk) (h : Held) (step : Step) → step_fault level w.position h step ≡ [] → Holds h → Holds (after_step c word w h step).held
     step_held word w h (next waiting) e passed = passed
     step_held word w h (trailing position) e passed = passed
@@ -314,7 +314,7 @@ module _ (c : List Rule) (all : AllKnown c c) where
         let last = none_fails (defaults_fault (settled c end).rows c) _ later.1 in
         defaults_pass c (settled c end).rows all last.0 (settle_passes end later.0 (walk_passes words (walk_from nothing_held) steps.0 tt))
 
-    -- an argument has a value that passed its parser, where the words have no fault and it has a default
+    -- an argument with a default has a value that passed its parser, if the words have no fault
     pub own_value : (own : Rule) (v : Text) (words : List Text) → arg_by_id c own.id ≡ Some own → own.defaults ≡ v ∷ []
         → level_fault level [] nothing_held words false [] ≡ [] → Read own (one_of own.id (rows_after c [] words))
     own_value own v words at default e =
@@ -333,7 +333,7 @@ module _ (c : List Rule) (all : AllKnown c c) where
                 rows_stay own.id xs (with_default rows x) (subst (λ (a : Rule). has_row own.id (with_default rows a) ≡ true) same (default_row own v rows default))
             go false g later = later g
 
-    -- it has none, or one that passed its parser
+    -- it has no value, or one that passed its parser
     pub own_if_given : (own : Rule) (words : List Text) → arg_by_id c own.id ≡ Some own → level_fault level [] nothing_held words false [] ≡ []
         → (one_of own.id (rows_after c [] words) ≡ None) ⊎ Read own (one_of own.id (rows_after c [] words))
     own_if_given own words at e = go (has_row own.id (rows_after c [] words)) refl

@@ -1,4 +1,4 @@
--- Rows of matches by their ids, lists of kinds of errors, and what is found in a list.
+-- Rows of matches by their ids, lists of kinds of errors, and searching a list.
 use Rattle.std.proofs.Common.{◌≡◌, ◌||◌, Bool, cond, true, false, refl, ap, subst, arith, List, [], ◌∷◌, ◌++◌, Some}
 use Rattle.std.proofs.lemmas.Slice.Eq.{bytes_eq-Decides}
 use Rattle.std.specs.Prelude.{find, unwrap_or}
@@ -7,25 +7,25 @@ use Rattle.std.proofs.lemmas.Bool.{ne_eqb}
 use Rattle.clap.specs.Kinds.{Kinds, or_else}
 use Rattle.clap.specs.Walk.{Row, Text, is_empty, at_row, has_row}
 
--- a list of kinds that are those of the first step that fails is empty where no step fails
+-- the kinds of the first step that fails: an empty list if no step fails
 pub none_fails : (a b : Kinds) → or_else a b ≡ [] → (a ≡ []) × (b ≡ [])
 none_fails [] b e = (refl, e)
 none_fails (k ∷ ks) b e = cc
 
--- a list that begins is not empty
+-- a list with a first element is not empty
 pub not_empty : {X : Type 0} (x : X) (xs : List X) → is_empty (x ∷ xs) ≡ false
 not_empty x xs = ne_eqb _ _ (λ h. omega arith)
 
--- of two texts of which one is found, the other is the same
+-- the two elements of a list, of which one is found
 pub some_same : {X : Type 0} (x y : X) → Some x ≡ Some y → x ≡ y
 some_same x y e = ap (λ o. unwrap_or o x) e
 
--- this holds of each of some items, one after the other
+-- a property of each of some items, one after the other
 abbrev pub Each : {X : Type 0} → (X → Type 0) → List X → Type 0
 Each P [] = Unit {0}
 Each P (x ∷ xs) = P x × Each P xs
 
--- so it holds of one that is found among them
+-- so an item that is found among them has the property
 pub found_holds : {X : Type 0} (P : X → Type 0) (test : X → Bool) (xs : List X) → Each P xs → (x : X) → find test xs ≡ Some x → P x
 found_holds P test [] each x e = cc
 found_holds P test (y ∷ ys) each x e = go (test y) e (found_holds P test ys each.1 x)
@@ -34,7 +34,7 @@ found_holds P test (y ∷ ys) each x e = go (test y) e (found_holds P test ys ea
     go true f later = subst P (some_same y x f) each.0
     go false f later = later f
 
--- where no row has the id, what is added for it stands at the end
+-- if no row has the id, the new rows for it come at the end
 pub at_end : (id : Text) (change : Row → List Row) (missing rows : List Row) → has_row id rows ≡ false → at_row id change missing rows ≡ rows ++ missing
 at_end id change missing [] e = refl
 at_end id change missing (r ∷ rs) e = go (bytes_eq r.id id) e (at_end id change missing rs)

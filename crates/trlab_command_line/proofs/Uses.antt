@@ -1,5 +1,5 @@
--- One use of an argument that takes one value, or is a flag or a call for help: where it is no fault, it gives
--- one value, which passed the argument's parser.
+-- One use of an argument that takes one value, or is a flag or a request for help: if it is not a fault, it
+-- gives one value, which has passed the argument's parser.
 use Rattle.std.proofs.Common.{◌≡◌, ◌&&◌, ℕ, zero, suc, Bool, cond, true, false, refl, arith, List, [], ◌∷◌, length, Some}
 use Rattle.std.specs.Prelude.{◌==◌}
 use Rattle.std.proofs.lemmas.Bool.{ne_eqb}
@@ -14,24 +14,24 @@ use Rattle.clap.specs.declared.builder.action.ArgAction.TheVariants.{Set, SetTru
 use Rattle.clap.specs.declared.parser.matches.ValueSource.TheVariants.{CommandLine}
 use Rattle.trlab_command_line.proofs.Rows.{none_fails}
 
--- an argument that takes one value a use, and is used once
+-- an argument that takes one value per use, and is used once
 pub record TakesOne (a : Rule) : Type 0 where
   pub action : a.action ≡ Some Set
   pub range : a.range ≡ Some (record { start_inclusive = 1; end_inclusive = 1 })
 
--- a flag that is given once, and what stands for its use
+-- a flag that may be given once, and the value of its use
 pub record IsFlag (a : Rule) : Type 0 where
   pub action : a.action ≡ Some SetTrue
   pub range : a.range ≡ Some (record { start_inclusive = 0; end_inclusive = 0 })
   pub text : Text
   pub missing : a.missing ≡ text ∷ []
 
--- an argument that calls for help
+-- an argument that shows the help
 pub record IsHelp (a : Rule) : Type 0 where
   pub action : a.action ≡ Some Help
   pub range : a.range ≡ Some (record { start_inclusive = 0; end_inclusive = 0 })
 
--- one value, where one is wanted
+-- an argument that needs one value gets one
 one_value : (n : ℕ) → range_kinds 1 1 n ≡ [] → n ≡ 1
 one_value zero e = cc
 one_value (suc zero) e = refl
@@ -41,7 +41,7 @@ one_value (suc (suc k)) e =
     let bad = rw (some, more) at e in
     cc
 
--- none, where none is wanted
+-- an argument that takes no value gets none
 no_value : (n : ℕ) → range_kinds 0 0 n ≡ [] → n ≡ 0
 no_value zero e = refl
 no_value (suc k) e =
@@ -49,21 +49,21 @@ no_value (suc k) e =
     let bad = rw more at e in
     cc
 
--- what is found amiss in one use: the count of its values, or what its action makes of them
+-- the errors of one use: in the number of its values, or in its action on them
 abbrev count_amiss : Rule → List Text → Kinds
 count_amiss a values = range_kinds (unwrap_or_range a.range).start_inclusive (most_values a) (length values)
 
 abbrev action_amiss : Rule → List Text → List Row → Kinds
 action_amiss a values rows = action_fault (action_of a) false a (values_or_missing a values) rows
 
--- a call for help always is a fault
+-- showing the help is always a fault
 pub help_fault : (a : Rule) (values : List Text) (rows : List Row) → IsHelp a → use_fault false a values rows ≡ [] → ⊥
 help_fault a values rows help e =
     let asked : action_amiss a values rows ≡ [] = (none_fails (count_amiss a values) (action_amiss a values rows) e).1 in
     let bad = rw help.action at asked in
     cc
 
--- a use that is the first gives one value, which passes its parser
+-- the first use gives one value, which passes its parser
 abbrev pub UsesOne : Rule → List Text → List Row → Type 0
 UsesOne a values rows = (v : Text) × (values_or_missing a values ≡ v ∷ []) × (has_row a.id rows ≡ false) × (value_passes a v ≡ true)
 
@@ -106,7 +106,7 @@ flag_use a [] rows is e =
     let used = set_use a is.text rows amiss in
     (is.text, is.missing, used.0, used.1)
 
--- what a use does
+-- the effect of a use on the rows
 abbrev pub used_so : Rule → List Text → List Row → List Row
 used_so a values rows = with_values a.id (reading_by a) CommandLine (values_or_missing a values) (without a.id rows)
 

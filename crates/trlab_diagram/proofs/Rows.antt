@@ -1,4 +1,4 @@
--- What the writer makes of fields that need no quotes.
+-- The output of the writer for fields that need no quotes.
 use Rattle.std.proofs.Common.{◌≡◌, ℕ, ◌<◌, ◌≤◌, ◌^◌, List, [], ◌∷◌, ◌++◌, map, refl, arith, false, append-nil, append_assoc, ◌+◌, length, take, get_or, rules}
 use Rattle.std.specs.Prelude.{⊤, decimal, codes}
 use Rattle.std.specs.List.{join_with_byte}
@@ -36,7 +36,7 @@ plain_digits (c ∷ cs) all = rw (plain_digit c (digit_from_value c all.0).0, pl
 plain_number : (n : ℕ) → n < 2 ^ 128 → needs_quotes default_writer (decimal n) ≡ false
 plain_number n small = plain_digits (decimal n) (decimal_is_IsNumeral_wide n (omega arith)).0.1
 
--- what stands after the first of several plain fields
+-- the output after the first of several plain fields
 plain_body : (first : List ℕ) (fields : List (List ℕ)) → needs_quotes default_writer first ≡ false → ArePlain fields
     → row_body default_writer (first ∷ fields) ≡ join_with_byte 44 (first ∷ fields)
 unfolding fields_text
@@ -89,7 +89,7 @@ series_row = plain_row (codes "step") (codes "cars")
     ∷ codes "cars0" ∷ codes "distance0" ∷ codes "stopped0" ∷ codes "cars1" ∷ codes "distance1" ∷ codes "stopped1" ∷ []) refl
     (refl, (refl, (refl, (refl, (refl, (refl, (refl, (refl, (refl, (refl, (refl, (refl, (refl, tt)))))))))))))
 
--- each of these numbers is one of 128 bits
+-- each of these numbers fits in 128 bits
 abbrev pub AreSmall : List ℕ → Type 0
 AreSmall [] = ⊤
 AreSmall (n ∷ ns) = (n < 2 ^ 128) × AreSmall ns

@@ -1,4 +1,4 @@
--- What the bytes of a table tell.
+-- The bytes of a table determine its points.
 use Rattle.std.proofs.Common.{◌≡◌, ℕ, ◌<◌, ◌≤◌, ◌^◌, List, [], ◌∷◌, ◌++◌, map, All, refl, sym, ◌∙◌, arith, rules, append_assoc}
 use Rattle.std.specs.Prelude.{decimal, flat_map}
 use Rattle.std.specs.Str.Parse.{AllDigits}
@@ -11,7 +11,7 @@ use Rattle.trlab_diagram.specs.Flow.{flow_of}
 use Rattle.trlab_diagram.specs.Table.{points_heading, line_text, point_line}
 use Rattle.trlab_diagram.specs.Laws.{CountsFit64Bits, TableDeterminesPoints}
 
--- digits end where a comma stands
+-- digits end at a comma
 cut : (xs us ys vs : List ℕ) → AllDigits 10 xs → AllDigits 10 us → xs ++ (44 ∷ ys) ≡ us ++ (44 ∷ vs) → (xs ≡ us) × (ys ≡ vs)
 cut [] [] ys vs a b e = (refl, cc e)
 cut [] (u ∷ us) ys vs a b e =
@@ -28,7 +28,7 @@ cut (x ∷ xs) (u ∷ us) ys vs a b e =
     let more = cut xs us ys vs a.1 b.1 rest in
     (cc (same, more.0), more.1)
 
--- a number in front of a comma, and what stands after that
+-- a number before a comma, and the bytes after the comma
 number : (m n : ℕ) (ys vs : List ℕ) → m < 2 ^ 64 → n < 2 ^ 64 → decimal m ++ (44 ∷ ys) ≡ decimal n ++ (44 ∷ vs) → (m ≡ n) × (ys ≡ vs)
 number m n ys vs hm hn e =
     let both = cut (decimal m) (decimal n) ys vs (decimal_is_IsNumeral m hm).0.1 (decimal_is_IsNumeral n hn).0.1 e in
@@ -49,7 +49,7 @@ same_point p q a b c d e f =
     let same : of p.cars p.cells p.steps p.distance p.stopped p.changes ≡ of q.cars q.cells q.steps q.distance q.stopped q.changes = cc (a, b, c, d, e, f) in
     same
 
--- a line in front of others tells its point
+-- a line before others determines its point
 line : (p q : Point) (ps qs : List ℕ) → CountsFit64Bits p → CountsFit64Bits q → line_onto p ps ≡ line_onto q qs → (p ≡ q) × (ps ≡ qs)
 line p q ps qs hp hq e =
     let cars = number p.cars q.cars _ _ hp.cars hq.cars e in
@@ -62,11 +62,11 @@ line p q ps qs hp hq e =
     let end : 10 ∷ ps ≡ 10 ∷ qs = append_cancel_left (decimal (flow_of p)) (10 ∷ ps) (10 ∷ qs) (rw (← same) at changes.1) in
     (same, cc end)
 
--- what stands after the heading
+-- the rows after the heading
 abbrev rows : List Point → List ℕ
 rows points = flat_map line_text (map point_line points)
 
--- some bytes, a comma and more are not nothing
+-- some bytes, a comma and more bytes are not an empty text
 not_nothing : (xs ys : List ℕ) → xs ++ (44 ∷ ys) ≡ [] → ⊥
 not_nothing [] ys e = cc e
 not_nothing (x ∷ xs) ys e = cc e

@@ -1,4 +1,4 @@
--- How explanations end, by what was written.
+-- How explanations end, by the output that was written.
 use Rattle.std.proofs.Common.{◌≡◌, ◌<◌, ℕ, List, [], ◌∷◌, length, refl, subst, Bool, true, inl, inr}
 use Rattle.std.proofs.lemmas.Bool.{lt-ltb}
 use Rattle.std.specs.Prelude.{Option, None, Some, Result, Ok, Err, IfOk, MatchOption, MatchResult}
@@ -33,7 +33,7 @@ pub output_ends_so : {A E : Type 0} (told : Result A E) (rejected : A → Bool) 
 output_ends_so (Ok t) rejected bytes IsWhole e old new whole ends = output_ends IsWhole (rejected t) (bytes t) e old new whole ends
 output_ends_so (Err x) rejected bytes IsWhole e old new whole ends = rw ends.0 (inl ends.1)
 
--- each text is meant to be something
+-- each text has a subject, as which it is explained
 meant_by : (word : List ℕ) (named : Option Subject) → (subject : Subject) × MatchOption named (MayBeMeantAs word subject) (λ s. subject ≡ s)
 meant_by word None = (Check, tt)
 meant_by word (Some named) = (named, refl)
@@ -46,14 +46,14 @@ some_read : (wanted : Option Subject) (text : List ℕ) → (subject : Subject) 
 some_read (Some wanted) text = (wanted, refl)
 some_read None text = some_meant (lines_of text)
 
--- the fault of a text that is too long, and the line by which it is refused
+-- the fault of a text that is too long, and the line of its rejection
 abbrev too_big : Fault
 too_big = record { line = 0; cause = TooBig }
 
 abbrev too_big_line : List ℕ
 too_big_line = fault_line too_big
 
--- the only head for a text that is too long, whatever it is read as
+-- the only head for a text that is too long, for any subject
 abbrev IsBigHead : Head → Type 0
 IsBigHead head = (head.is_rejected ≡ true) × (head.answer ≡ too_big_line) × (head.quote ≡ [])
 
@@ -70,7 +70,7 @@ big_head Sweep text head big told =
 big_head Check text head big told =
     subst (λ (says : Result CheckSaid Fault). IsCheckHead text says head) (rw (lt-ltb TEXT_LIMIT (length text) big) at told.1) told.2
 
--- an explanation of what was read of an input is one of the input
+-- an explanation of the bytes that were read is an explanation of the input
 read_explains : (form : Form) (wanted : Option Subject) (text input : List ℕ) (refused : Bool) (out : List ℕ) → IsInputOrTooLong text input
     → Explains form wanted text refused out → Explains form wanted input refused out
 read_explains form wanted text input refused out (inl same) explains = subst (λ (t : List ℕ). Explains form wanted t refused out) same explains

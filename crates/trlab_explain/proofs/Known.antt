@@ -1,4 +1,5 @@
--- Which numbers are known: the tests are computed for each number below 53, and no greater one passes any.
+-- The known numbers: the tests are computed for each number below 53, and no larger number passes any of
+-- them.
 use Rattle.std.proofs.Common.{◌≡◌, ◌∙◌, ℕ, zero, suc, ◌+◌, ◌-◌, ◌<◌, ◌≤◌, ◌&&◌, ◌||◌, not, refl, sym, ap, cond, subst, arith, inl, inr, List, [], ◌∷◌, Bool, true, false, Option, Some, nat_eq, nat_le, nat_lt}
 use Rattle.std.proofs.lemmas.Bool.{and_parts, false≢true, cases_eq, cases_lt, leb-true, lt-leb, ltb-true, ne_eqb}
 use Rattle.std.specs.Prelude.{is_some}
@@ -36,7 +37,7 @@ same_is false false h = refl
 abbrev has_number : ℕ → Cause → Bool
 has_number n cause = nat_eq (cause_number cause) n
 
--- the causes of the list are known, and so are those of the reasons, and no others
+-- the error numbers of the list are known, and so are those of the reasons, and no others
 abbrev agrees : ℕ → Bool
 agrees n = same (list_any (has_number n) CAUSES || is_within n (41, 52)) (is_known OfCause n)
 
@@ -50,7 +51,7 @@ no_more : (b : Bool) → (b && false || false) ≡ false
 no_more true = refl
 no_more false = refl
 
--- no number from 53 on is that of a cause
+-- no number from 53 on is an error number
 none_within : (ranges : List (ℕ × ℕ)) (n : ℕ) → list_all (λ range. nat_lt range.1 53) ranges ≡ true → 53 ≤ n → list_any (is_within n) ranges ≡ false
 none_within [] n h many = refl
 none_within (range ∷ ranges) n h many =
@@ -65,7 +66,7 @@ none_numbered (cause ∷ causes) n h many =
     let other : nat_eq (cause_number cause) n ≡ false = ne_eqb (cause_number cause) n (λ is. absurd (omega (arith, ltb-true (cause_number cause) 53 both.0, is))) in
     rw (other, none_numbered causes n both.1 many) refl
 
--- something is found exactly if something passes
+-- an element is found exactly if some element passes
 is_some-cond : {X : Type 0} (b : Bool) (x : X) (others : Option X) → is_some (cond b (Some x) others) ≡ (b || is_some others)
 is_some-cond true x others = refl
 is_some-cond false x others = refl
@@ -74,7 +75,7 @@ is_some-find : {X : Type 0} (p : X → Bool) (xs : List X) → is_some (find p x
 is_some-find p [] = refl
 is_some-find p (x ∷ xs) = is_some-cond (p x) x (find p xs) ∙ ap (λ b. p x || b) (is_some-find p xs)
 
--- the number of a cause of the list is known
+-- an error number of the list is known
 pub listed_is_known : (n : ℕ) → is_some (find (has_number n) CAUSES) ≡ true → is_known OfCause n ≡ true
 listed_is_known n h =
     let any : list_any (has_number n) CAUSES ≡ true = sym (is_some-find (has_number n) CAUSES) ∙ h in
@@ -83,7 +84,7 @@ listed_is_known n h =
       | inr many ↦ absurd (false≢true (sym (none_numbered CAUSES n refl many) ∙ any))
     ]
 
--- no other number of a cause is known
+-- no other error number is known
 not_within : (n : ℕ) (b : Bool) → is_within n (41, 52) ≡ b → ((reason : ℕ) → n ≡ 40 + reason → ¬ ((1 ≤ reason) × (reason ≤ 12))) → b ≡ false
 not_within n false is none = refl
 not_within n true is none =

@@ -82,7 +82,7 @@ plain_from after (t ∷ ts) all =
 pub plain_print : (ts : List Token) → All HasPlainText ts → All IsPlain (print ts)
 plain_print = plain_from false
 
--- plain text is UTF-8
+-- plain text is valid UTF-8
 pub utf8_plain : (cs : List ℕ) → All IsPlain cs → IsUtf8 cs
 utf8_plain cs all = IsUtf8-from_ascii cs (IsAscii-from_all cs (All-weaker IsPlain (λ c. c < 128) (λ c is. omega (arith, few c is)) cs all))
 

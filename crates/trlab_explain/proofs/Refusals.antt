@@ -1,4 +1,4 @@
--- The head for a refused text, by what it is read as.
+-- The head for a rejected text, by its subject.
 use Rattle.std.proofs.Common.{ℕ, List}
 use Rattle.std.specs.Prelude.{Result, Ok, Err, OnOk}
 use Rattle.trlab_texts.specs.declared.fault.Cause.{Cause}

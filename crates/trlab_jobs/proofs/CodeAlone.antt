@@ -1,4 +1,4 @@
--- The line of a program that stands alone in its text, and what is asked of a program.
+-- A program that is the only line of its text, and the question of a check about a program.
 use Rattle.std.proofs.Common.{◌≡◌, ◌≢◌, ℕ, List, [], ◌∷◌, refl, subst}
 use Rattle.std.specs.Prelude.{Ok, Err}
 use Rattle.trlab_code.specs.Program.{Program}
@@ -12,7 +12,7 @@ use Rattle.trlab_texts.specs.Programs.{code_line}
 use Rattle.trlab_jobs.specs.declared.check.Question.{Question}
 use Rattle.trlab_jobs.specs.Check.{check_of, question_of, Check, CheckLinesParseTo, LoneCodeParsesTo, ProgramParsesTo, QuestionParsesTo}
 
--- the line of a program alone, before other lines, and of none
+-- the line of a program, if no line follows it
 pub code_is_alone : (text : List ℕ) (left : List (List ℕ)) (program : Program) → code_line text (Ok program) → left ≡ [] → LoneCodeParsesTo text left (Ok program)
 code_is_alone text left program says none = rw none (Ok program, (says, refl))
 
@@ -24,13 +24,13 @@ pub no_code_alone : (text : List ℕ) (left : List (List ℕ)) (fault : LineFaul
 no_code_alone text left (Wrong cause) says = (Err cause, (says, refl))
 no_code_alone text left NoMemory says = tt
 
--- what is asked of a program by its first line, which says the question and the line that begins it
+-- the question about a program, from the first line: the line states the question, or begins the program
 pub check_says : (text line : List ℕ) (question : Question) (left : List (List ℕ)) (program : Program) → (question, line) ≡ question_of text
     → ProgramParsesTo line left (Ok program) → CheckLinesParseTo (text ∷ left) (Ok (check_of question program))
 check_says text line question left program is says =
     subst (λ (first : Question × List ℕ). QuestionParsesTo first left (Ok (check_of question program))) is (Ok program, (says, refl))
 
--- lines that are no program have its fault, whatever is asked
+-- lines that are not a program have the program's fault, for every question
 pub check_fails : (text line : List ℕ) (question : Question) (left : List (List ℕ)) (fault : TextFault) → (question, line) ≡ question_of text
     → Reports {A = Program} (ProgramParsesTo line left) (Err fault) → Reports {A = Check} (CheckLinesParseTo (text ∷ left)) (Err fault)
 check_fails text line question left (At number cause) is says =

@@ -13,7 +13,7 @@ use Rattle.trlab_jobs.specs.Counts.{cars_line, counts_from}
 abbrev pub behind : List ℕ → Result (List ℕ) Fault → Result (List ℕ) Fault
 behind first said = said >>= λ counts. Ok (first ++ counts)
 
--- what the lines that are left say, after the counts that were read, is what all lines say
+-- the result for the remaining lines, after the counts that were read, is the result for all lines
 abbrev pub ReadSoFar : ℕ → ℕ → Rest → List ℕ → ℕ → Rest → Type 0
 ReadSoFar cells steps begin counts point place =
     behind counts (counts_from cells steps point place.number place.left) ≡ counts_from cells steps 1 begin.number begin.left
@@ -22,12 +22,12 @@ behind_more : (first : List ℕ) (count : ℕ) (said : Result (List ℕ) Fault) 
 behind_more first count (Ok counts) = ap Ok (sym (append_assoc first (count ∷ []) counts))
 behind_more first count (Err fault) = refl
 
--- what was said, or something else
+-- a result, or another one if it is a fault
 abbrev said_or : ℕ × Rest → Result (ℕ × Rest) Fault → ℕ × Rest
 said_or other (Ok found) = found
 said_or other (Err fault) = other
 
--- what a line said, by what was told of it
+-- the result for a line, from the result for its words
 line_said : (number count : ℕ) (left : List (List ℕ)) (after : Rest) (says : Result ℕ Cause) → Ok (count, after) ≡ line_with_rest number left says
     → (says ≡ Ok count) × ((after.number ≡ number + 1) × (after.left ≡ left))
 line_said number count left after (Ok n) e =
@@ -48,7 +48,7 @@ line_more cells steps point number count (text ∷ left) after told =
     let said = line_said number count left after told.0 told.1.1 in
     rw (said.1.0, said.1.1, sym told.1.0 ∙ said.0) refl
 
--- a line has a fault
+-- a line with a fault
 line_fault : (cells steps point number : ℕ) (left : List (List ℕ)) (fault : Fault) → left ≢ []
     → LineParsesTo {A = ℕ} (exactly (cars_line cells steps point)) number left (Err fault) → counts_from cells steps point number left ≡ Err fault
 unfolding counts_from
@@ -65,7 +65,7 @@ one_more cells steps begin counts point place after count so_far told =
     sym (behind_more counts count (counts_from cells steps (point + 1) after.number after.left))
     ∙ (ap (behind counts) (sym (line_more cells steps point place.number count place.left after told)) ∙ so_far)
 
--- the reading stops at a fault
+-- reading stops at a fault
 pub stopped : (cells steps : ℕ) (begin : Rest) (counts : List ℕ) (point : ℕ) (place : Rest) (fault : TextFault) → ReadSoFar cells steps begin counts point place → place.left ≢ []
     → Reports {A = ℕ × Rest} (LineParsesTo (exactly (cars_line cells steps point)) place.number place.left) (Err fault)
     → Reports {A = List ℕ} (λ says. says ≡ counts_from cells steps 1 begin.number begin.left) (Err fault)

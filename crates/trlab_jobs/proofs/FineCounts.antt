@@ -1,4 +1,4 @@
--- Counts of cars fit a sweep.
+-- Numbers of cars that fit a sweep.
 use Rattle.std.proofs.Common.{◌≡◌, ℕ, zero, suc, ◌+◌, ◌*◌, ◌<◌, ◌≤◌, List, [], ◌∷◌, length, get_or, arith}
 use Rattle.std.proofs.lemmas.Bool.{ltb-false}
 use Rattle.std.specs.Prelude.{All, Result, Ok, Err, nat_lt, codes}

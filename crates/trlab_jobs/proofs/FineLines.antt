@@ -1,4 +1,4 @@
--- What lines say: numbers in their ranges, chances that a program may have, and steps in order.
+-- The values of lines: numbers in their ranges, valid probabilities of a program, and steps in order.
 use Rattle.std.proofs.Common.{◌≡◌, ℕ, ◌<◌, ◌≤◌, Bool, true, false, List, refl, arith, leb-true, ltb-true}
 use Rattle.std.proofs.lemmas.Bool.{eqb-false}
 use Rattle.std.specs.Prelude.{◌==◌, ◌&&◌, ok_or, Result, Ok, Err, nat_le, nat_lt, codes, if◌then◌else◌}
@@ -32,7 +32,7 @@ key_fine (Err cause) fine = fine
 pub key_line_fine : (text : List ℕ) → Fine Anything (key_line text)
 key_line_fine text = key_fine (word_after (codes "key ") text) (word_fine (codes "key ") text)
 
--- the chances of a rule are such as a program may have
+-- the probabilities of a rule are valid for a program
 abbrev pub Chances : RuleLine ℕ → Type 0
 Chances (Nasch p) = p ≤ CERTAIN
 Chances (Vdr p p0) = (p ≤ CERTAIN) × (p0 ≤ CERTAIN)

@@ -14,7 +14,7 @@ use Rattle.trlab_jobs.specs.Later.{later_rules}
 use Rattle.trlab_jobs.specs.Job.{Job, job, road_line, key_line, limit_line, steps_line, JobLinesParseTo, ReadingHasResult}
 use Rattle.trlab_texts.proofs.Readings.{goes_on}
 
--- what is read after each line
+-- the part of a job that is read after each line
 abbrev pub after_all : List ℕ → Cells → Programs → ℕ → Sheet → Reading Job
 after_all key road first steps later = give (record { key = key; road = road; first = first; later = later; steps = steps })
 
@@ -62,7 +62,7 @@ pub behind_all : (key : List ℕ) (road : Cells) (first : Programs) (steps : ℕ
     → after_steps key road first steps at (Ok (record { key = key; road = road; first = first; later = later; steps = steps }, after))
 behind_all key road first steps later at after says = (Ok (later, after), (says, refl))
 
--- what the lines of a text say, from the place before the first of them on
+-- the result for a text is the result for its lines, from the place before the first line on
 pub lines_say : (text : List ℕ) (begin after : Rest) (x : Job) → begin ≡ all_lines text → whole begin (Ok (x, after)) → JobLinesParseTo text (Ok x)
 unfolding job
 lines_say text begin after x e says = (after, subst (λ (p : Rest). whole p (Ok (x, after))) e says)
@@ -78,7 +78,7 @@ pub ends_in_fault : (reading : Reading Job) (place : Rest) (fault : TextFault) �
 ends_in_fault reading place (At line cause) says = says
 ends_in_fault reading place Memory says = tt
 
--- what the lines of a text say, where those from a place on were read up to the end
+-- the result for a text, if the lines from some place on were read to the end
 pub lines_end : (text : List ℕ) (begin place : Rest) (reading : Reading Job) (says : Result Job TextFault) → begin ≡ all_lines text → Reports (ReadingHasResult reading place) says
     → ((out : Result (Job × Rest) TextFault) → Reports (reading place) out → Reports (whole begin) out) → Reports (JobLinesParseTo text) says
 lines_end text begin place reading (Ok x) e (after, told) behind = lines_say text begin after x e (behind (Ok (x, after)) told)

@@ -17,7 +17,7 @@ abbrev pub behind : Sheet → Result (Sheet × Rest) TextFault → Result (Sheet
 behind first (Ok found) = Ok (first ++ found.0, found.1)
 behind first (Err fault) = Err fault
 
--- what the lines that are left say, after the later rules that were read, is what all lines say
+-- the result for the remaining lines, after the later rules that were read, is the result for all lines
 pub record ReadSoFar (lanes steps : ℕ) (start : Rest) (later : Sheet) (room least : ℕ) (place : Rest) : Type 0 where
   pub goes_on : (out : Result (Sheet × Rest) TextFault) → Reports (later_rules_from room lanes steps least place) out
       → Reports (later_rules lanes steps start) (behind later out)
@@ -27,20 +27,20 @@ behind_more : (later : Sheet) (entry : ℕ × Programs) (out : Result (Sheet × 
 behind_more later entry (Ok found) = ap (λ t. Ok (t, found.1)) (sym (append_assoc later (entry ∷ []) found.0))
 behind_more later entry (Err fault) = refl
 
--- a reading and what is said before what follows
+-- a reading whose result has one more entry before the following ones
 said_before : (reading : Reading Sheet) (entry : ℕ × Programs) (place : Rest) (out : Result (Sheet × Rest) TextFault)
     → Reports (reading place) out → Reports ((reading >>= λ later. give (entry ∷ later)) place) (behind (entry ∷ []) out)
 said_before reading entry place (Ok found) told = (Ok found, (told, refl))
 said_before reading entry place (Err (At line cause)) told = (Err (record { line = line; cause = cause }), (told, refl))
 said_before reading entry place (Err Memory) told = tt
 
--- where a line is left it is read
+-- if a line is left, it is read
 open_line : (reading : Reading Sheet) (place : Rest) (left : List (List ℕ)) (out : Result (Sheet × Rest) TextFault) → left ≢ []
     → Reports (reading place) out → Reports (to_the_end left reading place) out
 open_line reading place [] out some told = absurd (some refl)
 open_line reading place (text ∷ left) out some told = told
 
--- what is read of a later rule and of those after it
+-- reading a later rule, and those after it
 abbrev one_and_more : ℕ → ℕ → ℕ → ℕ → Reading Sheet
 one_and_more room lanes steps least = later_rule (suc room) lanes steps least >>= λ entry.
     later_rules_from room lanes steps (entry.0 + 1) >>= λ later. give (entry ∷ later)
@@ -55,7 +55,7 @@ line_more lanes steps room least place after entry out some one told =
     (goes_on (later_rule (suc room) lanes steps least) (λ entry. later_rules_from room lanes steps (entry.0 + 1) >>= λ later. give (entry ∷ later)) place after entry (behind (entry ∷ []) out) one
     (said_before (later_rules_from room lanes steps (entry.0 + 1)) entry after out told))
 
--- a later rule has a fault
+-- a later rule with a fault
 line_fault : (lanes steps room least : ℕ) (place : Rest) (fault : TextFault) → place.left ≢ []
     → Reports {A = (ℕ × Programs) × Rest} (later_rule room lanes steps least place) (Err fault)
     → Reports {A = Sheet × Rest} (later_rules_from room lanes steps least place) (Err fault)
@@ -92,7 +92,7 @@ one_more lanes steps start later room left least place after from rule s some e 
           (s.kept (entry ∷ rest) (rises, (within, (suits, more))));
     }
 
--- the reading stops at a fault
+-- reading stops at a fault
 pub stopped : (lanes steps : ℕ) (start : Rest) (later : Sheet) (room least : ℕ) (place : Rest) (fault : TextFault)
     → ReadSoFar lanes steps start later room least place → place.left ≢ []
     → Reports {A = (ℕ × Programs) × Rest} (later_rule room lanes steps least place) (Err fault)

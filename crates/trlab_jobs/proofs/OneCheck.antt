@@ -1,4 +1,4 @@
--- A check text says exactly one thing: a program and a question, or a first fault.
+-- A check text has exactly one meaning: a program and a question, or a first fault.
 use Rattle.std.proofs.Common.{ℕ, List, [], ◌∷◌}
 use Rattle.std.specs.Prelude.{Option, None, Some, Result, Ok, Err, IfOk}
 use Rattle.trlab_code.specs.declared.program.Kind.{Kind}
@@ -45,7 +45,7 @@ lines_one (text ∷ left) =
 check_text : (text : List ℕ) → OneText HasProgram (ParsesAsCheck text)
 check_text text = text_one (λ t. CheckLinesParseTo (lines_of t)) text (lines_one (lines_of text))
 
--- it says something, and what it says is a program
+-- a check text has a meaning, and without a fault this is a program
 pub says_program : (text : List ℕ) → (says : Result Check Fault) × (ParsesAsCheck text says × IfOk says HasProgram)
 says_program text = said (check_text text)
 

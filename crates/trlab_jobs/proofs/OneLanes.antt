@@ -1,4 +1,4 @@
--- Lanes say exactly one thing: a legal road, or a first fault.
+-- Lanes have exactly one meaning: a legal road, or a first fault.
 use Rattle.std.proofs.Common.{◌≡◌, ℕ, List, ◌∷◌, refl, ◌∙◌, ap}
 use Rattle.std.specs.Prelude.{Option, IfSome, Result, Ok, Err, codes, option_to_list}
 use Rattle.trlab_road.specs.declared.fault.RoadFault.{RoadFault}
@@ -13,7 +13,7 @@ use Rattle.trlab_texts.proofs.Fine.{Anything, FineText, road_other, word_fine}
 use Rattle.trlab_texts.proofs.OneAnswer.{OneText, OneReading, exact_line, then_one, perhaps_one, before_one}
 use Rattle.trlab_jobs.specs.Lanes.{LanesParseTo, line_of_fault, line_of_last_lane, lane_word, second_lane, road_of, lanes}
 
--- what pictures say, with the line and the cause of a fault
+-- the result for pictures, with the line and the error number of a fault
 abbrev in_text : ℕ → ℕ → Result Cells RoadFault → Result Cells Fault
 in_text first last (Ok road) = Ok road
 in_text first last (Err wrong) = Err (record { line = line_of_fault first last wrong; cause = Road wrong })

@@ -1,4 +1,4 @@
--- Rules of texts say exactly one thing: a rule for the lanes of the road, or a first fault.
+-- Rules of texts have exactly one meaning: a rule for the lanes of the road, or a first fault.
 use Rattle.std.proofs.Common.{◌≡◌, ◌≢◌, ℕ, zero, suc, ◌+◌, ◌<◌, ◌≤◌, Bool, true, false, List, [], ◌∷◌, length, refl, sym, ◌∙◌, ap, arith}
 use Rattle.std.proofs.lemmas.Bool.{eqb-false}
 use Rattle.std.specs.Prelude.{Option, None, Some, IfSome, MatchOption, Result, Ok, Err, codes, nat_eq}
@@ -50,7 +50,7 @@ budgeted kind program good =
 accepts_one : (kind : Kind) (program : Program) (checked other : CheckedProgram) → VerifiesAs kind program checked → VerifiesAs kind program other → checked ≡ other
 accepts_one kind program checked other p q = checked_one checked other (p.0 ∙ sym q.0) kind p.1.1 q.1.1
 
--- rules of the same programs are one
+-- rules with the same programs are equal
 programs_are : (rule other : Programs) → rule.motion ≡ other.motion → rule.change ≡ other.change → rule ≡ other
 programs_are rule other motion change =
     let make : CheckedProgram → Option CheckedProgram → Programs = λ m c. record { motion = m; change = c } in
@@ -81,7 +81,7 @@ motion_one lanes motion good =
       only = motion_only motion found.0 found.1;
     }
 
--- a change program that must be there
+-- a change program that must exist
 change_is : (change : Program) (found : Option CheckedProgram) (checked : CheckedProgram) → MatchOption found ⊥ (VerifiesAs Change change) → VerifiesAs Change change checked → found ≡ Some checked
 change_is change None checked p is = absurd p
 change_is change (Some other) checked p is = ap Some (accepts_one Change change other checked p is)
@@ -126,7 +126,7 @@ misplaced : (first : ℕ) (left : List (List ℕ)) → IsOtherFault (misplacemen
 misplaced first [] = line_other
 misplaced first (text ∷ left) = part_misplaced (bytes_eq text (heading_line Change)) first text left
 
--- a change program for a road of so many lanes
+-- a change program for a road with this number of lanes
 abbrev Changes : ℕ → CheckedProgram → Type 0
 Changes lanes change = IsChecked Change change × (lanes ≡ 2)
 
@@ -135,7 +135,7 @@ pub record FewLanes (lanes : ℕ) : Type 0 where
   pub some : 1 ≤ lanes
   pub few : lanes ≤ 2
 
--- a road that has not one lane has two
+-- a road that does not have one lane has two
 not_one : (lanes : ℕ) → FewLanes lanes → nat_eq lanes 1 ≡ false → lanes ≡ 2
 not_one lanes few other = let apart : lanes ≢ 1 = eqb-false lanes 1 other in omega arith
 

@@ -1,4 +1,4 @@
--- A sweep text says exactly one thing: a sweep that can be run, or a first fault.
+-- A sweep text has exactly one meaning: a sweep that can be run, or a first fault.
 use Rattle.std.proofs.Common.{◌≡◌, ℕ, ◌+◌, ◌-◌, ◌*◌, ◌≤◌, List, length, sym, subst, arith}
 use Rattle.std.specs.Prelude.{All, Result, Ok, Err, IfOk, codes}
 use Rattle.trlab_bounds.specs.declared.roads.TheConstants.{MAX_LENGTH, MAX_LANES}
@@ -104,7 +104,7 @@ with_counts_fine (Ok found) is =
     (counts_fine (cell_count found.0.shape) (all_steps found.0.span) found.1.number found.1.left)
 with_counts_fine (Err fault) fine = fine
 
--- once what the points have in common was read, the counts make a sweep that can be run
+-- after the part that all points share was read, the numbers of cars make a sweep that can be run
 pub said_stored : (common : Setup) (cars : List ℕ) (at after : Rest) → setup at (Ok (common, after))
     → Ok cars ≡ counts (cell_count common.shape) (all_steps common.span) after.number after.left → IsStoredSweep (record { setup = common; cars = cars })
 said_stored common cars at after says counted =
@@ -115,7 +115,7 @@ said_stored common cars at after says counted =
 sweep_text : (text : List ℕ) → OneText IsStoredSweep (ParsesAsSweep text)
 sweep_text text = text_one SweepLinesParseTo text (made with_counts (setup_one (all_lines text)).one with_counts_fine)
 
--- it says something, and what it says can be run
+-- a sweep text has a meaning, and without a fault this can be run
 pub says_stored : (text : List ℕ) → (says : Result Sweep Fault) × (ParsesAsSweep text says × IfOk says IsStoredSweep)
 says_stored text = said (sweep_text text)
 

@@ -1,4 +1,4 @@
--- A job text says exactly one thing: a job that can be run, or a first fault.
+-- A job text has exactly one meaning: a job that can be run, or a first fault.
 use Rattle.std.proofs.Common.{◌≡◌, ℕ, List, length, refl, ◌∙◌, ap}
 use Rattle.std.specs.Prelude.{Result, Ok, Err, IfOk, codes}
 use Rattle.trlab_bounds.specs.declared.roads.TheConstants.{MAX_LIMIT}
@@ -31,7 +31,7 @@ limit_one = exact_line limit_line (λ text. numbered (codes "limit ") text 1 MAX
 few_lanes : (road : Cells) → IsLegal road → FewLanes (length road.lanes)
 few_lanes road legal = record { some = legal.shape.lanes.some_lane; few = legal.shape.lanes.few_lanes }
 
--- what is read after the lanes
+-- the part that is read after the lanes
 lanes_on : (key : List ℕ) (road : Cells) → IsLegal road → OneReading IsStoredJob (after_lanes key road)
 lanes_on key road legal =
     let few = few_lanes road legal in
@@ -66,7 +66,7 @@ job_one =
     then_one (line (exactly limit_line)) (after_limit key) limit_one (λ limit any.
     then_one (lanes limit) (after_lanes key) (lanes_one limit) (lanes_on key))))
 
--- what was read up to the end
+-- a result without its end
 abbrev without_rest : {A : Type 0} → Result (A × Rest) Fault → Result A Fault
 without_rest (Ok found) = Ok found.0
 without_rest (Err fault) = Err fault
@@ -81,7 +81,7 @@ with_rest : {A : Type 0} (reading : Reading A) (place : Rest) (says : Result A F
 with_rest reading place (Ok x) p = (Ok (x, p.0), (p.1, refl))
 with_rest reading place (Err fault) p = (Err fault, (p, refl))
 
--- a text says what its lines say up to the end
+-- the meaning of a text is the meaning of its lines up to the end
 to_the_end : {A : Type 0} {P : A → Type 0} (reading : Reading A) (place : Rest) → OnePart P (reading place) → OneText P (ReadingHasResult reading place)
 to_the_end {A} {P} reading place part =
     let one = part.one in
@@ -96,7 +96,7 @@ to_the_end {A} {P} reading place part =
 pub job_text : (text : List ℕ) → OneText IsStoredJob (ParsesAsJob text)
 job_text text = text_one JobLinesParseTo text (to_the_end job (all_lines text) (job_one (all_lines text)))
 
--- it says something, and what it says can be run
+-- a job text has a meaning, and without a fault this can be run
 pub says_plain : (text : List ℕ) → (says : Result Job Fault) × (ParsesAsJob text says × IfOk says IsStoredJob)
 says_plain text = said (job_text text)
 

@@ -1,4 +1,4 @@
--- What is said of a rule by its line, and by the lines after it.
+-- The result for a rule, from its line and the lines after it.
 use Rattle.std.proofs.Common.{◌≡◌, ◌≤◌, ℕ, Bool, true, false, Option, None, Some, arith, ap, refl, subst}
 use Rattle.std.specs.Prelude.{Result, Ok, Err, MatchResult, IsSome, nat_eq}
 use Rattle.std.proofs.lemmas.Bool.{eqb-false}
@@ -16,7 +16,7 @@ use Rattle.trlab_jobs.specs.RuleParts.{change_if_two_lanes, next_is_change, chan
 use Rattle.trlab_jobs.specs.Later.{later_rule}
 use Rattle.trlab_texts.proofs.Readings.{goes_on, stops}
 
--- what a line says is told, of the line before a place
+-- the result for a line is that of the line before a place
 pub line_told : (Says : Result Programs Cause → Type 0) (number : ℕ) (place : Rest) (found : Result Programs LineFault) (out : Result (Programs × Rest) TextFault)
     → ReportsLine Says found → MatchResult found (λ rule. out ≡ Ok (rule, place)) (λ fault. out ≡ Err (text_fault number fault)) → Reports (result_of_line number Says place) out
 line_told Says number place (Ok rule) out told is = rw is (Ok rule, (told, refl))
@@ -28,14 +28,14 @@ pub rule_line_fails : (lanes : ℕ) (place : Rest) (fault : TextFault) → Repor
     → Reports {A = Programs × Rest} (rule lanes place) (Err fault)
 rule_line_fails lanes place fault told = stops (line (exactly rule_line)) (rule_from lanes place.number) place fault told
 
--- it was read, and its programs stand after it
+-- the line was read, and the programs of the rule follow it
 pub behind_rule_line : (lanes number : ℕ) (place after : Rest) (at : RuleLine ℕ) (out : Result (Programs × Rest) TextFault) → number ≡ place.number
     → line (exactly rule_line) place (Ok (at, after)) → Reports (rule_from lanes number at after) out → Reports (rule lanes place) out
 behind_rule_line lanes number place after at out here one told =
     goes_on (line (exactly rule_line)) (rule_from lanes place.number) place after at out one
     (subst (λ n. Reports (rule_from lanes n at after) out) here told)
 
--- what is read after the line of a later rule
+-- the part that is read after the line of a later rule
 abbrev after_line : ℕ → ℕ → ℕ × RuleLine ℕ → Reading (ℕ × Programs)
 after_line lanes number at = rule_from lanes number at.1 >>= λ rule. give (at.0, rule)
 
@@ -46,7 +46,7 @@ pub later_line_fails : (room lanes steps least : ℕ) (place : Rest) (fault : Te
 later_line_fails room lanes steps least place fault told =
     stops (line (exactly (later_line room steps least))) (after_line lanes place.number) place fault told
 
--- its programs have one
+-- its programs have a fault
 pub later_programs_fail : (room lanes steps least number : ℕ) (place after : Rest) (at : ℕ × RuleLine ℕ) (fault : TextFault) → number ≡ place.number
     → line (exactly (later_line room steps least)) place (Ok (at, after))
     → Reports {A = Programs × Rest} (rule_from lanes number at.1 after) (Err fault)
@@ -63,12 +63,12 @@ pub later_says : (room lanes steps least number : ℕ) (place after behind : Res
 later_says room lanes steps least number place after behind at rule here one two =
     (Ok (at, after), (one, (Ok (rule, behind), (rw here at two, refl))))
 
--- where a change part was read, the road has two lanes
+-- if a change part was read, the road has two lanes
 change_on_two : (one_lane : Bool) (lanes : ℕ) (place after : Rest) (change : CheckedProgram) → (one_lane ≡ false → lanes ≡ 2) → change_if_two_lanes one_lane place (Ok (change, after)) → lanes ≡ 2
 change_on_two true lanes place after change two says = absurd cc
 change_on_two false lanes place after change two says = two refl
 
--- what was read, if there is something
+-- the change program that was read, if there is one
 abbrev read_of : Result (Option CheckedProgram × Rest) Fault → Option CheckedProgram
 read_of (Ok found) = found.0
 read_of (Err fault) = None

@@ -1,4 +1,4 @@
--- What is said of a road by its lanes, line after line.
+-- The result for a road, from its lanes, line by line.
 use Rattle.std.proofs.Common.{◌≡◌, ℕ, List, refl, subst}
 use Rattle.std.specs.Prelude.{Option, Result, Ok, Err}
 use Rattle.trlab_road.specs.Cells.{Cells}
@@ -8,7 +8,7 @@ use Rattle.trlab_texts.specs.Lines.{Rest}
 use Rattle.trlab_texts.specs.Reading.{Fault, line, exactly, Reports, before}
 use Rattle.trlab_jobs.specs.Lanes.{lane_word, second_lane, PicturesParseTo, lanes}
 
--- what the pictures say, by the line of the first lane
+-- the result for the pictures, by the line of the first lane
 abbrev PicturesSayAt : ℕ → List ℕ → Option (List ℕ) → ℕ → Result Cells Fault → Type 0
 PicturesSayAt limit picture second first says = PicturesParseTo first limit picture second says
 

@@ -1,4 +1,4 @@
--- The points of a sweep text, after what they have in common.
+-- The points of a sweep text, after the part that they share.
 use Rattle.std.proofs.Common.{◌≡◌, ℕ, List, ap}
 use Rattle.std.specs.Prelude.{Ok, Err}
 use Rattle.trlab_asm.specs.Results.{map_ok}
@@ -18,7 +18,7 @@ counts_fail common text at after (At line cause) begins says told =
     (Ok (common, after), (rw begins at says, ap (map_ok (λ cars. record { setup = common; cars = cars })) told))
 counts_fail common text at after Memory begins says told = tt
 
--- the counts of the points make a sweep of what they have in common
+-- the numbers of cars of the points complete the shared part to a sweep
 pub counts_said : (common : Setup) (cars : List ℕ) (text : List ℕ) (at after : Rest) → at ≡ all_lines text → setup at (Ok (common, after))
     → Ok cars ≡ counts (cell_count common.shape) (all_steps common.span) after.number after.left
     → SweepLinesParseTo text (Ok (record { setup = common; cars = cars }))

@@ -13,7 +13,7 @@ use Rattle.trlab_jobs.specs.Shapes.{length_line, lanes_line, warm_line, measure_
 use Rattle.trlab_jobs.specs.Sweep.{Setup, sweep_line, sweep_heading, setup}
 use Rattle.trlab_texts.proofs.Readings.{goes_on, stops}
 
--- what is read after each line of the roads
+-- the part that is read after each line of the roads
 abbrev pub after_cells : ℕ → ℕ → Reading Shape
 after_cells limit cells = line (exactly lanes_line) >>= λ lanes. give (record { limit = limit; length = cells; lanes = lanes })
 
@@ -40,7 +40,7 @@ pub shape_said : (limit cells lanes : ℕ) (at after behind end : Rest) → line
     → line (exactly lanes_line) behind (Ok (lanes, end)) → shape at (Ok (record { limit = limit; length = cells; lanes = lanes }, end))
 shape_said limit cells lanes at after behind end one two three = (Ok (limit, after), (one, (Ok (cells, behind), (two, (Ok (lanes, end), (three, refl))))))
 
--- what is read after the first line of the steps
+-- the part that is read after the first line of the steps
 abbrev pub after_warm : ℕ → Reading Span
 after_warm warm = line (exactly measure_line) >>= λ measure. give (record { warm = warm; measure = measure })
 
@@ -63,7 +63,7 @@ sweep_fails at fault told = stops (line (exactly sweep_line)) (λ _. line (exact
 pub key_told : (at after : Rest) (out : Result (List ℕ × Rest) TextFault) → line (exactly sweep_line) at (Ok (tt, after)) → Reports (line (exactly key_line) after) out → Reports (sweep_heading at) out
 key_told at after out one told = goes_on (line (exactly sweep_line)) (λ _. line (exactly key_line)) at after tt out one told
 
--- what is read after the key, the roads and the rule
+-- the part that is read after the key, the roads and the rule
 abbrev pub after_rule : List ℕ → Shape → Programs → Reading Setup
 after_rule key roads first = span >>= λ steps. give (record { key = key; shape = roads; rule = first; span = steps })
 

@@ -1,4 +1,4 @@
--- A text that is cut after its first line.
+-- Cutting a text after its first line.
 use Rattle.std.proofs.Common.{◌≡◌, ◌==◌, ℕ, suc, ◌+◌, ◌<◌, ◌≤◌, List, [], ◌∷◌, ◌++◌, length, take, drop, get_or, refl, sym, ◌∙◌, ap, subst, arith, Bool, true, false, cond, add-one, nat_lt, drop-cons}
 use Rattle.std.specs.Prelude.{Option, None, Some, unwrap_or}
 use Rattle.std.specs.List.{position, position_or_len}
@@ -15,7 +15,7 @@ rest_has_no_end c line none = λ k d inside. none (suc k) d (omega arith)
 first_is_no_end : (c : ℕ) (line : List ℕ) → HasNoLineFeed (c ∷ line) → (c == 10) ≡ false
 first_is_no_end c line none = ne_eqb c 10 (none 0 0 (omega arith))
 
--- what stands before an LF is a line, and the rest has the other lines
+-- the bytes before an LF are a line, and the rest has the other lines
 pub line_and_rest : (line rest : List ℕ) → HasNoLineFeed line → lines_of (line ++ (10 ∷ rest)) ≡ line ∷ lines_of rest
 unfolding lines_of
 line_and_rest [] rest none = refl
@@ -27,18 +27,18 @@ unfolding lines_of
 last_line c [] none = rw (first_is_no_end c [] none) refl
 last_line c (d ∷ line) none = rw (first_is_no_end c (d ∷ line) none, last_line d line (rest_has_no_end c (d ∷ line) none)) refl
 
--- no bytes are no line
+-- a text without bytes has no line
 pub no_line : lines_of [] ≡ []
 unfolding lines_of
 no_line = refl
 
--- a text of no length has no line
+-- a text of length 0 has no line
 pub no_line_in : (text : List ℕ) → length text ≡ 0 → lines_of text ≡ []
 unfolding lines_of
 no_line_in [] empty = refl
 no_line_in (c ∷ text) empty = absurd (omega arith)
 
--- nor has it a byte
+-- nor does it have a byte
 pub no_byte_in : (text : List ℕ) → length text ≡ 0 → text ≡ []
 no_byte_in [] empty = refl
 no_byte_in (c ∷ text) empty = absurd (omega arith)
@@ -50,13 +50,13 @@ past_the_end : (p n : ℕ) (b : Bool) → nat_lt p n ≡ b → cond b (Some p) N
 past_the_end p n true e none = cc
 past_the_end p n false e none = ltb-false p n e
 
--- where no LF is found
+-- no LF is found
 pub nowhere : (text : List ℕ) → position (λ byte. byte == 10) text ≡ None → HasNoLineFeed text
 nowhere text none =
     let beyond : length text ≤ position_or_len (λ byte. byte == 10) text = past_the_end (position_or_len (λ byte. byte == 10) text) (length text) (nat_lt (position_or_len (λ byte. byte == 10) text) (length text)) refl none in
     λ k d inside. differs (get_or text k d) (fails_before_first (λ byte. byte == 10) text k d (omega arith))
 
--- where one is found, before that there is none
+-- an LF is found, and there is none before it
 none_before : (text : List ℕ) (end : ℕ) → position (λ byte. byte == 10) text ≡ Some end → HasNoLineFeed (take end text)
 none_before text end found =
     let at = position-Some (λ byte. byte == 10) text end 0 found in
@@ -65,7 +65,7 @@ none_before text end found =
     let others = position-Some (λ byte. byte == 10) text end d found in
     rw (get_or-take end text k d below) (differs (get_or text k d) (others.2 k below))
 
--- and the text is what stands before it, the LF, and what stands after it
+-- the text consists of the bytes before the LF, the LF, and the bytes after it
 end_between : (text : List ℕ) (end : ℕ) → position (λ byte. byte == 10) text ≡ Some end → text ≡ take end text ++ (10 ∷ drop (end + 1) text)
 end_between text end found =
     let at = position-Some (λ byte. byte == 10) text end 0 found in
@@ -77,12 +77,12 @@ end_between text end found =
 line_before : (text : List ℕ) (end : ℕ) → position (λ byte. byte == 10) text ≡ Some end → lines_of text ≡ take end text ∷ lines_of (drop (end + 1) text)
 line_before text end found = ap lines_of (end_between text end found) ∙ line_and_rest (take end text) (drop (end + 1) text) (none_before text end found)
 
--- where none is found, the text is one line
+-- if no LF is found, the text is one line
 pub only_line : (text : List ℕ) → 0 < length text → position (λ byte. byte == 10) text ≡ None → lines_of text ≡ text ∷ []
 only_line [] some none = absurd (omega arith)
 only_line (c ∷ text) some none = last_line c text (nowhere (c ∷ text) none)
 
--- what a cut at an LF tells: where it is, and what stands on both sides
+-- a cut at an LF: its index, and the bytes on both sides
 record IsEnd (text line rest : List ℕ) : Type 0 where
   end : ℕ
   found : position (λ byte. byte == 10) text ≡ Some end
@@ -113,7 +113,7 @@ bytes_of_cut text line rest e =
     let at = end_of_cut text line rest e in
     end_between text at.end at.found ∙ (ap (λ l. l ++ (10 ∷ drop (at.end + 1) text)) (sym at.before) ∙ ap (λ r. line ++ (10 ∷ r)) (sym at.behind))
 
--- and the line has no LF
+-- and the line contains no LF
 pub no_end_of_cut : (text line rest : List ℕ) → Some (line, rest) ≡ cut 10 text → HasNoLineFeed line
 no_end_of_cut text line rest e =
     let at = end_of_cut text line rest e in
@@ -123,6 +123,6 @@ none_around : (text : List ℕ) (place : Option ℕ) → None ≡ split_around t
 none_around text None e = refl
 none_around text (Some end) e = cc
 
--- and where there is no cut
+-- the text has no LF to cut at
 pub no_cut : (text : List ℕ) → None ≡ cut 10 text → position (λ byte. byte == 10) text ≡ None
 no_cut text e = none_around text (position (λ byte. byte == 10) text) e

@@ -1,4 +1,4 @@
--- Places in a text: what is left from a line on.
+-- Places in a text: the rest of the text from a line on.
 use Rattle.std.proofs.Common.{◌≡◌, ◌≢◌, ℕ, zero, suc, ◌+◌, ◌-◌, ◌<◌, ◌≤◌, ◌==◌, ◌^◌, min, Bool, true, false, Option, None, Some, List, [], ◌∷◌, ◌++◌, length, drop, get_or, if◌then◌else◌, refl, sym, ◌∙◌, ap, subst, inl, inr, arith, append_assoc, append-nil, length-append}
 use Rattle.std.proofs.Math.Seq.{drop-nil}
 use Rattle.std.proofs.lemmas.Bool.{cases_lt}
@@ -18,7 +18,7 @@ unfolding lines_of
 no_text [] none = refl
 no_text (c ∷ text) none = absurd (some_line c (c == 10) (lines_of text) none)
 
--- behind the first line are the other lines
+-- after the first line come the other lines
 behind_first : (end : Bool) (c : ℕ) (text : List ℕ) (parts : List (List ℕ)) → lines_of text ≡ parts
     → ((first : List ℕ) (others : List (List ℕ)) → lines_of text ≡ first ∷ others → lines_of (drop (length first + 1) text) ≡ others)
     → (line : List ℕ) (more : List (List ℕ)) → (if end then [] ∷ parts else onto_first c parts) ≡ line ∷ more
@@ -67,7 +67,7 @@ past_elements [] n is = omega arith
 past_elements (x ∷ xs) zero is = absurd (cc is)
 past_elements (x ∷ xs) (suc n) is = let e = past_elements xs n is in omega (arith, e)
 
--- what is left of a text while its lines are counted down from `number` to `ahead`
+-- the rest of a text while its lines are counted down from `number` to `ahead`
 pub record IsUnread (text left : List ℕ) (number ahead : ℕ) : Type 0 where
   pub above : List ℕ
   pub whole : text ≡ above ++ left
@@ -95,7 +95,7 @@ unread_next text left line rest number ahead u more lines begins =
       counted = omega (arith, more);
     }
 
--- where the text ends
+-- the end of the text
 pub ended_from : (text left : List ℕ) (number ahead : ℕ) → IsUnread text left number ahead → lines_of left ≡ []
     → lines_of (drop (length text) text) ≡ drop (number - 1) (lines_of text)
 unfolding lines_of
@@ -126,18 +126,18 @@ below_end text (suc n) start from is =
     let past = past_elements (lines_of text) n (sym is) in
     from ∙ (ap (λ k. drop k (lines_of text)) one ∙ (drop_all n (lines_of text) past ∙ sym (drop_all (suc n) (lines_of text) (omega (arith, past)))))
 
--- a line is one further up once a line above it is gone
+-- the number of a line decreases by one if a line above it is removed
 pub line_below : (ahead : ℕ) (line : List ℕ) (more : List (List ℕ)) → 1 < ahead → line_at ahead (line ∷ more) ≡ line_at (ahead - 1) more
 line_below zero line more two = absurd (omega (arith, two))
 line_below (suc zero) line more two = absurd (omega (arith, two))
 line_below (suc (suc n)) line more two = let e : suc (suc n) - 1 ≡ suc n = omega arith in rw e refl
 
--- no line is a line of nothing
+-- an empty text has no line
 pub line_of_none : (n : ℕ) → line_at n [] ≡ None
 line_of_none zero = refl
 line_of_none (suc n) = refl
 
--- what is behind a place and its line, also where their sum is cut
+-- the bytes after a place and its line, even if their sum is cut
 pub behind_cut : (text : List ℕ) (start size : ℕ) → length text < 2 ^ 64
     → drop (min (min (start + size) 18446744073709551615 + 1) 18446744073709551615) text ≡ drop (start + size + 1) text
 behind_cut text start size fits =

@@ -1,4 +1,4 @@
--- Programs have one answer.
+-- A program has only one answer.
 use Rattle.std.proofs.Common.{◌≡◌, ℕ, zero, suc, refl, ap, List}
 use Rattle.trlab_code.specs.declared.program.Kind.{Kind}
 use Rattle.trlab_code.specs.declared.instruction.Instr.{Instr}
@@ -6,7 +6,7 @@ use Rattle.trlab_code.specs.declared.view.View.{View}
 use Rattle.trlab_code.specs.Machine.{Answer, MachineState, At, Done, Stuck, start, step, EndsFrom, EndsWith}
 
 module _ (kind : Kind) (code : List Instr) (view : View) (words : List ℕ) (a b : Answer) where
-  -- from each state there is one answer at most, and one number of steps to it
+  -- from each state there is at most one answer, and one number of steps to it
   pub one_answer_from : (state : MachineState) (m n : ℕ) → EndsFrom kind code view words state a m → EndsFrom kind code view words state b n → (a ≡ b) × (m ≡ n)
   one_answer_from (At pc s) zero n here there = absurd (cc here)
   one_answer_from (At pc s) (suc m) zero here there = absurd (cc there)
@@ -19,6 +19,6 @@ module _ (kind : Kind) (code : List Instr) (view : View) (words : List ℕ) (a b
   one_answer_from Stuck zero n here there = absurd (cc here)
   one_answer_from Stuck (suc m) n here there = absurd here
 
-  -- a program has one answer at most, and one number of steps to it
+  -- a program has at most one answer, and one number of steps to it
   pub one_answer : (m n : ℕ) → EndsWith kind code view words a m → EndsWith kind code view words b n → (a ≡ b) × (m ≡ n)
   one_answer m n here there = one_answer_from (At 0 (start kind view)) m n here there

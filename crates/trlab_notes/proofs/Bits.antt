@@ -44,7 +44,7 @@ pub clear_is : (n k y : ℕ) (on b : Bool) → k < 16 → y < 16 → on ≡ fals
 clear_is n k y on true within lt e eb = let same : y ≡ k = eqb-true y k eb in rw (e, same) (bit_at_clear_same w16 n k within)
 clear_is n k y on false within lt e eb = bit_at_clear_other w16 n k within y lt (eqb-false y k eb)
 
--- the greater of two levels that are made alike
+-- the larger of two levels of the same form
 pub sum_levels : (made : ℕ → ℕ → ℕ) (r i j k l m n h g : ℕ) → r ≡ max i j → i ≡ made k h → j ≡ made l g → k ≡ m → l ≡ n →
     r ≡ max (made m h) (made n g)
 sum_levels made r i j k l m n h g e p q s t = e ∙ (λ z. max ((p ∙ (λ w. made (s w) h)) z) ((q ∙ (λ w. made (t w) g)) z))

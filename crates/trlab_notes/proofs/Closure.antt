@@ -1,4 +1,4 @@
--- The closure of a note is as strong as the note: nothing that is made of it differs.
+-- The closure of a note is as strong as the note: every result that is computed from it is the same.
 use Rattle.std.proofs.Common.{◌≡◌, ◌∙◌, ℕ, ◌-◌, ◌&&◌, refl, sym, ap, subst, arith, min, max, [], ◌∷◌, ◌++◌, Bool, true, false, Option, Some, None, nat_eq, cond}
 use mathlib.Core.Path.{fun_ext}
 use Rattle.trlab_code.specs.declared.program.Kind.{Kind}
@@ -44,7 +44,7 @@ settled_same m n s h e = note_same _ _ s (level_same _ _ h) e
 pub settled_twice : (m : Note) → closure (closure m) ≡ closure m
 settled_twice m = settled_same (closure m) m (said_same m) (known_settled m) (side_same m)
 
--- it is no stronger, nor is the note
+-- neither is stronger than the other
 pub settled_less : (m : Note) → IsNoStronger (closure m) m
 settled_less m = let f = same_note m in record {
   values = λ x. subst (λ s. IsNoMorePrecise s (value_with_side m x)) (sym (told_settled m x)) (f.values x);
@@ -59,7 +59,7 @@ settled_more m = let f = same_note m in record {
   beside = λ h. side_same m ∙ h;
 }
 
--- a join knows of a note no more than what it knows
+-- a join uses only the known levels of a note
 pub joined_settled : (m n : Note) → join m (closure n) ≡ join m n
 unfolding join
 joined_settled m n =
@@ -70,13 +70,13 @@ unfolding join
 settled_joins m n =
     note_same _ _ (fun_ext (λ x. ap (λ s. join_values s (value_with_side n x)) (told_settled m x))) (level_same _ _ (λ x y. ap (λ k. min k (known_level n x y)) (known_settled m x y))) (ap (λ b. b && n.side) (side_same m))
 
--- a join has all that it knows in its levels
+-- a join has all its known levels as levels
 pub join_is_settled : (m n : Note) → closure (join m n) ≡ join m n
 unfolding join closure value_with_side known_level
 join_is_settled m n =
     note_same _ _ refl (level_same _ _ (λ x y. (both_known (m.values x) (n.values x) (m.values y) (n.values y) m.side n.side (same_variable x y) (level_between (m.values x) (m.values y) (same_variable x y) (m.level x y)) (level_between (n.values x) (n.values y) (same_variable x y) (n.level x y)) (known_twice (m.values x) (m.values y) (same_variable x y) (m.level x y)) (known_twice (n.values x) (n.values y) (same_variable x y) (n.level x y))))) refl
 
--- the same instruction makes of both what is the same once it is settled
+-- an instruction makes notes of both that have the same closure
 module _ (m : Note) where
   written_settled : (d : Register) (s t : AbstractValue) (to below from above : Variable → ℕ) → s ≡ t → ((y : Variable) → to y ≡ below y) →
       ((x : Variable) → from x ≡ above x) → closure (assign (closure m) d s to from) ≡ closure (assign m d t below above)
@@ -164,7 +164,7 @@ module _ (m : Note) where
   jump_settled (JumpTrue a t) = trusted_settled a
   jump_settled i = settled_twice m
 
-  -- and there are the same reasons against it
+  -- and the same reasons hold against it
   below_same : (i : Instr) → may_be_below_zero (closure m) i ≡ may_be_below_zero m i
   below_same (Sub d a b) = ap (λ k. nat_eq k 0) (same (variable.Register b) (variable.Register a))
   below_same i = refl

@@ -1,4 +1,4 @@
--- Loops that fill a row variable by variable, or a table row by row: what holds so far holds with one more.
+-- Loops that fill a row variable by variable, or a table row by row: the part that is correct grows by one.
 use Rattle.std.proofs.Common.{◌≡◌, ℕ, ◌+◌, ◌<◌, ◌∙◌, List, length, set, Bool, true, false, nat_eq, cond, refl, arith}
 use Rattle.std.proofs.lemmas.Bool.{eqb-true, eqb-false}
 use Rattle.std.proofs.lemmas.List.{get_or-set_same, get_or-set_other}
@@ -10,7 +10,7 @@ level_at_variable : (level : ℕ → ℕ) (x v u y : ℕ) (same : Bool) → nat_
 level_at_variable level x v u y true eb e old lt = let same : y ≡ x = eqb-true y x eb in rw same e
 level_at_variable level x v u y false eb e old lt = let other = eqb-false y x eb in old (omega (arith, other))
 
--- a row once variable x has its level
+-- a row after variable x has its level
 pub more_variables : (level : ℕ → ℕ) (row old : LevelRow) (x v : ℕ) →
     ((y : ℕ) → y < VARIABLES → level_in row y ≡ cond (nat_eq y x) v (level_in old y)) → x < VARIABLES → v ≡ level x →
     ((y : ℕ) → y < x → level_in old y ≡ level y) → (y : ℕ) → y < x + 1 → level_in row y ≡ level y
@@ -28,7 +28,7 @@ row_at level rows x row k false eb within new so_far lt y inside =
     let other = eqb-false k x eb in
     rw (get_or-set_other rows x k row (record { at_most = 0; below = 0 }) other) (so_far k (omega (arith, other)) y inside)
 
--- a table once x has its row
+-- a table after x has its row
 pub more_rows : (level : ℕ → ℕ → ℕ) (rows : List LevelRow) (x : ℕ) (row : LevelRow) → x < length rows →
     ((y : ℕ) → y < VARIABLES → level_in row y ≡ level x y) →
     ((k : ℕ) → k < x → (y : ℕ) → y < VARIABLES → level_of rows k y ≡ level k y) →

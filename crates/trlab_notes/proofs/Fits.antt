@@ -1,4 +1,4 @@
--- When values fit a note: what fits a note before an instruction fits the notes on its ways.
+-- When values fit a note: values that fit a note before an instruction fit the notes that it sends on.
 use Rattle.std.proofs.Common.{◌≡◌, ℕ, zero, suc, ◌+◌, ◌-◌, ◌≤◌, ◌&&◌, ◌||◌, min, max, refl, sym, ap, subst, arith, Bool, true, false, IsTrue, nat_eq, cond, ◌∙◌}
 use Rattle.trlab_notes.specs.declared.note.AbstractValue.{AbstractValue}
 use Rattle.trlab_notes.specs.declared.note.AbstractValue.TheVariants.{Nothing, Between, Implies}
@@ -11,11 +11,11 @@ use Rattle.trlab_notes.specs.Transfer.{assign, sharpen, slacken, chain, refine_o
 use Rattle.trlab_notes.specs.Order.{join_values, join}
 use Rattle.trlab_notes.proofs.Variables.{same_is}
 
--- a level k says that m is at most n where it is 1, and below n where it is 2
+-- a level k means that m is at most n if it is 1, and below n if it is 2
 abbrev pub Ahead : ℕ → ℕ → ℕ → Type 0
 Ahead k m n = 1 ≤ k → m + k ≤ suc n
 
--- what is said fits a value, where side says whether the side cell is empty
+-- an abstract value fits a value, where `side` states whether the side cell is empty
 abbrev pub FitsSaid : Bool → AbstractValue → Value → Type 0
 FitsSaid side Nothing v = Unit {0}
 FitsSaid side (Between lo hi) (Number n) = (lo ≤ n) × (n ≤ hi)
@@ -25,13 +25,13 @@ FitsSaid side (Implies imp) (Flag b) = IsTrue imp → IsTrue b → IsTrue side
 FitsSaid side (Implies imp) (Number n) = ⊥
 FitsSaid side (Implies imp) Unset = ⊥
 
--- the note fits the values: each of them, the order of each two numbers, and what is beside the car
+-- the note fits the values: each of them, the order of each two numbers, and the side cell
 pub record Fits (side : Bool) (note : Note) (s : Store) : Type 0 where
   pub each : (x : Variable) → FitsSaid side (note.values x) (s x)
   pub order : (x y : Variable) (m n : ℕ) → s x ≡ Number m → s y ≡ Number n → Ahead (known_level note x y) m n
   pub beside : IsTrue note.side → IsTrue side
 
--- what the ranges and the stored level give is right
+-- the level that follows from the ranges and the stored level is correct
 pub known_fits : (side : Bool) (sx sy : AbstractValue) (same : Bool) (level m n : ℕ) → FitsSaid side sx (Number m) →
     FitsSaid side sy (Number n) → Ahead level m n → (same ≡ true → m ≡ n) → Ahead (level_between sx sy same level) m n
 known_fits side (Between lx hx) (Between ly hy) true level m n fx fy l e = λ p. let q : m ≡ n = e refl in omega arith
@@ -41,7 +41,7 @@ known_fits side (Implies i) sy same level m n fx fy l e = λ p. omega arith
 known_fits side (Between lx hx) Nothing same level m n fx fy l e = λ p. omega arith
 known_fits side (Between lx hx) (Implies i) same level m n fx fy l e = λ p. omega arith
 
--- a sharpened level is right where one side is lowered, or the other raised
+-- a sharpened level is correct after one side has decreased, or the other increased
 pub sharper_right : (k lo m n r : ℕ) → Ahead k m n → lo ≤ r → Ahead (sharpen k lo) m (n + r)
 sharper_right zero lo m n r h l = λ p. omega arith
 sharper_right (suc k) zero m n r h l = λ p. grind arith
@@ -76,7 +76,7 @@ known_same (Implies i) sy level m n e = λ p. omega arith
 pub number_is : (m n : ℕ) → Number m ≡ Number n → m ≡ n
 number_is m n e = grind (arith, e)
 
--- numbers that are one number, and one that is not
+-- two equal numbers, and two different ones
 both_equal : (a b d : ℕ) → nat_eq a d ≡ true → nat_eq b d ≡ true → nat_eq a b ≡ true
 both_equal a b d p q = grind (arith, p, q)
 
@@ -86,7 +86,7 @@ one_equal a b d p q r = grind (arith, p, q, r)
 other_equal : (a b d : ℕ) → nat_eq a d ≡ false → nat_eq b d ≡ true → nat_eq a b ≡ true → ⊥
 other_equal a b d p q r = grind (arith, p, q, r)
 
--- a write keeps the fit where what is said of the value fits it and its levels are right
+-- a write keeps the fit if its abstract value fits the new value and its levels are correct
 module _ (side : Bool) (note : Note) (s : Store) (fits : Fits side note s) (d : Register) (v : Value) (sd : AbstractValue) (below above : Variable → ℕ) (fd : FitsSaid side sd v) (to : (y : Variable) (k n : ℕ) → v ≡ Number k → s y ≡ Number n → Ahead (below y) k n) (from : (y : Variable) (k n : ℕ) → v ≡ Number k → s y ≡ Number n → Ahead (above y) n k) where
   at_value : {a b : Value} (t : AbstractValue) → a ≡ b → FitsSaid side t a → FitsSaid side t b
   at_value t e = subst (λ w. FitsSaid side t w) e
@@ -120,7 +120,7 @@ module _ (side : Bool) (note : Note) (s : Store) (fits : Fits side note s) (d : 
 at_said : (side : Bool) (t : AbstractValue) {a b : Value} → a ≡ b → FitsSaid side t a → FitsSaid side t b
 at_said side t e = subst (λ w. FitsSaid side t w) e
 
--- what is told of a variable fits its value
+-- the abstract value that is read of a variable fits its value
 pub with_side_fits : (side known_side : Bool) (t : AbstractValue) (v : Value) → (IsTrue known_side → IsTrue side) →
     FitsSaid side t v → FitsSaid side (with_side known_side t) v
 with_side_fits side k Nothing v h f = tt
@@ -163,11 +163,11 @@ both_right side (Between a b) (Implies q) v f = tt
 both_right side (Implies p) Nothing v f = tt
 both_right side (Implies p) (Between c d) v f = tt
 
--- two equal variables hold one number
+-- two equal variables have the same number
 one_number : (s : Store) (x y : Variable) (m n : ℕ) → s x ≡ Number m → s y ≡ Number n → same_variable x y ≡ true → m ≡ n
 one_number s x y m n ex ey e = let q : x ≡ y = same_is x y e in number_is m n (sym ex ∙ ap s q ∙ ey)
 
--- a note fits where what it says and its levels are right
+-- a note fits if its abstract values fit and its levels are correct
 pub fits_from : (side : Bool) (note : Note) (s : Store) → ((x : Variable) → FitsSaid side (note.values x) (s x)) →
     ((x y : Variable) (m n : ℕ) → s x ≡ Number m → s y ≡ Number n → Ahead (note.level x y) m n) → (IsTrue note.side → IsTrue side) →
     Fits side note s

@@ -1,4 +1,4 @@
--- What is said of one value, and the level of two, where more is said.
+-- Abstract values and levels grow with the notes that they come from.
 use Rattle.std.proofs.Common.{◌≡◌, ℕ, zero, suc, ◌/◌, ◌≤◌, ◌&&◌, ◌||◌, max, refl, arith, Bool, true, false, IsTrue, nat_eq}
 use Rattle.std.proofs.Math.Nat.{div-mul-le_self}
 use Rattle.std.proofs.lemmas.Nat.{le-div}
@@ -32,7 +32,7 @@ chained_up (suc h) (suc i) k (suc l) (suc m) p q = omega arith
 chained_up (suc h) zero k (suc l) m p q = absurd (omega arith)
 chained_up (suc h) (suc i) k (suc l) zero p q = absurd (omega arith)
 
--- what is said of a variable
+-- abstract values of a variable
 pub low_up : (s t : AbstractValue) → Wider s t → low s ≤ low t
 low_up Nothing t w = omega arith
 low_up (Implies i) t w = omega arith
@@ -73,7 +73,7 @@ told_twice false q (Implies true) (Implies j) h = λ e. or_left (j || q) q (h re
     or_left false b e = absurd (cc e)
 told_twice false q (Implies false) (Implies j) h = λ e. absurd (cc e)
 
--- what is learnt
+-- conclusions of a test
 pub learnt_level : (sx sy tx ty : AbstractValue) (same : Bool) (j k c d : ℕ) → Wider sx tx → Wider sy ty →
     level_between sx sy same j ≤ level_between tx ty same k → c ≤ d → level_between sx sy same (max j c) ≤ level_between tx ty same (max k d)
 learnt_level (Between a b) (Between c d) (Between e f) (Between g h) true j k v w p q l r = omega arith
@@ -87,7 +87,7 @@ learnt_level (Between a b) (Implies i) tx ty same j k v w p q l r = omega arith
 learnt_level Nothing sy tx ty same j k v w p q l r = omega arith
 learnt_level (Implies i) sy tx ty same j k v w p q l r = omega arith
 
--- what a flag implies
+-- the conclusion of a flag
 pub implies_up : (p q : Bool) (s t : AbstractValue) → IsNoMorePrecise (with_side p s) (with_side q t) → IsTrue (implies (with_side p s)) → IsTrue (implies (with_side q t))
 implies_up p q (Implies i) (Implies j) h e = h e
 implies_up p q (Implies i) Nothing h e = absurd h
@@ -113,7 +113,7 @@ trust_side false false (Implies i) (Between a b) f h e = absurd h
 trust_side false false Nothing t f h e = absurd (cc e)
 trust_side false false (Between a b) t f h e = absurd (cc e)
 
--- a greater side on both
+-- a larger maximum on both sides
 pub more_side : (p q p' q' : Bool) (s t : AbstractValue) → (IsTrue p' → IsTrue q') → (IsTrue q → IsTrue q') → IsNoMorePrecise (with_side p s) (with_side q t) →
     IsNoMorePrecise (with_side p' s) (with_side q' t)
 more_side p q p' q' Nothing t f g h = tt
@@ -126,7 +126,7 @@ more_side p q p' q' (Implies i) (Implies true) f g h = λ e. refl
 more_side p q p' q' (Implies true) (Implies false) f g h = λ e. g (h refl)
 more_side p q p' q' (Implies false) (Implies false) f g h = f
 
--- also at 0, where a quotient is 0
+-- this also holds for 0, because a quotient by 0 is 0
 pub div_mono : (a b n : ℕ) → a ≤ b → a / n ≤ b / n
 div_mono a b zero h = omega arith
 div_mono a b (suc n) h = le-div (a / suc n) b (suc n) (omega arith) (omega (arith, div-mul-le_self a (suc n)))
@@ -141,7 +141,7 @@ and_up true q true s f g h = g h
 and_up true q false s f g h = absurd (cc (f refl))
 and_up false q r s f g h = absurd (cc h)
 
--- what is said is of one kind
+-- abstract values of the same type
 pub still_set : (p q : Bool) (s t : AbstractValue) → IsNoMorePrecise (with_side p s) (with_side q t) → is_nothing s ≡ false → is_nothing t ≡ false
 still_set p q Nothing t h e = absurd (cc e)
 still_set p q s (Between a b) h e = refl

@@ -1,4 +1,4 @@
--- What follows from a note follows from each note that says at least as much.
+-- Conclusions from a note also follow from each note that is at least as strong.
 use Rattle.std.proofs.Common.{◌≡◌, ℕ, ◌≤◌, ◌||◌, not, refl, arith, List, [], ◌∷◌, Bool, true, false, IsTrue, Option, Some, None, cond}
 use Rattle.std.proofs.lemmas.Bool.{or_parts}
 use Rattle.std.proofs.Math.Nat.{mul-le-mul_right}
@@ -23,7 +23,7 @@ use Rattle.trlab_notes.proofs.Order.{Wider, wider, known_up, Closed, On}
 use Rattle.trlab_notes.proofs.Growth.{sharper_up, just_below_up, least_gap_up, chained_up, low_up, high_down, told_twice, learnt_level, implies_up, trust_side, more_side, div_mono, or_up, and_up, still_set, still_range, still_flag, both_false, still_positive}
 
 module _ (V : Variable → Type 0) (closed : Closed V) where
-  -- a write: what is said and the levels say no more, and so does the note
+  -- a write: if its abstract value and levels are weaker, so is the note
   written_up : (m n : Note) (d : Register) (s t : AbstractValue) (to to' from from' : Variable → ℕ) → On V m n →
       IsNoMorePrecise (with_side m.side s) (with_side n.side t) → ((y : Variable) → V y → to y ≤ to' y) → ((x : Variable) → V x → from x ≤ from' x) →
       On V (assign m d s to from) (assign n d t to' from')
@@ -90,7 +90,7 @@ module _ (V : Variable → Type 0) (closed : Closed V) where
   none_true true r rest e h = absurd (cc e)
   none_true false r rest e h = h
 
-  -- what passes each test has no fault
+  -- an instruction that passes each test has no fault
   pub passes : (kind own : Kind) (len pc : ℕ) (m : Note) (i : Instr) → IsClear kind own len pc m i →
       reason_against kind own len pc m i ≡ None
   passes kind own len pc m i c =
@@ -124,7 +124,7 @@ module _ (V : Variable → Type 0) (closed : Closed V) where
     unfolding value_with_side
     flag_up a = implies_up m.side n.side (m.values (variable.Register a)) (n.values (variable.Register a)) (f.values (variable.Register a) (at_reg a))
 
-    -- what is said of a result
+    -- the abstract value of a result
     said_up : (i : Instr) → Reaches i → some_unset m i ≡ false → some_of_wrong_type m i ≡ false →
         IsNoMorePrecise (with_side m.side (result_value m i)) (with_side n.side (result_value n i))
     unfolding value_with_side
@@ -184,7 +184,7 @@ module _ (V : Variable → Type 0) (closed : Closed V) where
     any_up None i w h k = tt
     any_up (Some d) i w h k = after_up d i w h k
 
-    -- the notes on the ways from an instruction without a fault
+    -- the notes that an instruction without a fault sends on
     pub fall_up : (i : Instr) → Reaches i → some_unset m i ≡ false → some_of_wrong_type m i ≡ false → BothOn (next_note m i) (next_note n i)
     fall_up (JumpLess a b t) w h k = learnt_up m n (variable.Register b) (variable.Register a) 1 (at_reg b) (at_reg a) f
     fall_up (JumpAtMost a b t) w h k = learnt_up m n (variable.Register b) (variable.Register a) 2 (at_reg b) (at_reg a) f

@@ -11,7 +11,7 @@ use Rattle.trlab_notes.specs.Notes.{Note, same_variable, with_side, value_with_s
 use Rattle.trlab_notes.specs.Order.{join_values, join, IsNoMorePrecise, IsNoStronger}
 use Rattle.trlab_notes.proofs.Fits.{and_left, and_right}
 
--- where one says a range, so does the other, and within it
+-- if one value has a range, so does the other, and it is wider
 abbrev pub Wider : AbstractValue → AbstractValue → Type 0
 Wider (Between lo hi) (Between least most) = (lo ≤ least) × (most ≤ hi)
 Wider (Between lo hi) _ = ⊥
@@ -24,7 +24,7 @@ wider p q (Between a b) (Between c d) h = h
 wider p q (Between a b) Nothing h = h
 wider p q (Between a b) (Implies i) h = h
 
--- wider ranges and a lesser level know less
+-- wider ranges and a smaller level mean less knowledge
 pub known_up : (sx sy tx ty : AbstractValue) (same : Bool) (j k : ℕ) → Wider sx tx → Wider sy ty → j ≤ k →
     level_between sx sy same j ≤ level_between tx ty same k
 known_up (Between a b) (Between c d) (Between e f) (Between g h) true j k p q l = omega arith
@@ -38,7 +38,7 @@ known_up (Between a b) (Implies i) tx ty same j k p q l = omega arith
 known_up Nothing sy tx ty same j k p q l = omega arith
 known_up (Implies i) sy tx ty same j k p q l = omega arith
 
--- the same where the level is no more than what is known
+-- the same if the level is at most the known level
 pub known_from : (sx sy tx ty : AbstractValue) (same : Bool) (j k : ℕ) → Wider sx tx → Wider sy ty → j ≤ level_between tx ty same k →
     level_between sx sy same j ≤ level_between tx ty same k
 known_from (Between a b) (Between c d) (Between e f) (Between g h) true j k p q l = omega arith
@@ -80,7 +80,7 @@ through l m n f g = record {
   beside = λ h. g.beside (f.beside h);
 }
 
--- a join says no more than each of the two
+-- a join is no stronger than either note
 both_first : (p q : Bool) (s t : AbstractValue) → IsNoMorePrecise (with_side (p && q) (join_values (with_side p s) (with_side q t))) (with_side p s)
 both_first p q Nothing t = tt
 both_first p q (Between a b) (Between c d) = (omega arith, omega arith)
@@ -103,7 +103,7 @@ both_second p q (Implies i) (Implies true) = λ h. refl
 both_second true true (Implies i) (Implies false) = λ h. refl
 both_second p q (Implies i) (Implies false) = λ h. search (rules, h)
 
--- and as much as each note that says no more than the two
+-- and as strong as each note that is no stronger than the two
 both_most : (r p q : Bool) (u s t : AbstractValue) → (IsTrue r → IsTrue p) → (IsTrue r → IsTrue q) → IsNoMorePrecise (with_side r u) (with_side p s) →
     IsNoMorePrecise (with_side r u) (with_side q t) → IsNoMorePrecise (with_side r u) (with_side (p && q) (join_values (with_side p s) (with_side q t)))
 both_most r p q Nothing s t f g h k = tt
@@ -149,7 +149,7 @@ join_second m n = record {
   beside = λ h. and_right m.side n.side h;
 }
 
--- what is known by a level, where both variables hold numbers wherever something is known
+-- the known level, if both variables are numbers whenever a level is known
 level_known : (sx sy tx ty : AbstractValue) (same : Bool) (j k : ℕ) → Wider sx tx → Wider sy ty → level_between sx sy same j ≤ k →
     level_between sx sy same j ≤ level_between tx ty same k
 level_known (Between a b) (Between c d) (Between e f) (Between g h) true j k p q l = omega arith
@@ -174,13 +174,13 @@ join_most l m n f g = record {
   beside = λ h. and_both m.side n.side (f.beside h) (g.beside h);
 }
 
--- the variables that are looked at: each register, the limit and the gap are among them
+-- the variables that are compared: each register, the limit and the gap are among them
 pub record Closed (V : Variable → Type 0) : Type 0 where
   pub regs : (r : Register) → V (variable.Register r)
   pub limit : V (variable.Input Limit)
   pub gap : V (variable.Input Gap)
 
--- no stronger, as far as these variables go
+-- no stronger, for these variables
 pub record On (V : Variable → Type 0) (m n : Note) : Type 0 where
   pub values : (x : Variable) → V x → IsNoMorePrecise (value_with_side m x) (value_with_side n x)
   pub order : (x y : Variable) → V x → V y → known_level m x y ≤ known_level n x y
@@ -205,7 +205,7 @@ module _ (V : Variable → Type 0) (closed : Closed V) where
     beside = λ h. and_both m.side n.side (f.beside h) (g.beside h);
   }
 
--- a note that says nothing is no stronger than any
+-- an empty note is no stronger than any other
 pub blank_least : (n : Note) → IsNoStronger (record { values = λ x. Nothing; level = λ x y. 0; side = false }) n
 unfolding value_with_side known_level
 blank_least n = record { values = λ x. tt; order = λ x y. omega arith; beside = λ h. absurd (cc h) }

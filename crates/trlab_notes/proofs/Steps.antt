@@ -1,5 +1,5 @@
--- An instruction without a fault, on values that fit its note, is not stuck, and what it makes fits the note
--- on its way.
+-- An instruction without a fault, on values that fit its note, is not stuck, and the new values fit the notes
+-- that it sends on.
 use Rattle.std.proofs.Common.{◌≡◌, ◌≢◌, ℕ, zero, suc, ◌+◌, ◌-◌, ◌*◌, ◌/◌, ◌<◌, ◌≤◌, ◌&&◌, ◌||◌, not, min, max, refl, sym, ap, subst, arith, List, [], ◌∷◌, Bool, true, false, IsTrue, Option, Some, None, nat_eq, nat_lt, nat_le, cond, ◌∙◌}
 use Rattle.std.proofs.lemmas.Bool.{or_parts, le-leb, ltb-true, ltb-false, leb-true, leb-false}
 use Rattle.std.proofs.Math.Nat.{mul-le-mul_right, div-le_self}
@@ -28,7 +28,7 @@ use Rattle.trlab_notes.proofs.Growth.{div_mono}
 abbrev none : Variable → ℕ
 none y = 0
 
--- what an instruction does leads where the notes say
+-- the effect of an instruction leads to values that fit the notes sent on
 abbrev pub Leads : Bool → Note → Instr → Store → Effect → Type 0
 Leads side m i s (Writes d v) = (next : Note) × (next_note m i ≡ Some next) × Fits side next (update s (variable.Register d) v)
 Leads side m i s Falls = (next : Note) × (next_note m i ≡ Some next) × Fits side next s
@@ -145,7 +145,7 @@ unfolding start
 start_limit Motion view = refl
 start_limit Change view = refl
 
--- what may stand in a program is allowed by the kind
+-- an instruction that may appear in a program is allowed by the program's kind
 pub kind_allows : (kind own : Kind) (i : Instr) → is_of_kind kind own i ≡ true → allows kind i ≡ true
 kind_allows kind own i h = and_first (allows kind i) _ h
   where
@@ -168,7 +168,7 @@ module _ (side : Bool) (m : Note) (s : Store) (fits : Fits side m s) where
   writes_flag d b imp h =
       written_fits side m s fits d (Flag b) (Implies imp) none none h (λ y k n e ey p. omega arith) (λ y k n e ey p. omega arith)
 
-  -- a copy of the value at a variable, with what is told and known of it
+  -- a copy of a variable's value, with its abstract value and its known levels
   writes_copy : (d : Register) (a : Variable) → Fits side (assign m d (value_with_side m a) (known_level m a) (λ y. known_level m y a)) (update s (variable.Register d) (s a))
   writes_copy d a =
       written_fits side m s fits d (s a) (value_with_side m a) (known_level m a) (λ y. known_level m y a) (told_fits side m s fits a) (λ y k n e ey. fits.order a y k n e ey) (λ y k n e ey. fits.order y a n k ey e)
@@ -279,7 +279,7 @@ not_false true h = refl
 not_false false h = absurd (cc h)
 
 module _ (kind own : Kind) (view : View) (words : List ℕ) (len pc : ℕ) (m : Note) (s : Store) (fits : Fits view.side m s) (sees : (k : Input) → s (variable.Input k) ≡ start kind view (variable.Input k)) where
-  -- two numbers, as an instruction reads them
+  -- two numbers that an instruction reads
   read_two : (P : Effect → Type 0) (a b : Variable) (f : ℕ → ℕ → Effect) (p : Operand m s a) (q : Operand m s b) →
       P (f p.n q.n) → P (on_number (s a) (λ j. on_number (s b) (λ k. f j k)))
   read_two P a b f p q h =

@@ -1,4 +1,4 @@
--- Two notes are one where they say the same of the variables.
+-- Two notes are equal if they agree on all variables.
 use Rattle.std.proofs.Common.{◌≡◌, ℕ, zero, suc, ◌<◌, ◌≤◌, refl, sym, ap, subst, arith, List, [], length, Bool, true, false, IsTrue, nat_eq, cond, ◌&&◌, ◌||◌, get_or, ◌∙◌, min, max, set, get_or-set_same, get_or-set_other}
 use Rattle.std.proofs.lemmas.Nat.Bits.{bit_at-lt}
 use Rattle.trlab_code.specs.declared.program.Kind.{Kind}
@@ -29,7 +29,7 @@ said_set : (l : List AbstractValue) (d : ℕ) (v : AbstractValue) → d < length
 said_set l d v h x true e = let p : x ≡ d = eqb-true x d e in subst (λ z. get_or (set l d v) z Nothing ≡ v) (sym p) (get_or-set_same l d v Nothing h)
 said_set l d v h x false e = get_or-set_other l d x v Nothing (eqb-false x d e)
 
--- a note that is stored so
+-- a note that is stored in this form
 abbrev pub made : List AbstractValue → List LevelRow → Bool → Note
 made values rows side = record {
   values = λ x. get_or values (variable_number x) Nothing;
@@ -44,13 +44,13 @@ pub known_unfolds : (m : Note) (x y : Variable) → known_level m x y ≡ level_
 unfolding known_level
 known_unfolds m x y = refl
 
--- the rows of a stored note have all that it knows
+-- the rows of a stored note have all its known levels
 pub known_is : (values : List AbstractValue) (rows : List LevelRow) (side : Bool) → IncludesRanges values rows → (x y : Variable) →
     known_level (made values rows side) x y ≡ level_of rows (variable_number x) (variable_number y)
 unfolding known_level
 known_is values rows side h x y = h (variable_number x) (variable_number y) (below_variables x) (below_variables y)
 
--- a note is stored where the same is said, and the rows have what it knows
+-- a note is stored if the abstract values are the same and the rows have its known levels
 pub closure_is : (values : List AbstractValue) (rows : List LevelRow) (side : Bool) (m : Note) → ((x : Variable) → get_or values (variable_number x) Nothing ≡ m.values x) →
     ((x y : Variable) → level_of rows (variable_number x) (variable_number y) ≡ known_level m x y) → side ≡ m.side → made values rows side ≡ closure m
 unfolding closure
@@ -82,7 +82,7 @@ trust_is a r side e = closure_is a.values a.rows side _ (λ x. refl) (λ x y. sy
 max_twice : (l r : ℕ) → max (max l r) r ≡ max l r
 max_twice l r = omega arith
 
--- what is known stays where it is stored
+-- a known level that is stored is known again
 pub known_twice : (s t : AbstractValue) (same : Bool) (level : ℕ) → level_between s t same (level_between s t same level) ≡ level_between s t same level
 known_twice (Between a b) (Between c d) true level = refl
 known_twice (Between a b) (Between c d) false level = max_twice level _
@@ -91,7 +91,7 @@ known_twice (Between a b) (Implies i) same level = refl
 known_twice Nothing t same level = refl
 known_twice (Implies i) t same level = refl
 
--- rows of what is known tell the ranges
+-- rows of known levels contain the ranges
 pub rows_tell : (values : List AbstractValue) (rows : List LevelRow) (level : ℕ → ℕ → ℕ) →
     ((x y : ℕ) → x < VARIABLES → y < VARIABLES → level_of rows x y ≡ level_between (get_or values x Nothing) (get_or values y Nothing) (nat_eq x y) (level x y)) →
     IncludesRanges values rows
@@ -99,7 +99,7 @@ rows_tell values rows level h x y lx ly =
     let e = h x y lx ly in
     ap (level_between (get_or values x Nothing) (get_or values y Nothing) (nat_eq x y)) e ∙ known_twice (get_or values x Nothing) (get_or values y Nothing) (nat_eq x y) (level x y) ∙ sym e
 
--- the note that says this and has these levels
+-- the note with these abstract values and these levels
 pub new_is : (values : List AbstractValue) (rows : List LevelRow) (levels : ℕ → ℕ → ℕ) (side : Bool) →
     ((x y : ℕ) → x < VARIABLES → y < VARIABLES → level_of rows x y ≡ level_between (get_or values x Nothing) (get_or values y Nothing) (nat_eq x y) (levels x y)) →
     made values rows side ≡ closure (record { values = λ x. get_or values (variable_number x) Nothing; level = λ x y. levels (variable_number x) (variable_number y); side = side })
@@ -107,14 +107,14 @@ unfolding known_level
 new_is values rows levels side h =
     closure_is values rows side _ (λ x. refl) (λ x y. h (variable_number x) (variable_number y) (below_variables x) (below_variables y)) refl
 
--- a wider range tells less
+-- a wider range gives a smaller level
 range_less : (hi most lo least : ℕ) → hi ≤ most → least ≤ lo → range_level most least ≤ range_level hi lo
 range_less hi most lo least h k = grind arith
 
 lesser : (j k r s t : ℕ) → max j s ≡ j → max k t ≡ k → r ≤ s → r ≤ t → max (min j k) r ≡ min j k
 lesser j k r s t x y h l = omega (arith, x, y, h, l)
 
--- the levels of a join are what both know
+-- the levels of a join are known in both notes
 pub both_known : (s u t v : AbstractValue) (p q same : Bool) (j k : ℕ) → level_between s t same j ≡ j → level_between u v same k ≡ k →
     level_between (join_values (with_side p s) (with_side q u)) (join_values (with_side p t) (with_side q v)) same (min j k) ≡ min j k
 both_known (Between a b) (Between e f) (Between c d) (Between g h) p q true j k x y = omega (arith, x, y)
@@ -136,7 +136,7 @@ both_known (Implies i) (Implies l) t v p q same j k x y = omega (arith, x)
 abbrev SaidByBoth : StoredNote → StoredNote → List AbstractValue → Type 0
 SaidByBoth a b values = (x : ℕ) → x < VARIABLES → get_or values x Nothing ≡ join_values (with_side a.side (get_or a.values x Nothing)) (with_side b.side (get_or b.values x Nothing))
 
--- and its levels are the lesser ones
+-- and its levels are the smaller ones
 abbrev LevelsOfBoth : StoredNote → StoredNote → List LevelRow → Type 0
 LevelsOfBoth a b rows = (x y : ℕ) → x < VARIABLES → y < VARIABLES → level_of rows x y ≡ min (level_of a.rows x y) (level_of b.rows x y)
 
@@ -153,7 +153,7 @@ pub join_tells : (a b : StoredNote) (values : List AbstractValue) (rows : List L
 join_tells a b values rows hs hl x y lx ly =
     rw (hs x lx, hs y ly, hl x y lx ly) (both_known (get_or a.values x Nothing) (get_or b.values x Nothing) (get_or a.values y Nothing) (get_or b.values y Nothing) a.side b.side (nat_eq x y) (level_of a.rows x y) (level_of b.rows x y) (a.ranges x y lx ly) (b.ranges x y lx ly))
 
--- columns whose levels are the lesser ones are those of rows whose levels are
+-- the columns have the smaller levels if the rows have them
 pub join_back : (a b : StoredNote) (rows columns : List LevelRow) →
     ((x y : ℕ) → x < VARIABLES → y < VARIABLES → level_of rows x y ≡ min (level_of a.rows x y) (level_of b.rows x y)) →
     ((x y : ℕ) → x < VARIABLES → y < VARIABLES → level_of columns x y ≡ min (level_of a.columns x y) (level_of b.columns x y)) →
@@ -215,7 +215,7 @@ module _ (a : StoredNote) (d : ℕ) (s : AbstractValue) (to from : ℕ → ℕ) 
           ≡ known_level (assign (note_of a) r s below above) x y
       at x y = λ i. level_between (said_now x i) (said_now y i) (nat_eq (variable_number x) (variable_number y)) (cond (nat_eq (variable_number x) (ed i)) (eto y i) (cond (nat_eq (variable_number y) (ed i)) (efrom x i) (level_of a.rows (variable_number x) (variable_number y))))
 
--- a variable to itself
+-- the level of a variable to itself
 pub corner : (s : AbstractValue) (d j k : ℕ) → level_between s s (nat_eq d d) j ≡ level_between s s (nat_eq d d) k
 corner s d j k = at s (nat_eq d d) (grind arith)
   where
@@ -225,7 +225,7 @@ corner s d j k = at s (nat_eq d d) (grind arith)
     at (Between a c) true e = refl
     at (Between a c) false e = absurd (cc e)
 
--- the columns after a write are its rows the other way round
+-- the columns after a write are its rows, transposed
 pub after_back : (a : StoredNote) (d : ℕ) (rows columns : List LevelRow) (row column : ℕ → ℕ) → row d ≡ column d →
     ((x y : ℕ) → x < VARIABLES → y < VARIABLES → level_of rows x y ≡ cond (nat_eq x d) (row y) (cond (nat_eq y d) (column x) (level_of a.rows x y))) →
     ((x y : ℕ) → x < VARIABLES → y < VARIABLES → level_of columns x y ≡ cond (nat_eq x d) (column y) (cond (nat_eq y d) (row x) (level_of a.columns x y))) →
@@ -238,7 +238,7 @@ after_back a d rows columns row column e h k x y lx ly = k y x ly lx ∙ at (nat
     at false true p q = refl
     at false false p q = a.transposed x y lx ly
 
--- a level that follows from others, between numbers alone
+-- a level that follows from others, for numbers only
 chain_zero : (i k : ℕ) → chain i k 0 ≡ 0
 chain_zero zero k = refl
 chain_zero (suc i) k = refl
@@ -282,7 +282,7 @@ swap l x y c true false e f = absurd (eqb-false x y f (sym (eqb-true y x e)))
 swap l x y c false true e f = absurd (eqb-false y x e (sym (eqb-true x y f)))
 swap l x y c false false e f = refl
 
--- the rows once something is learnt
+-- the rows after a test
 module _ (a : StoredNote) (p q k : ℕ) (rows : List LevelRow) (lp : p < VARIABLES) (lq : q < VARIABLES) (h : (x y : ℕ) → x < VARIABLES → y < VARIABLES → level_of rows x y ≡ cond (nat_eq y x) (level_of a.rows x x) (max (level_of a.rows x y) (chain (level_of a.columns p x) k (level_of a.rows q y)))) where
   abbrev more : ℕ → ℕ → ℕ
   more x y = max (level_of a.rows x y) (chain (level_of a.columns p x) k (level_of a.rows q y))
@@ -311,7 +311,7 @@ module _ (a : StoredNote) (p q k : ℕ) (rows : List LevelRow) (lp : p < VARIABL
     unfolding refine_order
     learn_is = closure_is a.values rows a.side _ (λ x. refl) (λ x y. learn_known (variable_number x) (variable_number y) (below_variables x) (below_variables y) ∙ sym (known_refined x y)) refl
 
--- the columns once something is learnt are its rows the other way round
+-- the columns after a test are its rows, transposed
 pub learn_back : (a : StoredNote) (p q k : ℕ) (rows columns : List LevelRow) →
     ((x y : ℕ) → x < VARIABLES → y < VARIABLES → level_of rows x y ≡ cond (nat_eq y x) (level_of a.rows x x) (max (level_of a.rows x y) (chain (level_of a.columns p x) k (level_of a.rows q y)))) →
     ((x y : ℕ) → x < VARIABLES → y < VARIABLES → level_of columns x y ≡ cond (nat_eq y x) (level_of a.columns x x) (max (level_of a.columns x y) (chain (level_of a.rows q x) k (level_of a.columns p y)))) →
@@ -360,7 +360,7 @@ entry_fits values levels h x y lx ly =
     (λ v. subst (λ z. known_level_from values (variable_number u) (variable_number v) z ≤ 2) (sym (h u v)) (entry_small _ _ _ (entry_level u v) (entry_one u v))) y ly)
     x lx
 
--- one note is no stronger than another where the tables say no more
+-- a note is no stronger than another if its tables contain no more
 pub no_stronger : (m n : StoredNote) →
     ((x : ℕ) → x < VARIABLES → IsNoMorePrecise (with_side m.side (get_or m.values x Nothing)) (with_side n.side (get_or n.values x Nothing))) →
     ((x y : ℕ) → x < VARIABLES → y < VARIABLES → level_of m.rows x y ≤ level_of n.rows x y) → (IsTrue m.side → IsTrue n.side) →

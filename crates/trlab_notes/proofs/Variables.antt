@@ -1,4 +1,5 @@
--- Variables and their numbers: each has one below `VARIABLES`, and each such number is that of one variable.
+-- Variables and their numbers: each variable has a number below `VARIABLES`, and each such number is a
+-- variable's.
 use Rattle.std.proofs.Common.{◌≡◌, ◌∙◌, ℕ, zero, suc, ◌+◌, ◌<◌, refl, sym, ap, subst, arith, List, [], ◌∷◌, length, map, true, get_or}
 use Rattle.std.proofs.lemmas.Bool.{eqb-true}
 use Rattle.trlab_bounds.specs.declared.programs.TheConstants.{VARIABLES}
@@ -63,7 +64,7 @@ pub below : (x : Variable) → variable_number x < VARIABLES
 below (variable.Register r) = let h = register_below r in omega (arith, h)
 below (variable.Input k) = input_below k
 
--- variables with one number are one
+-- variables with the same number are equal
 pub same_is : (x y : Variable) → same_variable x y ≡ true → x ≡ y
 same_is x y e = sym (back x) ∙ ap variable_of (eqb-true (variable_number x) (variable_number y) e) ∙ back y
 
@@ -80,7 +81,7 @@ number_at (x ∷ xs) n (suc k) c h = let e = number_at xs (suc n) k c.1 (omega a
 pub forth : (k : ℕ) → k < VARIABLES → variable_number (variable_of k) ≡ k
 forth k h = let e = number_at variables 0 k (refl, (refl, (refl, (refl, (refl, (refl, (refl, (refl, (refl, (refl, (refl, (refl, (refl, (refl, (refl, tt))))))))))))))) h in omega (arith, e)
 
--- what holds of the number of each variable holds of each number
+-- a property of the number of each variable is one of each number
 pub at_numbers : (P : ℕ → Type 0) → ((x : Variable) → P (variable_number x)) → (k : ℕ) → k < VARIABLES → P k
 at_numbers P h k lt = subst P (forth k lt) (h (variable_of k))
 
@@ -89,7 +90,7 @@ map_at f [] k d z h = absurd (omega arith)
 map_at f (x ∷ xs) zero d z h = refl
 map_at f (x ∷ xs) (suc k) d z h = map_at f xs k d z (omega arith)
 
--- a table that has for each variable what f gives
+-- a table of the values of f at all variables
 pub at_variable : {B : Type 0} (f : Variable → B) (z : B) (l : List B) → l ≡ map f variables → (x : Variable) → get_or l (variable_number x) z ≡ f x
 at_variable f z l e x =
     ap (λ m. get_or m (variable_number x) z) e ∙ map_at f variables (variable_number x) (variable.Register R0) z (below x) ∙ ap f (back x)

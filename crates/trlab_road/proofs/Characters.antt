@@ -1,18 +1,18 @@
--- Characters of speeds: no two speeds have one, and none is the dot.
+-- Characters of speeds: no two speeds have the same character, and no speed has the dot.
 use Rattle.std.proofs.Common.{◌≡◌, ◌≢◌, ℕ, zero, suc, ◌+◌, ◌-◌, ◌<◌, ◌≤◌, eqb, ◌⊎◌, refl, sym, ◌∙◌, ap, inl, inr, arith}
 use Rattle.std.proofs.lemmas.Bool.{cases_lt, cases_eq, cond_above, cond_below, eq-eqb, ne_eqb}
 use Rattle.trlab_road.specs.Pictures.{ShowsSpeed, dot, speed_character}
 use Rattle.trlab_road.specs.Stored.{speed_of_character}
 use Rattle.trlab_road.proofs.Ring.{greatest_is}
 
--- the digits, and the letters behind them
+-- the digits, and the letters after them
 pub of_digit : (v : ℕ) → v < 10 → speed_character v ≡ 48 + v
 of_digit v low = sym (cond_below v 10 (48 + v) (97 + (v - 10)) low)
 
 pub of_letter : (v : ℕ) → 10 ≤ v → speed_character v ≡ 97 + (v - 10)
 of_letter v high = sym (cond_above v 10 (48 + v) (97 + (v - 10)) (97 + (v - 10)) high refl)
 
--- what a character tells of its speed
+-- the speed of a character
 module _ (v : ℕ) where
   abbrev Tells : Type 0
   Tells = ((v < 10) × (speed_character v ≡ 48 + v)) ⊎ ((10 ≤ v) × (speed_character v ≡ 97 + (v - 10)))
@@ -39,7 +39,7 @@ one_speed v w same =
       ]
     ]
 
--- the speed of a character, and no other
+-- the speed of a character is its only speed
 pub speed_back : (v : ℕ) → speed_of_character (speed_character v) ≡ v
 speed_back v = greatest_is (λ speed. eqb (speed_character speed) (speed_character v)) (speed_character v) v (at_least v) (eq-eqb (speed_character v) (speed_character v) refl)
     (λ m above below. ne_eqb (speed_character m) (speed_character v) (λ same. let e = one_speed m v same in omega (arith, e, above)))

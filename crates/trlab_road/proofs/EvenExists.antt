@@ -1,4 +1,4 @@
--- What is asked of evenly spread cars makes a legal road, or has a first fault.
+-- Spreading cars evenly gives a legal road, or has a first fault.
 use Rattle.std.proofs.Common.{◌≡◌, ◌≢◌, ℕ, zero, suc, ◌+◌, ◌*◌, ◌<◌, ◌≤◌, ◌⊎◌, Some, None, [], map, replicate, set, Result, Ok, Err, refl, sym, ap, subst, arith, inl, inr}
 use Rattle.std.specs.List.{range_with_len}
 use Rattle.std.proofs.lemmas.Bool.{cases_lt}
@@ -16,7 +16,7 @@ use Rattle.trlab_road.proofs.PictureFaults.{cases_memory, lanes_or_not, length_o
 abbrev Answer : Type 0
 Answer = Result Cells RoadFault
 
--- a lane on which the first i cars stand
+-- a lane with the first i cars
 lane_up_to : (lanes cells n l : ℕ) → 0 < lanes → n ≤ lanes * cells → (i : ℕ) → i ≤ n → (lane : Lane) × EvenUpTo lanes cells n l i lane
 lane_up_to lanes cells n l some room zero h = (replicate cells None, even_none lanes cells n l)
 lane_up_to lanes cells n l some room (suc i) h =
@@ -27,7 +27,7 @@ lane_up_to lanes cells n l some room (suc i) h =
       | inr other ↦ (before.0, rw (← next) (even_skip lanes cells n l i before.0 before.1 other.1))
     ]
 
--- the road of such lanes
+-- the road with such lanes
 even_exists : (lanes cells limit n : ℕ) → CanSpread lanes cells limit n → (road : Cells) × IsEvenlySpaced lanes cells limit n road
 even_exists lanes cells limit n fits =
     let some : 0 < lanes = fits.lanes_fit.some_lane in

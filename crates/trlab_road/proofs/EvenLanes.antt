@@ -8,7 +8,7 @@ use Rattle.trlab_road.specs.Cells.{Lane, at}
 use Rattle.trlab_road.specs.Spreading.{flat_cell, even_lane, even_place, IsEvenlySpacedLane}
 use Rattle.trlab_road.proofs.MotionByCar.{all_empty}
 
--- a car further on stands on a later cell
+-- a car with a larger number is in a later cell
 pub flat_rises : (lanes cells n i j : ℕ) → n ≤ lanes * cells → 0 < n → i < j
     → flat_cell lanes cells n i < flat_cell lanes cells n j
 flat_rises lanes cells n i j room some before =
@@ -20,7 +20,7 @@ flat_rises lanes cells n i j room some before =
     let above : q + 1 ≤ j * c / n = (le-div_iff_mul-le {k = n} {x = q + 1} {y = j * c} some).1 fits in
     omega arith
 
--- a car stands on one of the cells
+-- the cell of a car is a cell of the road
 flat_below : (lanes cells n i : ℕ) → i < n → 0 < lanes * cells
     → flat_cell lanes cells n i < lanes * cells
 flat_below lanes cells n i low some =
@@ -29,7 +29,7 @@ flat_below lanes cells n i low some =
     let fits : i * c < c * n = omega (arith, step) in
     (div-lt_iff_lt-mul {k = n} {x = i * c} {y = c} (let k : 0 < n = omega arith in k)).1 fits
 
--- two cars on one cell are one
+-- two cars in the same cell are equal
 pub even_once : (lanes cells n i j : ℕ) → n ≤ lanes * cells → 0 < n → 0 < lanes
     → even_lane lanes cells n i ≡ even_lane lanes cells n j
     → even_place lanes cells n i ≡ even_place lanes cells n j → i ≡ j
@@ -48,7 +48,7 @@ even_once lanes cells n i j room some one same_lane same_place =
       ]
     ]
 
--- the place of a car is one of the lane
+-- the place of a car is a place of the lane
 pub even_inside : (lanes cells n i : ℕ) → 0 < lanes → n ≤ lanes * cells → i < n
     → even_place lanes cells n i < cells
 even_inside lanes cells n i some room low =
@@ -56,7 +56,7 @@ even_inside lanes cells n i some room low =
     let swap : cells * lanes ≡ lanes * cells = omega arith in
     (div-lt_iff_lt-mul {k = lanes} {x = flat_cell lanes cells n i} {y = cells} some).1 (rw swap below)
 
--- the first i of n cars stand at their places as far as these are on lane l, and nothing else does
+-- the lane has, at their places, those of the first i of n cars that belong to lane l, and no others
 pub record EvenUpTo (lanes cells n l i : ℕ) (lane : Lane) : Type 0 where
   pub same_length : length lane ≡ cells
   pub stands : (k : ℕ) → k < i → even_lane lanes cells n k ≡ l → at lane (even_place lanes cells n k) ≡ Some (k, 0)
@@ -114,7 +114,7 @@ even_more lanes cells n l i lane some room low m on =
           ];
     }
 
--- when all cars were looked at, the lane is done
+-- after all cars the lane is complete
 pub even_all : (lanes cells n l i : ℕ) (lane : Lane) → n ≤ i → i ≤ n → EvenUpTo lanes cells n l i lane
     → IsEvenlySpacedLane lanes cells n l lane
 even_all lanes cells n l i lane low high m = record {

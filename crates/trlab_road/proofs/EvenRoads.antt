@@ -1,4 +1,4 @@
--- What evenly spread cars make: one legal road, with all of the cars.
+-- Evenly spread cars give exactly one legal road, and it has all of the cars.
 use Rattle.std.proofs.Common.{◌≡◌, ◌≢◌, ℕ, ◌<◌, ◌≤◌, Some, None, List, [], length, get_or, replicate, map, refl, sym, ◌∙◌, ap, subst, arith}
 use Rattle.std.proofs.Math.Nat.{mod-lt}
 use Rattle.std.proofs.lemmas.List.{length-replicate, ext_get_or}
@@ -15,7 +15,7 @@ use Rattle.trlab_road.proofs.MotionLaws.{on_lane, fewer_cars}
 use Rattle.trlab_road.proofs.StandingOrder.{get_or-map_in, standing_rank, standing_cell, rank_below_cars, length-standing_from_lane, car_of}
 use Rattle.trlab_road.proofs.Numbers.{car_cell, all_taken, full, no_one, no_more_cars}
 
--- where each number below n has a car, there are n cars at least
+-- if each number below n has a car, there are at least n cars
 enough_cars : (road : Cells) (n : ℕ) → ((number : ℕ) → number < n → HasNumber road number)
     → n ≤ cars road
 unfolding car_of
@@ -87,7 +87,7 @@ module _ (lanes cells limit n : ℕ) (road : Cells) (fits : CanSpread lanes cell
         once = once;
       }
 
-  -- all of the cars stand, and no others
+  -- the road has all of the cars, and no others
   pub even_count : cars road ≡ n
   even_count =
       let enough = enough_cars road n even_stands in
@@ -113,7 +113,7 @@ same_cell lanes cells n l lane other p q x None (Some car) h g =
 abbrev made : ℕ → List Lane → Cells
 made limit lanes = record { limit = limit; lanes = lanes }
 
--- evenly spread cars make one road only
+-- evenly spread cars give only one road
 pub one_even : (lanes cells limit n : ℕ) (road other : Cells) → IsEvenlySpaced lanes cells limit n road
     → IsEvenlySpaced lanes cells limit n other → road ≡ other
 one_even lanes cells limit n road other p q =
@@ -127,7 +127,7 @@ one_even lanes cells limit n road other p q =
     (λ x g. same_cell lanes cells n l (lane_of road l) (lane_of other l) a b x (cell road l x) (cell other l x) refl refl)) in
     ap (λ (k : ℕ). made k road.lanes) (p.same_limit ∙ sym q.same_limit) ∙ ap (made other.limit) same
 
--- what fits has no fault
+-- a request that fits has no fault
 pub no_fault : (lanes cells limit n : ℕ) (fault : RoadFault) → CanSpread lanes cells limit n
     → IsEvenSpacingFault lanes cells limit n fault → fault ≡ Memory
 no_fault lanes cells limit n Lanes fits h = absurd (h fits.lanes_fit)
@@ -138,7 +138,7 @@ no_fault lanes cells limit n (Character l x) fits h = absurd h
 no_fault lanes cells limit n (SpeedAboveLimit l x) fits h = absurd h
 no_fault lanes cells limit n Memory fits h = refl
 
--- two faults are one, unless an allocation fails
+-- two faults are equal, unless an allocation fails
 pub one_fault : (lanes cells limit n : ℕ) (fault other : RoadFault)
     → IsEvenSpacingFault lanes cells limit n fault → IsEvenSpacingFault lanes cells limit n other
     → fault ≢ Memory → other ≢ Memory → fault ≡ other

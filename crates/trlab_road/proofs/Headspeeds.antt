@@ -13,7 +13,7 @@ use Rattle.trlab_road.proofs.ListMotion.{parted_kth}
 use Rattle.trlab_road.proofs.Lists.{at_kth, length_cells, rises_high, rises_order}
 use Rattle.trlab_road.proofs.Ring.{car_in, ends_before, inside, ring_cases}
 
--- the speed of a car that stands behind the gap
+-- the speed of the car after the gap
 headspeed_there : (lane : Lane) (x y number speed : ℕ) → next_place lane x ≡ y → at lane y ≡ Some (number, speed) → headspeed lane x ≡ speed
 headspeed_there lane x y number speed reach there = ap (λ k. speed_in (at lane k)) reach ∙ ap speed_in there
 
@@ -45,7 +45,7 @@ of_lone_car lane x number speed here alone =
         let e : x + n - n ≡ x = omega arith in
         mod-eq-sub-mod u ∙ ap (λ k. k % n) e ∙ mod-eq_of_lt low
 
--- on a legal road it is within the limit
+-- on a legal road it is at most the limit
 pub headspeed_within : (road : Cells) (l x : ℕ) → IsLegal road → headspeed (lane_of road l) x ≤ road.limit
 headspeed_within road l x legal = of_cell (next_place (lane_of road l) x) (cell road l (next_place (lane_of road l) x)) refl
   where
@@ -53,12 +53,12 @@ headspeed_within road l x legal = of_cell (next_place (lane_of road l) x) (cell 
     of_cell y None is = rw is (omega arith)
     of_cell y (Some car) is = rw is (legal.within_limit (car_in l y car.0 car.1) is)
 
--- the next car of a list, and round the end the first
+-- the next car of a list; from the end on it is the first car
 module _ (n : ℕ) (cars : List LaneCar) (r : IsSortedFrom 0 n cars) (i : ℕ) (low : i < length cars) where
   abbrev own : ℕ
   own = place_of cars i
 
-  -- the way from the car to that of another index
+  -- the distance from the car to the car at another index
   way_to : (k : ℕ) → k < length cars → (own + (gap (cells_of n cars) own + 1)) % n ≡ place_of cars k → headspeed (cells_of n cars) own ≡ (get_or cars k no_car).speed
   way_to k on reach =
       headspeed_there (cells_of n cars) own (place_of cars k) (get_or cars k no_car).number (get_or cars k no_car).speed

@@ -20,7 +20,7 @@ module _ (n : ℕ) (lists : List (Vec LaneCar Global)) (limit k l i : ℕ) (s : 
   abbrev road : Cells
   road = record { limit = limit; lanes = lanes_from n lists }
 
-  -- the car that is j behind in the list
+  -- the car that is j places behind in the list
   found_later_on : (j : ℕ) → i + j < length cars → IsFoundAt lists (k + j) l (i + j)
   found_later_on j low = let order = f.order in record { on_lane = f.on_lane; low = low; order = omega (arith, order) }
 

@@ -1,4 +1,4 @@
--- From answers in standing order to the lane change.
+-- The lane change by answers in standing order.
 use Rattle.std.proofs.Common.{◌≡◌, ℕ, Bool, false, List, get_or, sym, ◌∙◌, ap}
 use Rattle.trlab_road.specs.Cells.{Cells, cell, lane_of}
 use Rattle.trlab_road.specs.LaneChange.{other_lane, crosses_at, AreSafeCrossings, ChangesLanes, CrossesToEmpty, IsCleanLaneChange}
@@ -10,7 +10,7 @@ use Rattle.trlab_road.proofs.Ring.{none_is}
 use Rattle.trlab_road.proofs.LaneChangeLaws.{crosses_by, lane_change_clean, lane_change_legal}
 use Rattle.trlab_road.proofs.StandingOrder.{in_order_at, rank_below_cars}
 
--- answers that are allowed in standing order let cars cross to empty cells alone
+-- if the answers in standing order are allowed, cars change lanes only to empty cells
 pub allowed_free : (road : Cells) (answers : List Bool) → AreSafeCrossings road answers
     → CrossesToEmpty (crosses_at road answers) road
 allowed_free road answers allowed = record {
@@ -28,7 +28,7 @@ crosses_in_order road new answers m crosses is =
     crosses_by (crosses_at road answers) crosses road new
     (λ car here. ap (λ (xs : List Bool). get_or xs (rank road car.lane car.place) false) is ∙ in_order_at crosses false road car.lane car.place car.number car.speed here) m
 
--- where the answers are allowed, the road after the lane change is legal, and the lane change was clean
+-- if the answers are allowed, the road after the lane change is legal, and the lane change is clean
 pub cross_legal : (road new : Cells) (answers : List Bool) → IsLegal road → AreSafeCrossings road answers
     → ChangesLanes (crosses_at road answers) road new → IsLegal new
 cross_legal road new answers legal allowed m = lane_change_legal (crosses_at road answers) road new legal m (allowed_free road answers allowed)

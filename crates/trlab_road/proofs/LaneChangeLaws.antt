@@ -1,4 +1,4 @@
--- What the lane change gives, whichever body wrote the new road.
+-- Properties of the lane change, for any code that writes the new road.
 use Rattle.std.proofs.Common.{◌≡◌, ℕ, zero, suc, ◌+◌, ◌<◌, ◌≤◌, Bool, true, false, cond, Some, None, List, [], ◌∷◌, length, get_or, take, refl, sym, ◌∙◌, ap, subst, inl, inr, arith}
 use Rattle.std.specs.Prelude.{is_some, is_none, sum_by}
 use Rattle.std.specs.Option.{option_or}
@@ -30,7 +30,7 @@ road_after_change_is crosses road = record {
 abbrev made : ℕ → List Lane → Cells
 made limit lanes = record { limit = limit; lanes = lanes }
 
--- the lane change leaves one road only
+-- the lane change has only one result
 pub one_road_after_change : (crosses : ℕ → ℕ → Bool) (old new other : Cells) → ChangesLanes crosses old new
     → ChangesLanes crosses old other → new ≡ other
 one_road_after_change crosses old new other m n =
@@ -45,7 +45,7 @@ one_road_after_change crosses old new other m n =
     let limit : new.limit ≡ other.limit = m.same_limit ∙ sym n.same_limit in
     ap (λ (p : ℕ). made p new.lanes) limit ∙ ap (made other.limit) lanes
 
--- whose car a cell has after the lane change
+-- the car of a cell after the lane change
 pub data Whose (p q : Bool) (own beside : Cell) (car : ℕ × ℕ) : Type 0 where
   its_own : p ≡ false → own ≡ Some car → Whose p q own beside car
   from_beside : q ≡ true → beside ≡ Some car → Whose p q own beside car
@@ -61,7 +61,7 @@ whose false false None beside car h = absurd cc
 abbrev one_if : Cell → ℕ
 one_if c = cond (is_some c) 1 0
 
--- two cells beside one another keep their cars
+-- a pair of side cells keeps its cars
 pair_kept : (p q : Bool) (a b : Cell) → ((u : ℕ × ℕ) → a ≡ Some u → p ≡ true → b ≡ None)
     → ((u : ℕ × ℕ) → b ≡ Some u → q ≡ true → a ≡ None)
     → cond (is_some (cell_after_change p q a b)) 1 0 + cond (is_some (cell_after_change q p b a)) 1 0 ≡ cond (is_some a) 1 0 + cond (is_some b) 1 0
@@ -123,7 +123,7 @@ none_of None h = refl
 none_of (Some car) h = absurd cc
 
 module _ (crosses : ℕ → ℕ → Bool) (old new : Cells) (legal : IsLegal old) (m : ChangesLanes crosses old new) where
-  -- the car of a cell came from where its answer sent it
+  -- the car of a cell came from the cell that its answer implies
   pub came_from : (l x : ℕ) (car : ℕ × ℕ) → cell new l x ≡ Some car
       → (from : ℕ) × ((cell old from x ≡ Some car) × (l ≡ cond (crosses from x) (other_lane from) from))
   came_from l x car h =
@@ -141,7 +141,7 @@ module _ (crosses : ℕ → ℕ → Bool) (old new : Cells) (legal : IsLegal old
       ]
 
   module _ (free : CrossesToEmpty crosses old) where
-    -- a lane of two
+    -- a road of two lanes
     one_of : (l : ℕ) → l < 2 → l < length old.lanes
     one_of l h = rw free.two_lanes h
 
@@ -248,7 +248,7 @@ both_none q s = none_either q ∙ sym (none_either s)
 none_first : (p r : Bool) (c : Cell) → option_or (cond p None None) c ≡ option_or (cond r None None) c
 none_first p r c = rw (none_either p, none_either r) refl
 
--- the lane change knows a function of answers by its values at cars alone
+-- the lane change depends on the answers only at cars
 same_cell_after : (p q r s : Bool) (own beside : Cell) → ((u : ℕ × ℕ) → own ≡ Some u → p ≡ r)
     → ((u : ℕ × ℕ) → beside ≡ Some u → q ≡ s) → cell_after_change p q own beside ≡ cell_after_change r s own beside
 same_cell_after p q r s (Some a) (Some b) f g = rw (f a refl, g b refl) refl

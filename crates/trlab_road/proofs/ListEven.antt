@@ -8,7 +8,7 @@ use Rattle.trlab_road.specs.Stored.{cells_of, IsSortedFrom, place_of, list_at}
 use Rattle.trlab_road.proofs.ListPush.{below_push, cells_empty, cells_push, rises_push}
 use Rattle.trlab_road.proofs.EvenLanes.{EvenUpTo, even_none, even_skip, even_more, even_inside, flat_rises}
 
--- a car further on stands later on its lane
+-- a car with a larger number has a later place on its lane
 place_rises : (lanes cells n i j : ℕ) → n ≤ lanes * cells → 0 < n → i < j → even_lane lanes cells n i ≡ even_lane lanes cells n j → even_place lanes cells n i < even_place lanes cells n j
 place_rises lanes cells n i j room some less same =
     let f = flat_cell lanes cells n i in
@@ -21,7 +21,7 @@ place_rises lanes cells n i j room some less same =
       | inr past ↦ let k = mul-le-mul_left lanes past in absurd (omega (arith, a, b, r, k, same))
     ]
 
--- the cars so far stand, before those to come
+-- the list has the cars so far, and their places are before those of the cars to come
 pub record EvenList (lanes cells n l i : ℕ) (cars : List LaneCar) : Type 0 where
   pub rises : IsSortedFrom 0 cells cars
   pub past : (k : ℕ) → k < length cars → (j : ℕ) → i ≤ j → j < n → even_lane lanes cells n j ≡ l → place_of cars k < even_place lanes cells n j
@@ -49,7 +49,7 @@ list_more lanes cells n l i cars car some room low e on is =
           (even_more lanes cells n l i (cells_of cells cars) some room low e.even on);
     }
 
--- what holds of each list yet, where one of them was written
+-- a property that every list has still holds after one of the lists was written
 written_all : (P : ℕ → List LaneCar → Type 0) (lists : List (Vec LaneCar Global)) (l : ℕ) (v : Vec LaneCar Global) → l < length lists → P l v.items
     → ((k : ℕ) → k < length lists → k ≢ l → P k (list_at lists k)) → (k : ℕ) → k < length lists → P k (list_at (set lists l v) k)
 written_all P [] l v inside here other k h = absurd (omega (arith, h))
@@ -59,7 +59,7 @@ written_all P (w ∷ lists) (suc l) v inside here other zero h = other zero h (�
 written_all P (w ∷ lists) (suc l) v inside here other (suc k) h =
     written_all (λ j xs. P (suc j) xs) lists l v (omega (arith, inside)) here (λ j low apart. other (suc j) (omega (arith, low)) (λ e. apart (omega (arith, e)))) k (omega (arith, h))
 
--- the next car stands at the end of the list of its lane
+-- the next car belongs at the end of its lane's list
 pub lists_more : (lanes cells n i l : ℕ) (lists : List (Vec LaneCar Global)) (v : Vec LaneCar Global) (car : LaneCar) → 0 < lanes → n ≤ lanes * cells → i < n → even_lane lanes cells n i ≡ l → l < length lists
     → ((k : ℕ) → k < length lists → EvenList lanes cells n k i (list_at lists k)) → car ≡ record { number = i; place = even_place lanes cells n i; speed = 0 } → v.items ≡ list_at lists l ++ car ∷ []
     → (k : ℕ) → k < length lists → EvenList lanes cells n k (i + 1) (list_at (set lists l v) k)

@@ -16,7 +16,7 @@ clear_from lane way zero h = refl
 clear_from lane way (suc g) h =
     and_from (is_clear lane way g) (is_none (at lane (way (suc g)))) (clear_from lane way g (λ j low high. h j low (omega arith))) (ap is_none (h (suc g) (omega arith) (omega arith)))
 
--- the run along a way ends before the place of the k-th car, or goes all round
+-- the run along a direction ends before the place of the k-th car, or goes round the whole lane
 module _ (n : ℕ) (cars : List LaneCar) (way : ℕ → ℕ) (g : ℕ)
     (clear : (j : ℕ) → 1 ≤ j → j ≤ g → (way j < n) × ((k : ℕ) → k < length cars → place_of cars k ≢ way j)) where
   run : is_clear (cells_of n cars) way g ≡ true
@@ -33,7 +33,7 @@ gap_by : (n : ℕ) (cars : List LaneCar) (x : ℕ) → gap (cells_of n cars) x �
 gap_by n cars x = ap (λ m. clear_cells (cells_of n cars) (ahead m x)) (length_cells n cars)
 
 module _ (n : ℕ) (cars : List LaneCar) (r : IsSortedFrom 0 n cars) (x : ℕ) (inside : x < n) where
-  -- ahead of a place, where the cars from an index on stand further on
+  -- ahead of a place, if the places of the cars from an index on are further ahead
   module _ (next : ℕ) (p : IsFirstPast cars x next) where
     pub gap_next : next < length cars → gap (cells_of n cars) x ≡ place_of cars next - x - 1
     gap_next h =
@@ -83,7 +83,7 @@ module _ (n : ℕ) (cars : List LaneCar) (r : IsSortedFrom 0 n cars) (x : ℕ) (
         | inr w ↦ let u = w.0 in rw w.1 (omega arith, λ k within. absurd (omega arith))
       ]) refl)
 
--- behind a place that no car takes
+-- behind a place without a car
 behind_near : (n x j : ℕ) → j ≤ x → x < n → behind n x j ≡ x - j
 behind_near n x j low inside =
     let u : n ≤ x + (n - j) = omega arith in

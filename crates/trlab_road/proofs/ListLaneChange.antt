@@ -43,7 +43,7 @@ sought_later n cars x y k r s le low = record {
 pub sought_other : (n : ℕ) (cars : List LaneCar) (x k : ℕ) → IsSortedFrom 0 n cars → IsFirstFrom cars x k → (k < length cars → place_of cars k ≢ x) → IsFirstFrom cars (x + 1) k
 sought_other n cars x k r s other = sought_later n cars x (x + 1) k r s (omega arith) (λ low. let a = s.from k (omega arith) low in let b = other low in omega (arith, a, b))
 
--- one car further, where the first from a place on stands there
+-- one car further, if the first car from a place on is at this place
 pub sought_next : (n : ℕ) (cars : List LaneCar) (x k : ℕ) (here : Bool) → IsSortedFrom 0 n cars → IsFirstFrom cars x k → (here ≡ true → k < length cars) → (here ≡ true → place_of cars k ≡ x)
     → (here ≡ false → k < length cars → place_of cars k ≢ x) → IsFirstFrom cars (x + 1) (k + from_bool here)
 sought_next n cars x k true r s low there other = sought_past n cars x k r s (low refl) (there refl)
@@ -73,14 +73,14 @@ due_within n cars k a r d =
       | inr high ↦ let e = d.past high in omega (arith, e)
     ]
 
--- where the first car from a place on stands past it, that place is empty
+-- if the first car from a place on is behind that place, the place is empty
 pub due_none : (n : ℕ) (cars : List LaneCar) (x k a : ℕ) → IsSortedFrom 0 n cars → IsFirstFrom cars x k → IsDue n cars k a → x < a → cell_at cars x ≡ None
 due_none n cars x k a r s d later = sought_none n cars x k r s (λ low e. let h = d.here low in omega (arith, h, e, later))
 
 pub due_past : (n : ℕ) (cars : List LaneCar) (x k a : ℕ) → IsSortedFrom 0 n cars → IsFirstFrom cars x k → IsDue n cars k a → x < a → IsFirstFrom cars (x + 1) k
 due_past n cars x k a r s d later = sought_other n cars x k r s (λ low e. let h = d.here low in omega (arith, h, e, later))
 
--- as many cars as the index of the first car from x on stand before x
+-- if k is the index of the first car from x on, k cars have places before x
 cell_take : (cars : List LaneCar) (i y : ℕ) → ((k : ℕ) → i ≤ k → k < length cars → y < place_of cars k) → cell_at cars y ≡ cell_at (take i cars) y
 cell_take [] zero y h = refl
 cell_take [] (suc i) y h = refl
@@ -126,7 +126,7 @@ module _ (n : ℕ) (own beside : List LaneCar) (oc bc : ℕ → Bool) (r : IsSor
   }
 
   module _ (next : List LaneCar) (i j x : ℕ) (m : Merged n own beside oc bc next i j x) where
-    -- on to the first place where a car stands
+    -- on to the first place with a car
     pub merged_to : (y : ℕ) → x ≤ y → (i < length own → y ≤ place_of own i) → (j < length beside → y ≤ place_of beside j) → Merged n own beside oc bc next i j y
     merged_to y le own_low beside_low = record {
       own_at = sought_later n own x y i r m.own_at le own_low;
@@ -146,7 +146,7 @@ module _ (n : ℕ) (own beside : List LaneCar) (oc bc : ℕ → Bool) (r : IsSor
     empty_here : cell_at next x ≡ None
     empty_here = empty_at next x (λ k on e. let c = m.below k on in omega (arith, c, e))
 
-    -- one place more, where no car comes to stand, and where one does
+    -- one place more: no car comes to it, or one does
     pub merged_skip : (i' j' : ℕ) → IsFirstFrom own (x + 1) i' → IsFirstFrom beside (x + 1) j' → None ≡ cell_after_change (oc x) (bc x) (cell_at own x) (cell_at beside x) → Merged n own beside oc bc next i' j' (x + 1)
     merged_skip i' j' s t none = record {
       own_at = s;
@@ -171,11 +171,11 @@ module _ (n : ℕ) (own beside : List LaneCar) (oc bc : ℕ → Bool) (r : IsSor
           ];
         }
 
--- who stays
+-- the car that stays
 pub stays : (oc : Bool) (own side : Cell) (car : ℕ × ℕ) → own ≡ Some car → oc ≡ false → Some car ≡ cell_after_change oc true own side
 stays oc own side car e f = rw (e, f) refl
 
--- a car is the first from its place on
+-- a car is the first car from its own place on
 pub first_at : (n : ℕ) (cars : List LaneCar) (k : ℕ) → IsSortedFrom 0 n cars → k < length cars → IsFirstFrom cars (place_of cars k) k
 first_at n cars k r low = record {
   within = omega arith;
@@ -183,7 +183,7 @@ first_at n cars k r low = record {
   from = λ m h on. rises_weakly n cars k m r h on;
 }
 
--- a run of cars that stay, where none comes
+-- a run of cars that stay, without a car that comes
 module _ (n : ℕ) (own beside : List LaneCar) (oc : ℕ → Bool) (r : IsSortedFrom 0 n own) (q : IsSortedFrom 0 n beside) (j due : ℕ) (d : IsDue n beside j due) (le : due ≤ n) where
   pub merged_run : (c : ℕ) (next : List LaneCar) (i x : ℕ) → Merged n own beside oc (λ _. true) next i j x → x ≤ due → i + c ≤ length own → ((k : ℕ) → i ≤ k → k < i + c → place_of own k < due)
       → ((k : ℕ) → i ≤ k → k < i + c → oc (place_of own k) ≡ false) → (y : ℕ) × (Merged n own beside oc (λ _. true) (next ++ take c (drop i own)) (i + c) j y × (y ≤ due))
@@ -206,7 +206,7 @@ module _ (n : ℕ) (own beside : List LaneCar) (oc : ℕ → Bool) (r : IsSorted
       let index : i + 1 + c ≡ i + suc c = omega arith in
       (rest.0, (subst (λ e. Merged n own beside oc (λ _. true) (next ++ take (suc c) (drop i own)) e j rest.0) index (subst (λ l. Merged n own beside oc (λ _. true) l (i + 1 + c) j rest.0) list rest.1.0), rest.1.1))
 
--- where every place is passed, the lane that the new list makes is the one after the lane change
+-- after all places, the lane of the new list is the lane after the lane change
 pub merged_all : (n : ℕ) (own beside : List LaneCar) (oc bc : ℕ → Bool) (next : List LaneCar) (i j x : ℕ) → Merged n own beside oc bc next i j x → n ≤ x → LaneCrosses oc bc (cells_of n own) (cells_of n beside) (cells_of n next)
 merged_all n own beside oc bc next i j x m whole = record {
   same_length = length_cells n next ∙ sym (length_cells n own);
@@ -231,6 +231,6 @@ merged_next n own beside oc bc r q next i j x a b p m le here past there gone is
     let gl = g.0 in
     merged_to n own beside oc bc r q next i j x m p (omega (arith, is, fl, gl)) (λ low. let e = here low in omega (arith, is, e)) (λ low. let e = there low in omega (arith, is, e))
 
--- the answer that stands at an index is that of the place
+-- the answer at an index is the answer at the place
 pub crosses_here : (n : ℕ) (cars : List LaneCar) (answers : List Bool) (from x k : ℕ) → IsSortedFrom 0 n cars → IsFirstFrom cars x k → x ≤ n → get_or answers (from + k) false ≡ lane_crosses_at (cells_of n cars) answers from x
 crosses_here n cars answers from x k r s le = ap (λ i. get_or answers (from + i) false) (sym (rank_sought n cars x k r s le))

@@ -9,7 +9,7 @@ use Rattle.trlab_road.proofs.Lists.{length_cells, cells_at, cell_kth, empty_at, 
 use Rattle.trlab_road.proofs.ListLaneChange.{crosses_here}
 use Rattle.trlab_road.proofs.ListPush.{below_push, cell_push, cell_pushed, rises_push}
 
--- of the first k cars those that cross are in a list
+-- the cars that change lanes, among the first k cars, form a list
 pub record Leaving (n : ℕ) (cars : List LaneCar) (answers : List Bool) (from k : ℕ) (leaving : List LaneCar) : Type 0 where
   pub rises : IsSortedFrom 0 n leaving
   pub before : (m : ℕ) → k ≤ m → m < length cars → (j : ℕ) → j < length leaving → place_of leaving j < place_of cars m
@@ -24,7 +24,7 @@ module _ (n : ℕ) (cars : List LaneCar) (answers : List Bool) (from : ℕ) (r :
     abbrev car : LaneCar
     car = get_or cars k no_car
 
-    -- one car more, which crosses
+    -- one more car, which changes lanes
     pub one_leaves : get_or answers (from + k) false ≡ true → Leaving n cars answers from (k + 1) (leaving ++ car ∷ [])
     one_leaves crosses = record {
       rises = rises_push 0 n leaving car l.rises (λ j h. l.before k (omega arith) low j h) (omega arith) (rises_high 0 n cars k r low);
@@ -36,7 +36,7 @@ module _ (n : ℕ) (cars : List LaneCar) (answers : List Bool) (from : ℕ) (r :
       others = λ x e. cell_push leaving car x (λ same. some_none car (cell_at cars car.place) (subst (λ y. cell_at cars y ≡ None) same e) _ (cell_kth 0 n cars k r low)) ∙ l.others x e;
     }
 
-    -- one car more, which stays
+    -- one more car, which stays
     pub one_stays : get_or answers (from + k) false ≡ false → Leaving n cars answers from (k + 1) leaving
     one_stays stays = record {
       rises = l.rises;
@@ -80,7 +80,7 @@ module _ (n : ℕ) (cars : List LaneCar) (answers : List Bool) (from : ℕ) (r :
           cells_at n leaving x inside ∙ left_at x inside (cell_at cars x) refl ∙ ap (λ c. cond (lane_crosses_at (cells_of n cars) answers from x) c None) (sym (cells_at n cars x inside));
     }
 
--- what comes of the cars that leave the lane beside is what comes of that lane
+-- for the lane that cars change to, the list of cars that leave replaces the other lane
 pub crosses_from : (n : ℕ) (oc bc : ℕ → Bool) (own beside coming new : List LaneCar) → LaneCrosses oc (λ _. true) (cells_of n own) (cells_of n coming) (cells_of n new)
     → HasLeavingCars bc (cells_of n beside) (cells_of n coming) → LaneCrosses oc bc (cells_of n own) (cells_of n beside) (cells_of n new)
 crosses_from n oc bc own beside coming new crosses leaves = record {

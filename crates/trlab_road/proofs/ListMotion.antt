@@ -16,7 +16,7 @@ use Rattle.trlab_road.proofs.Lists.{length_cells, cells_at, at_kth, list_car, kt
 use Rattle.trlab_road.proofs.ListPush.{rises_push, rises_above}
 use Rattle.trlab_road.proofs.ListGaps.{gap_next, gap_round}
 
--- as many cars as its index stand before the k-th car
+-- before the k-th car there are k cars
 pub rank_kth : (n : ℕ) (cars : List LaneCar) (k : ℕ) → IsSortedFrom 0 n cars → k < length cars → lane_car_count (take (place_of cars k) (cells_of n cars)) ≡ k
 rank_kth n cars k r h =
     let cells = cells_of n cars in
@@ -30,14 +30,15 @@ rank_kth n cars k r h =
 pub answer_kth : (n : ℕ) (cars : List LaneCar) (answers : List ℕ) (from k : ℕ) → IsSortedFrom 0 n cars → k < length cars → get_or answers (from + k) 0 ≡ lane_answer (cells_of n cars) answers from (place_of cars k)
 answer_kth n cars answers from k r h = ap (λ i. get_or answers (from + i) 0) (sym (rank_kth n cars k r h))
 
--- the cars up to the k-th stand no further than it
+-- the places of the cars up to the k-th are not beyond its own
 pub parted_kth : (n : ℕ) (cars : List LaneCar) (k : ℕ) → IsSortedFrom 0 n cars → k < length cars → IsFirstPast cars (place_of cars k) (k + 1)
 parted_kth n cars k r h = record {
   before = λ j low within. rises_weakly n cars j k r (omega arith) h;
   after = λ j low within. rises_order 0 n cars k j r (omega arith) within;
 }
 
--- an answer within the gap leads before the next car, and of the last car before the first one
+-- a car's answer within the gap leads to a place before the next car's, and the last car's to one before
+-- the first car's
 module _ (n : ℕ) (cars : List LaneCar) (answer : ℕ → ℕ) (r : IsSortedFrom 0 n cars) (fits : LaneFits answer (cells_of n cars)) where
   pub before_next : (k : ℕ) → k + 1 < length cars → place_of cars k + answer (place_of cars k) < place_of cars (k + 1)
   before_next k h =
@@ -87,7 +88,7 @@ pub record From (n : ℕ) (answer : ℕ → ℕ) (cars next : List LaneCar) (m i
   pub old : j < m
   pub is : get_or next i no_car ≡ gone n answer (get_or cars j no_car)
 
--- the first m cars went ahead
+-- the first m cars went straight ahead
 pub record Moved (n : ℕ) (answer : ℕ → ℕ) (cars next : List LaneCar) (m : ℕ) : Type 0 where
   pub size : length next ≡ m
   pub rises : IsSortedFrom 0 n next
@@ -139,7 +140,7 @@ module _ (n : ℕ) (answer : ℕ → ℕ) (cars next : List LaneCar) (m : ℕ) (
   back_turn front new zero h = (m, record { index = h; old = omega arith; is = new })
   back_turn front new (suc i) h = let a = moved.back i (omega arith) in (a.0, record { index = h; old = (let k = a.1.old in omega arith); is = a.1.is })
 
-  -- the last car passed the end, and is the first now
+  -- the last car passed the end, and is now the first
   pub moved_round : n ≤ place_of cars m + v → car ≡ record { number = (get_or cars m no_car).number; place = place_of cars m + v - n; speed = v } → Moved n answer cars (car ∷ next) (m + 1)
   moved_round past is =
       let place : car.place ≡ place_of cars m + v - n = ap (λ (c : LaneCar). c.place) is in
@@ -158,12 +159,12 @@ module _ (n : ℕ) (answer : ℕ → ℕ) (cars next : List LaneCar) (m : ℕ) (
         last = λ more. absurd (omega (arith, more, whole));
       }
 
--- a car of a list stands where it says
+-- a car of a list is in the cell of its place
 stands : (n : ℕ) (cars : List LaneCar) (k number x speed : ℕ) → IsSortedFrom 0 n cars → k < length cars → get_or cars k no_car ≡ list_car number x speed → at (cells_of n cars) x ≡ Some (number, speed)
 unfolding list_car
 stands n cars k number x speed r low is = subst (λ (car : LaneCar). at (cells_of n cars) car.place ≡ Some (car.number, car.speed)) is (at_kth n cars k r low)
 
--- where all went ahead, the lane that the new list makes is that of the old one after the motion
+-- if all cars went ahead, the lane of the new list is the old lane after the motion
 pub moved_all : (n : ℕ) (answer : ℕ → ℕ) (cars next : List LaneCar) → IsSortedFrom 0 n cars → Moved n answer cars next (length cars) → LaneMoves answer (cells_of n cars) (cells_of n next)
 unfolding list_car
 moved_all n answer cars next r moved =
@@ -193,7 +194,7 @@ moved_all n answer cars next r moved =
           );
     }
 
--- a list whose last car was taken off
+-- a list without its last car
 module _ (n : ℕ) (answer : ℕ → ℕ) (cars before : List LaneCar) (last : LaneCar) (r : IsSortedFrom 0 n cars) (fits : LaneFits answer (cells_of n cars)) (whole : cars ≡ before ++ last ∷ []) where
   pub size_whole : length cars ≡ length before + 1
   size_whole = ap length whole ∙ length_push before last
@@ -220,7 +221,7 @@ module _ (n : ℕ) (answer : ℕ → ℕ) (cars before : List LaneCar) (last : L
         let here = last_kth in
         rw s (moved_round n answer cars now (length before) r fits moved (omega (arith, s)) car v (rw here at same) (rw here at past) (rw here at is))
 
--- a car's answer leads at most round the ring
+-- a car's answer is at most one lap
 pub reach_fits : (n : ℕ) (cars : List LaneCar) (answer : ℕ → ℕ) (k : ℕ) → IsSortedFrom 0 n cars → LaneFits answer (cells_of n cars) → k + 1 ≡ length cars → place_of cars k + answer (place_of cars k) < n + n
 reach_fits n cars answer k r fits whole =
     let a = before_first n cars answer r fits k whole in

@@ -1,4 +1,4 @@
--- Pictures from a sorted list, by filling and setting.
+-- Pictures of a sorted list: filled with dots, then set car by car.
 use Rattle.std.proofs.Common.{Some, ◌≡◌, ℕ, zero, suc, ◌+◌, ◌<◌, List, [], ◌∷◌, length, get_or, map, set, take, replicate, refl, sym, ◌∙◌, ap, subst, arith}
 use Rattle.std.specs.List.{range_with_len}
 use Rattle.std.proofs.lemmas.List.{map-set, get_or-take, take_more, length-take-le}

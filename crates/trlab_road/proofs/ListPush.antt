@@ -7,7 +7,7 @@ use Rattle.trlab_road.specs.Cells.{Cell, Lane}
 use Rattle.trlab_road.specs.Stored.{cell_at, cells_of, IsSortedFrom, place_of}
 use Rattle.trlab_road.proofs.Lists.{cell_here, cell_other, empty_at, map_range_same, rises_high}
 
--- what stands at a place
+-- the cell of a place
 pub cell_push : (cars : List LaneCar) (car : LaneCar) (x : ℕ) → x ≢ car.place → cell_at (cars ++ car ∷ []) x ≡ cell_at cars x
 cell_push [] car x other = cell_other car [] x (λ e. other (sym e))
 cell_push (first ∷ cars) car x other = ap (cond (eqb first.place x) (Some (first.number, first.speed))) (cell_push cars car x other)
@@ -24,7 +24,7 @@ below_push [] car f low last (suc k) h = absurd (omega arith)
 below_push (first ∷ cars) car f low last zero h = low 0 (omega arith)
 below_push (first ∷ cars) car f low last (suc k) h = below_push cars car f (λ j g. low (suc j) (omega arith)) last k (omega arith)
 
--- the places rise still, from another place on and up to another end too
+-- the places also rise from another place on and up to another end
 pub rises_push : (x n : ℕ) (cars : List LaneCar) (car : LaneCar) → IsSortedFrom x n cars → ((k : ℕ) → k < length cars → place_of cars k < car.place) → x ≤ car.place → car.place < n → IsSortedFrom x n (cars ++ car ∷ [])
 rises_push x n [] car r past low high = (low, high, tt)
 rises_push x n (first ∷ cars) car r past low high = (r.0, r.1, rises_push (suc first.place) n cars car r.2 (λ k h. past (suc k) (omega arith)) (past 0 (omega arith)) high)
@@ -71,7 +71,7 @@ set_cell f g a (suc n) (suc p) b low here other =
     ap (λ c. c ∷ set (map f (range_with_len (a + 1) n)) p b) (other a (λ same. omega arith))
     ∙ ap (λ cs. g a ∷ cs) (set_cell f g (a + 1) n p b (omega arith) (ap g (sym e) ∙ here) (λ y differs. other y (λ same. differs (same ∙ e))))
 
--- a car past the others sets its cell
+-- a car after the others sets its cell
 pub cells_push : (n : ℕ) (cars : List LaneCar) (car : LaneCar) → ((k : ℕ) → k < length cars → place_of cars k < car.place) → car.place < n → cells_of n (cars ++ car ∷ []) ≡ set (cells_of n cars) car.place (Some (car.number, car.speed))
 cells_push n cars car past low =
     let z : 0 + car.place ≡ car.place = omega arith in

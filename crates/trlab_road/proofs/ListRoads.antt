@@ -19,7 +19,7 @@ use Rattle.trlab_road.proofs.Lists.{length_cells, at_kth, cars_of_list, rises_hi
 use Rattle.trlab_road.proofs.ListMotion.{rank_kth}
 use Rattle.trlab_road.proofs.Ring.{car_in}
 
--- a lane is made of its list
+-- the lane of a list
 pub lane_from : (n : ℕ) (lists : List (Vec LaneCar Global)) (l : ℕ) → l < length lists → get_or (lanes_from n lists) l [] ≡ cells_of n (list_at lists l)
 lane_from n [] l h = absurd (omega arith)
 lane_from n (v ∷ lists) zero h = refl
@@ -28,7 +28,7 @@ lane_from n (v ∷ lists) (suc l) h = lane_from n lists l (omega arith)
 pub sorted_rest : (n : ℕ) (v : Vec LaneCar Global) (lists : List (Vec LaneCar Global)) → AreSorted n (v ∷ lists) → AreSorted n lists
 sorted_rest n v lists s = record { rises = λ l h. s.rises (suc l) (omega arith) }
 
--- as many cars as the lists have together, and so of the first lists
+-- the number of cars of all lists, and of the first lists
 pub counted : (n : ℕ) (lists : List (Vec LaneCar Global)) → AreSorted n lists → sum_by lane_car_count (lanes_from n lists) ≡ sum_by length (lists_of lists)
 counted n [] s = refl
 counted n (v ∷ lists) s =
@@ -63,7 +63,7 @@ found_second (v ∷ w ∷ []) k few h past =
     record { on_lane = omega arith; low = omega (arith, a, b, h, past); order = omega (arith, d, past) }
 found_second (v ∷ w ∷ u ∷ lists) k few h past = absurd (omega arith)
 
--- the car that is found stands at its place, and is the k-th
+-- the k-th car, once it is found, is in the cell of its place
 module _ (n : ℕ) (lists : List (Vec LaneCar Global)) (limit k l i : ℕ) (s : AreSorted n lists) (f : IsFoundAt lists k l i) where
   abbrev road : Cells
   road = record { limit = limit; lanes = lanes_from n lists }
@@ -102,7 +102,7 @@ list_here [] l v h = absurd (omega arith)
 list_here (w ∷ lists) zero v h = refl
 list_here (w ∷ lists) (suc l) v h = list_here lists l v (omega arith)
 
--- the lists where one of them was written
+-- the lists after one of them was written
 pub list_written : (lists : List (Vec LaneCar Global)) (l : ℕ) (v : Vec LaneCar Global) → l < length lists → list_at (set lists l v) l ≡ v.items
 list_written [] l v h = absurd (omega arith)
 list_written (w ∷ lists) zero v h = refl
@@ -173,7 +173,7 @@ slow_list n lists limit kept l on k low =
 some_same : {a b : Car} → Some a ≡ Some b → a ≡ b
 some_same e = cc
 
--- what a function of lane and place gives for the car that is found
+-- the value of a function of lane and place for the car that is found
 module _ {X : Type 0} (F : ℕ → ℕ → X) (n : ℕ) (lists : List (Vec LaneCar Global)) (limit k l i : ℕ) (s : AreSorted n lists) (f : IsFoundAt lists k l i) (v : X) (is : v ≡ F l (place_of (list_at lists l) i)) where
   pub found_by : (car : Car) → slice_get (standing (record { limit = limit; lanes = lanes_from n lists })) k ≡ Some car → v ≡ F car.lane car.place
   found_by c h = is ∙ ap (λ (c : Car). F c.lane c.place) (some_same (sym (found_standing n lists limit k l i s f) ∙ h))
@@ -181,7 +181,7 @@ module _ {X : Type 0} (F : ℕ → ℕ → X) (n : ℕ) (lists : List (Vec LaneC
   pub found_in_order : (e : X) → v ≡ get_or (in_order F (record { limit = limit; lanes = lanes_from n lists })) k e
   found_in_order e = is ∙ sym (in_order_kth F (record { limit = limit; lanes = lanes_from n lists }) k (car_on l (get_or (list_at lists l) i no_car)) e (found_standing n lists limit k l i s f))
 
--- counts of cars, by the lengths of the lists
+-- numbers of cars, by the lengths of the lists
 pub list_count : (n : ℕ) (lists : List (Vec LaneCar Global)) (l : ℕ) → AreSorted n lists → l < length lists → lane_car_count (get_or (lanes_from n lists) l []) ≡ length (list_at lists l)
 list_count n lists l s h = ap lane_car_count (lane_from n lists l h) ∙ cars_of_list n (list_at lists l) (s.rises l h)
 
@@ -246,7 +246,7 @@ lists_move n limit lists next answers m = record {
 pub allowed_count : (n limit : ℕ) (lists : List (Vec LaneCar Global)) (answers : List ℕ) → AreSafeSpeeds (record { limit = limit; lanes = lanes_from n lists }) answers → sum_by lane_car_count (lanes_from n lists) ≤ length answers
 allowed_count n limit lists answers allowed = let e = allowed.one_each in omega (arith, e)
 
--- a sorted list is told by the cells that it makes
+-- a sorted list is determined by its cells
 abbrev off : Car → LaneCar
 off car = record { number = car.number; place = car.place; speed = car.speed }
 

@@ -1,4 +1,4 @@
--- The side cell and the gaps beside, from a binary search.
+-- The side cell and the side gaps, by binary search.
 use Rattle.std.proofs.Common.{◌≡◌, ◌≢◌, ℕ, ◌<◌, ◌≤◌, ◌-◌, Bool, true, false, cond, nat_eq, not, List, length, ◌∙◌, ap, sym, inl, inr, arith}
 use Rattle.std.specs.Prelude.{is_none}
 use Rattle.std.proofs.lemmas.Bool.{cases_eq, cond-true, cond-false}

@@ -13,21 +13,21 @@ use Rattle.trlab_road.specs.Standing.{standing_from}
 use Rattle.trlab_road.specs.Stored.{cell_at, cells_of, IsSortedFrom, no_car, place_of, car_on}
 use Rattle.trlab_road.proofs.StandingOrder.{length-standing_from}
 
--- the lane has so many cells, and at each place what the list has there
+-- the lane has n cells, and in each cell the car that the list has there
 pub length_cells : (n : ℕ) (cars : List LaneCar) → length (cells_of n cars) ≡ n
 length_cells n cars = length-map-range_with_len (cell_at cars) 0 n
 
 pub cells_at : (n : ℕ) (cars : List LaneCar) (x : ℕ) → x < n → at (cells_of n cars) x ≡ cell_at cars x
 cells_at n cars x h = get_or-map-range_with_len (cell_at cars) 0 n x x None h (let e : 0 + x ≡ x = omega arith in e)
 
--- the first car where it stands, and the others elsewhere
+-- the first car at its place, and the others elsewhere
 pub cell_here : (car : LaneCar) (cars : List LaneCar) (x : ℕ) → car.place ≡ x → cell_at (car ∷ cars) x ≡ Some (car.number, car.speed)
 cell_here car cars x e = cond-true (eqb car.place x) (Some (car.number, car.speed)) (cell_at cars x) (eq-eqb car.place x e)
 
 pub cell_other : (car : LaneCar) (cars : List LaneCar) (x : ℕ) → car.place ≢ x → cell_at (car ∷ cars) x ≡ cell_at cars x
 cell_other car cars x e = cond-false (eqb car.place x) (Some (car.number, car.speed)) (cell_at cars x) (ne_eqb car.place x e)
 
--- no car stands before the first one
+-- before the first car there is no car
 pub none_before : (x n : ℕ) (cars : List LaneCar) (y : ℕ) → IsSortedFrom x n cars → y < x → cell_at cars y ≡ None
 none_before x n [] y r low = refl
 none_before x n (car ∷ cars) y r low =
@@ -49,7 +49,7 @@ step_some l s c cells number speed e = ap (λ d. standing_from l s (d ∷ cells)
 same_car_on : (l s : ℕ) (car : LaneCar) → car.place ≡ s → ◌≡◌ {A = Car} (record { number = car.number; lane = l; place = s; speed = car.speed }) (car_on l car)
 same_car_on l s car e = ap (λ k. record { number = car.number; lane = l; place = k; speed = car.speed }) (sym e)
 
--- the lane that a sorted list makes has these cars in standing order
+-- the lane of a sorted list has these cars in standing order
 pub standing_cells : (l s m n : ℕ) (cars : List LaneCar) → s + m ≡ n → IsSortedFrom s n cars → standing_from l s (map (cell_at cars) (range_with_len s m)) ≡ map (car_on l) cars
 standing_cells l s zero n [] size r = refl
 standing_cells l s zero n (car ∷ cars) size r = let a = r.0 in let b = r.1 in absurd (omega arith)
@@ -76,7 +76,7 @@ standing_cells l s (suc m) n (car ∷ cars) size r =
 pub standing_list : (l n : ℕ) (cars : List LaneCar) → IsSortedFrom 0 n cars → standing_from l 0 (cells_of n cars) ≡ map (car_on l) cars
 standing_list l n cars r = standing_cells l 0 n n cars (let e : 0 + n ≡ n = omega arith in e) r
 
--- as many cars as the list has
+-- as many cars as the list
 pub cars_of_list : (n : ℕ) (cars : List LaneCar) → IsSortedFrom 0 n cars → lane_car_count (cells_of n cars) ≡ length cars
 cars_of_list n cars r = sym (length-standing_from 0 0 (cells_of n cars)) ∙ ap length (standing_list 0 n cars r) ∙ length-map cars (car_on 0)
 
@@ -104,7 +104,7 @@ rises_weakly n cars j k r low h =
       | inr other ↦ let a = rises_order 0 n cars j k r (omega arith) h in omega arith
     ]
 
--- the k-th car stands at its place
+-- the k-th car is in the cell of its place
 pub cell_kth : (x n : ℕ) (cars : List LaneCar) (k : ℕ) → IsSortedFrom x n cars → k < length cars → let car = get_or cars k no_car in cell_at cars car.place ≡ Some (car.number, car.speed)
 cell_kth x n [] k r h = absurd (omega arith)
 cell_kth x n (car ∷ cars) zero r h = cell_here car cars car.place refl
@@ -115,7 +115,7 @@ cell_kth x n (car ∷ cars) (suc k) r h =
 pub at_kth : (n : ℕ) (cars : List LaneCar) (k : ℕ) → IsSortedFrom 0 n cars → k < length cars → let car = get_or cars k no_car in at (cells_of n cars) car.place ≡ Some (car.number, car.speed)
 at_kth n cars k r h = cells_at n cars (place_of cars k) (rises_high 0 n cars k r h) ∙ cell_kth 0 n cars k r h
 
--- a place where no car of the list stands is empty
+-- a place that no car of the list has is empty
 pub empty_at : (cars : List LaneCar) (x : ℕ) → ((k : ℕ) → k < length cars → place_of cars k ≢ x) → cell_at cars x ≡ None
 empty_at [] x h = refl
 empty_at (car ∷ cars) x h = cell_other car cars x (h 0 (omega arith)) ∙ empty_at cars x (λ k low. h (suc k) (omega arith))

@@ -10,7 +10,7 @@ use Rattle.trlab_road.specs.Gaps.{ahead}
 use Rattle.trlab_road.specs.Motion.{ComesFrom, LaneMoves}
 use Rattle.trlab_road.proofs.Ring.{inside}
 
--- the cars of the first places of a lane have moved, and nothing else stands in the new lane
+-- the cars of the first places of a lane have moved, and the new lane has no other cars
 pub record MovedBelow (answer : ℕ → ℕ) (old new : Lane) (i : ℕ) : Type 0 where
   pub same_length : length new ≡ length old
   pub arrived : (x number speed : ℕ) → x < i → at old x ≡ Some (number, speed)

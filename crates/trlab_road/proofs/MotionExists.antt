@@ -48,7 +48,7 @@ lanes_move_somewhere answer (lane ∷ old) fits =
     let rest = lanes_move_somewhere (λ l. answer (suc l)) old (λ l h. fits (suc l) (omega arith)) in
     (first.0 ∷ rest.0, record { same_lanes = ap suc rest.1.same_lanes; each_lane = each answer lane first.0 old rest.0 first.1 rest.1.each_lane })
 
--- the road after the motion exists; `one_road_only` says that it is one
+-- the road after the motion exists; by `one_road_only` there is only one
 pub road_moves_somewhere : (answer : ℕ → ℕ → ℕ) (old : Cells) → Fits answer old
     → (new : Cells) × Moves answer old new
 road_moves_somewhere answer old fits =

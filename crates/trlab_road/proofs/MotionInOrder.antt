@@ -1,4 +1,4 @@
--- From answers in standing order to the motion phase.
+-- The motion phase by answers in standing order.
 use Rattle.std.proofs.Common.{◌≡◌, ℕ, List, length, get_or, ◌∙◌, ap}
 use Rattle.std.specs.Prelude.{slice_index}
 use Rattle.trlab_road.specs.Cells.{Cells, lane_of, AgreeAtCars}
@@ -10,11 +10,11 @@ use Rattle.trlab_road.proofs.MotionLaws.{moved_legal, moves_clean}
 use Rattle.trlab_road.proofs.StandingOrder.{in_order_at, rank_below_cars}
 use Rattle.trlab_road.proofs.Ring.{car_in}
 
--- the answer of the car at a lane and a place, where answers stand in standing order
+-- the answer of the car at a lane and a place, from the answers in standing order
 abbrev pub answer_at : Cells → List ℕ → ℕ → ℕ → ℕ
 answer_at road answers l x = slice_index answers (rank road l x)
 
--- answers that are allowed in standing order fit each car where it stands
+-- allowed answers in standing order fit each car in its cell
 pub allowed_fits : (road : Cells) (answers : List ℕ) → AreSafeSpeeds road answers
     → Fits (answer_at road answers) road
 allowed_fits road answers allowed = record {
@@ -27,7 +27,7 @@ allowed_fits road answers allowed = record {
   within_limit = λ car here. allowed.within_limit (rank road car.lane car.place) (rank_below_cars road car.lane car.place (car.number, car.speed) here);
 }
 
--- the motion phase knows a function of answers by its values at cars alone
+-- the motion phase depends on the answers only at cars
 pub moves_by : (answer other : ℕ → ℕ → ℕ) (old new : Cells)
     → AgreeAtCars answer other old
     → Moves answer old new → Moves other old new
@@ -50,7 +50,7 @@ moves_in_order road new answers m answer is =
     moves_by (answer_at road answers) answer road new
     (λ car here. ap (λ (xs : List ℕ). get_or xs (rank road car.lane car.place) 0) is ∙ in_order_at answer 0 road car.lane car.place car.number car.speed here) m
 
--- where the answers are allowed, the road after the motion is legal, and the motion was clean
+-- if the answers are allowed, the road after the motion is legal, and the motion is clean
 pub allowed_legal : (road new : Cells) (answers : List ℕ) → IsLegal road → AreSafeSpeeds road answers
     → Moves (answer_at road answers) road new → IsLegal new
 allowed_legal road new answers legal allowed m = moved_legal (answer_at road answers) road new legal m (allowed_fits road answers allowed)

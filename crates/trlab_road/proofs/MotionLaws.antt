@@ -1,4 +1,4 @@
--- What the motion phase gives, whichever body wrote the new road.
+-- Properties of the motion phase, for any code that writes the new road.
 use Rattle.std.proofs.Common.{◌≡◌, ◌≢◌, ℕ, suc, ◌<◌, ◌≤◌, cond, Some, None, List, [], ◌∷◌, length, get_or, set, refl, sym, ◌∙◌, ap, subst, inl, inr, arith}
 use Rattle.std.specs.Prelude.{is_some, sum_by}
 use Rattle.std.proofs.lemmas.Bool.{cases_lt}
@@ -11,7 +11,7 @@ use Rattle.trlab_road.specs.Legal.{IsLegal, LanesFit, LengthFits, LimitFits}
 use Rattle.trlab_road.specs.Motion.{LaneMoves, Moves, LaneFits, Fits, IsCleanLaneMotion, IsCleanMotion}
 use Rattle.trlab_road.proofs.Ring.{inside, clear_within_gap, apart_within_gaps}
 
--- the motion phase leaves one road only
+-- the motion of a lane has only one result
 same_cell : (c d : Cell) → ((number speed : ℕ) → c ≡ Some (number, speed) → d ≡ Some (number, speed))
     → ((number speed : ℕ) → d ≡ Some (number, speed) → c ≡ Some (number, speed)) → c ≡ d
 same_cell None None f g = refl
@@ -33,7 +33,7 @@ one_lane_only answer old new other m n =
     ext_get_or None new other (m.same_length ∙ sym n.same_length)
     (λ i h. same_cell (at new i) (at other i) (λ number speed. goes_over answer old new other m n i number speed) (λ number speed. goes_over answer old other new n m i number speed))
 
--- where each car of a lane has a car of another for itself, the other has no fewer
+-- if each car of a lane corresponds to a car of its own on another lane, the other lane has no fewer cars
 pub fewer_cars : (xs ys : Lane) (R : ℕ → ℕ → Type 0) →
     ((x : ℕ) (a : ℕ × ℕ) → at xs x ≡ Some a → (y : ℕ) × ((b : ℕ × ℕ) × (at ys y ≡ Some b) × R x y)) →
     ((x z y : ℕ) → R x y → R z y → x ≡ z) →
@@ -72,7 +72,7 @@ lane_same_count answer old new m far =
 pair_path : {a b x y : ℕ} → a ≡ b → x ≡ y → ◌≡◌ {A = ℕ × ℕ} (a, x) (b, y)
 pair_path e f = cc
 
--- the motion of a lane is clean where each answer is within its gap
+-- the motion of a lane is clean if each answer is within its gap
 pub lane_clean : (answer : ℕ → ℕ) (old new : Lane) → LaneMoves answer old new → LaneFits answer old
     → IsCleanLaneMotion old new
 lane_clean answer old new m within = record {
@@ -145,7 +145,7 @@ module _ (answer : ℕ → ℕ → ℕ) (old new : Cells) (legal : IsLegal old) 
 abbrev made : ℕ → List Lane → Cells
 made limit lanes = record { limit = limit; lanes = lanes }
 
--- the motion phase leaves one road only
+-- the motion phase has only one result
 pub one_road_only : (answer : ℕ → ℕ → ℕ) (old new other : Cells) → Moves answer old new
     → Moves answer old other → new ≡ other
 one_road_only answer old new other m n =

@@ -1,4 +1,4 @@
--- Each number below the count of cars is present, and a car has one place in the standing order.
+-- Each number below the number of cars is present, and a car has one place in the standing order.
 use Rattle.std.proofs.Common.{◌≡◌, ◌≢◌, ℕ, zero, suc, ◌+◌, ◌-◌, ◌<◌, ◌≤◌, Some, None, List, [], ◌∷◌, length, get_or, take, replicate, map, refl, sym, ◌∙◌, ap, subst, inl, inr, ◌⊎◌, arith, length-append}
 use Rattle.std.specs.Prelude.{sum_by}
 use Rattle.std.proofs.lemmas.Bool.{cases_lt, cases_eq, cases_order}
@@ -17,7 +17,7 @@ use Rattle.trlab_road.proofs.StandingOrder.{rank_is, lane_car_count-some}
 abbrev pub car_cell : Car → Cell
 car_cell car = Some (car.number, car.speed)
 
--- cells of cars are all taken
+-- all these cells hold cars
 pub all_taken : (xs : List Car) → lane_car_count (map car_cell xs) ≡ length xs
 all_taken [] = refl
 all_taken (x ∷ xs) = lane_car_count-some (x.number, x.speed) (map car_cell xs) ∙ ap suc (all_taken xs)
@@ -30,7 +30,7 @@ full (suc n) = lane_car_count-some (0, 0) (replicate n (Some (0, 0))) ∙ ap suc
 abbrev pub no_one : Car
 no_one = record { number = 0; lane = 0; place = 0; speed = 0 }
 
--- how many cars stand before a car of a list of lanes
+-- the number of cars before a car of a list of lanes
 abbrev before : ℕ → List Lane → Car → ℕ
 before base lanes car = sum_by lane_car_count (take (car.lane - base) lanes) + lane_car_count (take car.place (get_or lanes (car.lane - base) []))
 
@@ -71,7 +71,7 @@ kth_before base (lane ∷ lanes) k h =
           (next_before base lane lanes car k n later size past rest)
     ]
 
--- a car has one place in the standing order
+-- a car has only one place in the standing order
 pub rank_of_kth : (road : Cells) (k : ℕ) → k < cars road → let car = get_or (standing road) k no_one in rank road car.lane car.place ≡ k
 rank_of_kth road k h =
     let e : (get_or (standing road) k no_one).lane - 0 ≡ (get_or (standing road) k no_one).lane = omega arith in
@@ -82,7 +82,7 @@ module _ (road : Cells) (legal : IsLegal road) where
   abbrev pub number_at : ℕ → ℕ
   number_at k = (get_or (standing road) k no_one).number
 
-  -- two cars of one number are one
+  -- two cars with the same number are equal
   number_once : (k m : ℕ) → k < cars road → m < cars road → number_at k ≡ number_at m → k ≡ m
   number_once k m low high same =
       let a = get_or (standing road) k no_one in
@@ -98,7 +98,7 @@ module _ (road : Cells) (legal : IsLegal road) where
   in_order : lane_car_count (map car_cell (standing road)) ≡ cars road
   in_order = all_taken (standing road) ∙ length-standing_from_lane 0 road.lanes
 
-  -- where each number is below n, there are n cars at most
+  -- if each number is below n, there are at most n cars
   pub no_more_cars : (n : ℕ) → ((k : ℕ) → k < cars road → number_at k < n) → cars road ≤ n
   no_more_cars n low =
       let most = fewer_cars (map car_cell (standing road)) (replicate n (Some (0, 0))) (λ x y. (x < cars road) × (number_at x ≡ y))
@@ -108,7 +108,7 @@ module _ (road : Cells) (legal : IsLegal road) where
       let b = full n in
       omega (arith, most, a, b)
 
-  -- without number i, the numbers move together
+  -- without number i, the larger numbers decrease by one
   abbrev Squeezed : ℕ → ℕ → ℕ → Type 0
   Squeezed i a y = ((a < i) × (y ≡ a)) ⊎ ((i < a) × (suc y ≡ a))
 

@@ -16,14 +16,14 @@ use Rattle.trlab_road.specs.Stored.{lanes_of_pictures}
 abbrev Answer : Type 0
 Answer = Result Cells RoadFault
 
--- the pictures of a legal road have no fault
+-- the pictures of a legal road are free of faults
 pub no_fault_shown : (limit : ℕ) (ps : List (List ℕ)) (fault : RoadFault) → IsFirstPictureFault limit ps fault
     → (road : Cells) → IsLegal road → PicturesShow limit ps road → fault ≡ Memory
 no_fault_shown limit ps fault h road legal s =
     let good = subst (λ (qs : List (List ℕ)). AreValidPictures road.limit qs) s.drawn (pictures_good road legal) in
     no_fault limit ps fault (subst (λ (k : ℕ). AreValidPictures k ps) s.same_limit good) h
 
--- whether a fault is that memory runs out
+-- whether a fault is that an allocation failed
 pub cases_memory : (f : RoadFault) → (f ≡ Memory) ⊎ (f ≢ Memory)
 cases_memory Memory = inl refl
 cases_memory _ = inr (λ e. cc)
@@ -37,14 +37,14 @@ pub told_road : (limit : ℕ) (ps : List (List ℕ)) (road : Cells) → IsLegal 
     → g ≢ Memory → (◌≡◌ {A = Answer} (Ok road) (Err g)) ⊎ (◌≡◌ {A = Answer} (Ok road) (Err Memory))
 told_road limit ps road legal shows g first some = absurd (some (no_fault_shown limit ps g first road legal shows))
 
--- one thing only
+-- only one result
 pub one_thing : (limit : ℕ) (ps : List (List ℕ)) (said other : Answer) → PicturesMean limit ps said → PicturesMean limit ps other → said ≡ other
 one_thing limit ps (Ok road) (Ok other) s t = ap Ok (one_shown limit ps road other s.0 t.0)
 one_thing limit ps (Ok road) (Err f) s t = absurd (t.1 (no_fault_shown limit ps f t.0 road s.1 s.0))
 one_thing limit ps (Err f) (Ok road) s t = absurd (s.1 (no_fault_shown limit ps f s.0 road t.1 t.0))
 one_thing limit ps (Err f) (Err g) s t = ap Err (one_fault limit ps f g s.0 t.0 s.1 t.1)
 
--- the road again
+-- the same road
 pub same_again : (road : Cells) (said : Answer) → IsLegal road → AreNumberedInOrder road → PicturesMean road.limit (map picture road.lanes) said ↔ (said ≡ Ok road)
 same_again road said legal numbered =
     let itself : PicturesMean road.limit (map picture road.lanes) (Ok road) = (record { same_limit = refl; drawn = refl; numbered = numbered }, legal) in

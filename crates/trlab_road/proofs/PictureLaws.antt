@@ -1,4 +1,4 @@
--- Roads from pictures: what pictures show is one legal road.
+-- Roads from pictures: pictures show one legal road.
 use Rattle.std.proofs.Common.{◌≡◌, ◌≢◌, ℕ, zero, suc, ◌+◌, ◌<◌, ◌≤◌, true, false, Option, Some, None, List, [], ◌∷◌, ◌++◌, length, get_or, take, drop, map, refl, sym, ◌∙◌, ap, subst, inl, inr, arith, Bor}
 use Rattle.std.specs.Prelude.{nat_eq, is_some, sum_by}
 use Rattle.std.specs.List.{range_with_len}
@@ -46,7 +46,7 @@ back_again : (limit byte : ℕ) → ShowsCell limit byte → byte ≢ dot → sp
 back_again limit byte (inl e) n = absurd (n e)
 back_again limit byte (inr d) n = character_back limit byte d
 
--- the picture of what a good picture draws
+-- drawing a valid picture gives back the picture
 pub picture_drawn : (limit n : ℕ) (bytes : List ℕ)
     → ((x : ℕ) → x < length bytes → ShowsCell limit (get_or bytes x 0))
     → picture (lane_of_picture n bytes) ≡ bytes
@@ -57,7 +57,7 @@ picture_drawn limit n (byte ∷ bytes) h =
       | inr w ↦ ap picture (drawn_car n byte bytes w.0) ∙ cons_path (back_again limit byte (h 0 (omega arith)) w.1) (picture_drawn limit (suc n) bytes (λ x k. h (suc x) (omega arith)))
     ]
 
--- the cars of what is drawn are numbered in order
+-- the drawn cars are numbered in order
 numbers_from : (l x n : ℕ) (bytes : List ℕ)
     → map number_of (standing_from l x (lane_of_picture n bytes)) ≡ range_with_len n (lane_car_count (lane_of_picture n bytes))
 numbers_from l x n [] = refl
@@ -105,7 +105,7 @@ picture_lanes limit n (bytes ∷ ps) h =
     cons_path (picture_drawn limit n bytes (λ x k. h 0 x (omega arith) k))
     (picture_lanes limit (n + lane_car_count (lane_of_picture n bytes)) ps (λ l x low k. h (suc l) x (omega arith) k))
 
--- good pictures show what they draw
+-- valid pictures show the road that is drawn from them
 pub draws : (limit : ℕ) (ps : List (List ℕ)) → AreValidPictures limit ps → PicturesShow limit ps (record { limit = limit; lanes = lanes_of_pictures 0 ps })
 draws limit ps good = record {
   same_limit = refl;
@@ -116,7 +116,7 @@ draws limit ps good = record {
 same_some : {a b u v : ℕ} → a ≡ b → u ≡ v → ◌≡◌ {A = Option (ℕ × ℕ)} (Some (a, u)) (Some (b, v))
 same_some e f = cc
 
--- a lane whose cars are numbered in order is what its picture draws
+-- a lane whose cars are numbered in order is drawn from its picture
 lane_back : (l x n : ℕ) (lane : Lane)
     → map number_of (standing_from l x lane) ≡ range_with_len n (lane_car_count lane)
     → lane_of_picture n (picture lane) ≡ lane
@@ -152,7 +152,7 @@ lanes_back l n (lane ∷ lanes) h =
 abbrev made : ℕ → List Lane → Cells
 made limit lanes = record { limit = limit; lanes = lanes }
 
--- pictures show one road only: what they draw
+-- pictures show only one road, the one that is drawn from them
 pub shown_drawn : (limit : ℕ) (ps : List (List ℕ)) (road : Cells) → PicturesShow limit ps road
     → road ≡ made limit (lanes_of_pictures 0 ps)
 shown_drawn limit ps road s =
@@ -187,7 +187,7 @@ module _ (limit : ℕ) (ps : List (List ℕ)) (road : Cells) (good : AreValidPic
       ap (λ (p : List ℕ). get_or p x 0) (drawn_at l)
       ∙ get_or-map_in character (lane_of road l) x None 0 (inside (lane_of road l) x (number, speed) h) ∙ ap character h
 
-  -- the number of a car is how many cars stand before it
+  -- the number of a car is the number of cars before it
   pub number_is_rank : (l x number speed : ℕ) → cell road l x ≡ Some (number, speed) → number ≡ rank road l x
   unfolding car_of
   number_is_rank l x number speed h =
@@ -199,7 +199,7 @@ module _ (limit : ℕ) (ps : List (List ℕ)) (road : Cells) (good : AreValidPic
       let e : 0 + r ≡ r = omega arith in
       sym here ∙ sym (get_or-map_in number_of (standing road) r d 0 size) ∙ ap (λ (xs : List ℕ). get_or xs r 0) s.numbered.numbers ∙ get_or-range_with_len 0 (cars road) r 0 low ∙ e
 
-  -- good pictures show a legal road
+  -- valid pictures show a legal road
   pub shown_legal : IsLegal road
   unfolding car_of
   shown_legal =
@@ -235,7 +235,7 @@ cell_shows : (limit : ℕ) (c : Cell) → ((car : ℕ × ℕ) → c ≡ Some car
 cell_shows limit None h = inl refl
 cell_shows limit (Some car) h = inr (record { speed = car.1; within = h car refl; shown = refl })
 
--- the pictures of a legal road are good
+-- the pictures of a legal road are valid
 pub pictures_good : (road : Cells) → IsLegal road → AreValidPictures road.limit (map picture road.lanes)
 pictures_good road legal =
     let count = length-map road.lanes picture in
@@ -254,7 +254,7 @@ pictures_good road legal =
           rw e (cell_shows road.limit (cell road l x) (λ car here. legal.within_limit (car_in l x car.0 car.1) here));
     }
 
--- good pictures have no fault, unless an allocation fails
+-- valid pictures have no fault, unless an allocation fails
 pub no_fault : (limit : ℕ) (ps : List (List ℕ)) (fault : RoadFault) → AreValidPictures limit ps
     → IsFirstPictureFault limit ps fault → fault ≡ Memory
 no_fault limit ps Lanes good h = absurd (h good.shape.lanes)
@@ -265,7 +265,7 @@ no_fault limit ps (SpeedAboveLimit l x) good h = absurd (h.0.1.bad (good.cells l
 no_fault limit ps Memory good h = refl
 no_fault limit ps TooManyCars good h = absurd h
 
--- one byte only is the first that shows no cell
+-- only one byte is the first that shows no cell
 pub one_first_bad : (limit : ℕ) (ps : List (List ℕ)) (l x m y : ℕ) → IsFirstBadCharacter limit ps l x
     → IsFirstBadCharacter limit ps m y → (l ≡ m) × (x ≡ y)
 one_first_bad limit ps l x m y a b =

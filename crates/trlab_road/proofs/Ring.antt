@@ -1,4 +1,4 @@
--- Places on a ring, and runs of empty cells.
+-- Places on the ring, and runs of empty cells.
 use Rattle.std.proofs.Common.{◌≡◌, ℕ, zero, suc, ◌+◌, ◌-◌, ◌%◌, ◌<◌, ◌≤◌, Bool, true, false, Some, None, length, refl, sym, ◌∙◌, ap, subst, inl, inr, ◌⊎◌, arith}
 use Rattle.std.proofs.Math.Numerals.{add-one}
 use Rattle.std.specs.Prelude.{is_some, is_none}
@@ -14,12 +14,12 @@ use Rattle.trlab_road.specs.declared.car.Car.{Car}
 abbrev pub car_in : ℕ → ℕ → ℕ → ℕ → Car
 car_in l x number speed = record { number = number; lane = l; place = x; speed = speed }
 
--- two cars of a lane never go to one cell
+-- two cars of a lane never move to the same cell
 pub record Apart (answer : ℕ → ℕ) (lane : Lane) : Type 0 where
   pub apart : (x y a b u v : ℕ) → at lane x ≡ Some (a, u) → at lane y ≡ Some (b, v)
       → ahead (length lane) x (answer x) ≡ ahead (length lane) y (answer y) → x ≡ y
 
--- a place up to one round ahead is reached straight, or once round the end
+-- a place up to one lap ahead is reached straight, or past the end
 pub ring_cases : (n a : ℕ) → a < n + n → ((a < n) × (a % n ≡ a)) ⊎ ((n ≤ a) × (a % n ≡ a - n))
 ring_cases n a h =
     elim (cases_lt a n) [
@@ -27,7 +27,7 @@ ring_cases n a h =
       | inr above ↦ inr (above, mod-eq-sub-mod above ∙ mod-eq_of_lt (let k : a - n < n = omega arith in k))
     ]
 
--- the way from x to a later place, and from y round the end to an earlier one
+-- the distance from x to a later place, and from y past the end to an earlier one
 pub reach_later : (n x y : ℕ) → x < y → y < n → ahead n x (y - x) ≡ y
 reach_later n x y later inside = let e : x + (y - x) ≡ y = omega arith in rw e (mod-eq_of_lt inside)
 
@@ -55,7 +55,7 @@ blocked lane x g j y car run there low reach =
       | inr far ↦ let e = run.clear j low far in let f : at lane y ≡ None = subst (λ k. at lane k ≡ None) reach e in absurd cc
     ]
 
--- two cars that go less than the way to each other do not meet
+-- two cars that move less than the distance to each other do not meet
 apart_ahead : (n x y p q : ℕ) → x < y → y < n → p < y - x → q < n - y + x → ahead n x p ≡ ahead n y q → ⊥
 apart_ahead n x y p q order inside near far meet =
     let lands : ahead n x p ≡ x + p = mod-eq_of_lt (let k : x + p < n = omega arith in k) in
@@ -84,7 +84,7 @@ clear_at lane way (suc g) h j low high =
       | inr other ↦ clear_at lane way g parts.0 j low (omega arith)
     ]
 
--- the largest number that passes does pass, and is no more than the bound
+-- the largest number that passes does pass, and is at most the bound
 pub greatest_passes : (test : ℕ → Bool) (n : ℕ) → test 0 ≡ true → test (largest test n) ≡ true
 greatest_passes test zero h = h
 greatest_passes test (suc n) h =
@@ -93,14 +93,14 @@ greatest_passes test (suc n) h =
       | inr failed ↦ rw (cond-false (test (suc n)) (suc n) (largest test n) failed) (greatest_passes test n h)
     ]
 
--- an answer within the gap goes over empty cells alone
+-- an answer within the gap leads only over empty cells
 pub clear_within_gap : (lane : Lane) (x v : ℕ) → v ≤ gap lane x → IsClearAhead lane x v
 clear_within_gap lane x v h =
     let way : ℕ → ℕ = ahead (length lane) x in
     let passes = greatest_passes (is_clear lane way) (length lane - 1) refl in
     record { clear = λ j low high. clear_at lane way (gap lane x) passes j low (omega arith) }
 
--- no two cars of a lane go to one cell
+-- no two cars of a lane move to the same cell
 pub apart_within_gaps : (answer : ℕ → ℕ) (lane : Lane) → LaneFits answer lane → Apart answer lane
 apart_within_gaps answer lane within = record {
   apart = λ x y a b u v here there meet.
@@ -122,7 +122,7 @@ apart_within_gaps answer lane within = record {
       ];
 }
 
--- a number that passes is the largest if no greater one passes
+-- a number that passes is the largest if no larger one passes
 pub greatest_is : (test : ℕ → Bool) (n g : ℕ) → g ≤ n → test g ≡ true
     → ((m : ℕ) → g < m → m ≤ n → test m ≡ false) → largest test n ≡ g
 greatest_is test zero g low passes fails = let e : zero ≡ g = omega arith in e
@@ -132,7 +132,7 @@ greatest_is test (suc n) g low passes fails =
       | inr other ↦ cond-false (test (suc n)) (suc n) (largest test n) (fails (suc n) (omega arith) (omega arith)) ∙ greatest_is test n g (omega arith) passes (λ m above inside. fails m above (omega arith))
     ]
 
--- no run goes past an occupied cell
+-- no clear run continues past an occupied cell
 stopped : (lane : Lane) (way : ℕ → ℕ) (g m : ℕ) → is_none (at lane (way (suc g))) ≡ false → g < m
     → is_clear lane way m ≡ false
 stopped lane way g zero taken h = absurd (omega arith)
@@ -142,14 +142,14 @@ stopped lane way g (suc m) taken h =
       | inr other ↦ and_left (is_clear lane way m) (is_none (at lane (way (suc m)))) (stopped lane way g m taken (omega arith))
     ]
 
--- a run that ends before an occupied cell is the longest
+-- a clear run that ends before an occupied cell is the longest
 pub ends_before : (lane : Lane) (way : ℕ → ℕ) (g : ℕ) → g < length lane → is_clear lane way g ≡ true
     → is_some (at lane (way (g + 1))) ≡ true → clear_cells lane way ≡ g
 ends_before lane way g room run taken =
     let closed : is_none (at lane (way (suc g))) ≡ false = not_none (at lane (way (suc g))) (rw add-one at taken) in
     greatest_is (is_clear lane way) (length lane - 1) g (omega arith) run (λ m above bound. stopped lane way g m closed above)
 
--- a run over all cells but one is the longest
+-- a clear run over all cells but one is the longest
 pub goes_round : (lane : Lane) (way : ℕ → ℕ) (g : ℕ) → g ≡ length lane - 1 → is_clear lane way g ≡ true
     → clear_cells lane way ≡ length lane - 1
 goes_round lane way g all run = greatest_is (is_clear lane way) (length lane - 1) (length lane - 1) (omega arith) (rw all at run) (λ m above bound. absurd (omega arith))

@@ -10,7 +10,7 @@ use Rattle.trlab_road.specs.Motion.{in_order}
 use Rattle.trlab_road.specs.Standing.{standing}
 use Rattle.trlab_road.proofs.StandingOrder.{get_or-map_in}
 
--- what a function gives for the k-th car stands at k
+-- the k-th value is the function's value for the k-th car
 pub in_order_kth : {X : Type 0} (f : ℕ → ℕ → X) (road : Cells) (k : ℕ) (car : Car) (e : X)
     → slice_get (standing road) k ≡ Some car → get_or (in_order f road) k e ≡ f car.lane car.place
 in_order_kth {X = X} f road k car e there =

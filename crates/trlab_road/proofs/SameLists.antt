@@ -1,4 +1,4 @@
--- What a comparison of lists of cars tells.
+-- Comparing lists of cars.
 use Rattle.std.proofs.Common.{◌≡◌, ℕ, List, [], ◌∷◌, Vec, Global, length, get_or, drop, map, refl, sym, ◌∙◌, ap, arith}
 use Rattle.std.proofs.lemmas.List.{length-map}
 use Rattle.trlab_road.specs.LaneCars.{LaneCar}
@@ -6,7 +6,7 @@ use Rattle.trlab_road.specs.Cells.{Cells, Lane}
 use Rattle.trlab_road.specs.Stored.{IsListedRoad, AreSorted, cells_of, lanes_from, lists_of}
 use Rattle.trlab_road.proofs.ListRoads.{list_told, sorted_rest, length_first}
 
--- the same lists make the same lanes, and are sorted where the others are
+-- equal lists give equal lanes, and one is sorted if the other is
 by_lists : (n : ℕ) (lists : List (Vec LaneCar Global)) → lanes_from n lists ≡ map (cells_of n) (lists_of lists)
 by_lists n [] = refl
 by_lists n (v ∷ lists) = ap (λ (lanes : List Lane). cells_of n v.items ∷ lanes) (by_lists n lists)
@@ -21,7 +21,7 @@ same_sorted n lists others e s =
     let d = ap length e in
     record { rises = λ l h. rw (ap (λ (xs : List (List LaneCar)). get_or xs l []) e) (s.rises l (omega (arith, a, b, d, h))) }
 
--- sorted lists that make the same lanes are the same
+-- sorted lists with the same lanes are equal
 pub told_lists : (n : ℕ) (lists others : List (Vec LaneCar Global)) → AreSorted n lists → AreSorted n others
     → lanes_from n lists ≡ lanes_from n others → lists_of lists ≡ lists_of others
 told_lists n [] [] r s e = refl

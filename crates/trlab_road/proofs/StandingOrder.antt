@@ -1,4 +1,4 @@
--- Cars in standing order, and the cells where they stand.
+-- Cars in standing order, and their cells.
 use Rattle.std.proofs.Common.{◌≡◌, ℕ, zero, suc, ◌+◌, ◌-◌, ◌<◌, ◌≤◌, cond, Some, None, List, [], ◌∷◌, ◌++◌, length, get_or, take, map, refl, sym, ◌∙◌, ap, inl, inr, arith, length-append}
 use Rattle.std.specs.Prelude.{is_some, sum_by}
 use Rattle.std.proofs.lemmas.Bool.{cases_lt}
@@ -15,7 +15,7 @@ one_if c = cond (is_some c) 1 0
 pub lane_car_count-some : (car : ℕ × ℕ) (cells : Lane) → lane_car_count (Some car ∷ cells) ≡ suc (lane_car_count cells)
 lane_car_count-some car cells = let e = sum_by-cons (λ (c : Cell). cond (is_some c) 1 0) (Some car) cells in omega arith
 
--- the standing order has each car of a lane once
+-- the standing order contains each car of a lane exactly once
 pub length-standing_from : (l s : ℕ) (lane : Lane) → length (standing_from l s lane) ≡ lane_car_count lane
 length-standing_from l s [] = refl
 length-standing_from l s (None ∷ cells) = length-standing_from l (suc s) cells
@@ -31,11 +31,11 @@ length-standing_from_lane l (lane ∷ lanes) =
     let e = sum_by-cons lane_car_count lane lanes in
     omega arith
 
--- a car by its parts
+-- a car from its parts
 unfoldable pub car_of : ℕ → ℕ → ℕ → ℕ → Car
 car_of number l x speed = record { number = number; lane = l; place = x; speed = speed }
 
--- the car of an occupied cell stands in the order after the cars before it
+-- the car of an occupied cell comes in the order after the cars before it
 pub standing_at : (l s : ℕ) (lane : Lane) (x number speed : ℕ) (d : Car)
     → at lane x ≡ Some (number, speed)
     → get_or (standing_from l s lane) (lane_car_count (take x lane)) d ≡ car_of number l (s + x) speed
@@ -98,7 +98,7 @@ rank_in_road (lane ∷ lanes) (suc l) x car h =
     let f = sum_by-cons lane_car_count lane (take l lanes) in
     omega arith
 
--- a car of the order stands in its cell
+-- a car of the order is in its cell
 pub record OnLane (l s : ℕ) (lane : Lane) (car : Car) : Type 0 where
   pub of_lane : car.lane ≡ l
   pub from : s ≤ car.place
@@ -157,7 +157,7 @@ standing_on_lanes base (lane ∷ lanes) k d h =
           (next_lane base lane lanes (get_or (standing_from_lane (suc base) lanes) (k - n) d) on)
     ]
 
--- what a map has at an index
+-- the element of a mapped list at an index
 pub get_or-map_in : {X Y : Type 0} (g : X → Y) (xs : List X) (k : ℕ) (d : X) (e : Y) → k < length xs
     → get_or (map g xs) k e ≡ g (get_or xs k d)
 get_or-map_in g [] k d e h = absurd (omega arith)
@@ -183,7 +183,7 @@ pub rank_below_cars : (road : Cells) (l x : ℕ) (car : ℕ × ℕ) → cell roa
     → rank road l x < cars road
 rank_below_cars road l x car h = rank_in_road road.lanes l x car h
 
--- what a function gives for the car of a cell stands at its rank
+-- the value of a function for the car of a cell comes at the car's rank
 pub in_order_at : {X : Type 0} (f : ℕ → ℕ → X) (e : X) (road : Cells) (l x number speed : ℕ)
     → cell road l x ≡ Some (number, speed) → get_or (in_order f road) (rank road l x) e ≡ f l x
 unfolding car_of

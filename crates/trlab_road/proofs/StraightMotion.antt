@@ -8,7 +8,7 @@ use Rattle.trlab_road.specs.Stored.{cells_of, IsSortedFrom, no_car, place_of, la
 use Rattle.trlab_road.proofs.Lists.{rises_high}
 use Rattle.trlab_road.proofs.ListMotion.{Moved, answer_kth, before_kth, before_next, last_kth, last_round, last_straight, moved_all, moved_none, moved_straight, reach_fits, size_whole}
 
--- a car that was made of what was read of another
+-- a car that is made from the number and the place of another
 made : (car new : LaneCar) (number place v : ℕ) → new ≡ record { number = number; place = place + v; speed = v } → number ≡ car.number → place ≡ car.place
     → new ≡ record { number = car.number; place = car.place + v; speed = v }
 made car new number place v is e f = rw is (rw (e, f) refl)
@@ -17,7 +17,7 @@ round : (car new : LaneCar) (number place v n : ℕ) → new ≡ record { number
     → new ≡ record { number = car.number; place = car.place + v - n; speed = v }
 round car new number place v n is e f = rw is (rw (e, f) refl)
 
--- a list whose last car was taken off, and the speeds of its cars from an index on
+-- a list without its last car, and the speeds of its cars from an index on
 module _ (n : ℕ) (cars before : List LaneCar) (last : LaneCar) (speeds : List ℕ) (from : ℕ) (r : IsSortedFrom 0 n cars)
     (fits : LaneFits (lane_answer (cells_of n cars) speeds from) (cells_of n cars)) (whole : cars ≡ before ++ last ∷ []) where
   abbrev answer : ℕ → ℕ
@@ -37,7 +37,7 @@ module _ (n : ℕ) (cars before : List LaneCar) (last : LaneCar) (speeds : List 
       let s = size in
       rw e (answer_kth n cars speeds from (length before) r (omega (arith, s))) ∙ ap (λ (car : LaneCar). answer car.place) (sym (last_kth n answer cars before last r fits whole))
 
-  -- the last car goes at most round the ring
+  -- the last car moves at most one lap
   pub last_short : (k place : ℕ) → k ≡ length before → place ≡ last.place → place + speed k < n + n
   last_short k place e here =
       let a = reach_fits n cars answer (length before) r fits (sym size) in
@@ -58,7 +58,7 @@ module _ (n : ℕ) (cars before : List LaneCar) (last : LaneCar) (speeds : List 
       let v = speed_kth k low in
       omega (arith, a, b, v)
 
-  -- no car before the last one goes past the end
+  -- no car before the last one moves past the end
   pub short : (k : ℕ) → k < length before → place_of before k + get_or speeds (from + k) 0 < n
   short k low = let a = short_kth k low in let p = ap (λ (c : LaneCar). c.place) (first_cars k low) in omega (arith, a, p)
 
@@ -95,11 +95,11 @@ module _ (n : ℕ) (cars before : List LaneCar) (last : LaneCar) (speeds : List 
     went_round items new j number place end list is e f past =
         after items (new ∷ now) list (last_round n answer cars before last r fits whole now moved_before new (speed j) (last_speed j end) (omega (arith, f, past)) (round last new number place (speed j) n is e f))
 
--- a list that was all written, and is as long as it was
+-- a list that was written completely, and is as long as before
 pub all_in_place : (old next : List LaneCar) (k : ℕ) → k ≡ length old → length next ≡ length old → take k (next ++ drop (length next) old) ≡ next
 all_in_place old next k e same = take_at next _ k (same ∙ sym e)
 
--- there is room for the last car, since it was there
+-- there is room for the last car, because it was there
 pub room_left : (old popped : Vec LaneCar Global) (last : LaneCar) → old.items ≡ popped.items ++ last ∷ [] → vec_capacity popped ≡ vec_capacity old → vec_len popped < vec_capacity popped
 room_left old popped last whole room =
     let a = popped.ok.0 in

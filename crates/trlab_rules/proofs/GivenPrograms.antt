@@ -17,8 +17,8 @@ abbrev pub program_of : Kind → List Instr → Program
 program_of kind instrs = record { kind = kind; instrs = instrs }
 
 module _ {E : Type 0} (result : Result CheckedProgram E) (instrs list : List Instr) (same : instrs ≡ list) where
-  -- what is accepted of such instructions is a motion that answers a rule's speed, where the program of the
-  -- list does
+  -- an accepted program with these instructions is a motion program that computes a rule's speed, if the
+  -- program of the list does
   pub motion_given : (speed : View → List ℕ → ℕ) → ComputesSpeed speed (program_of Motion list) →
       IfOk result (λ motion. (motion.program ≡ program_of Motion instrs) × IsAccepted Motion (program_of Motion instrs)) → IfOk result (IsMotionComputing speed (program_of Motion list))
   motion_given speed moves =
@@ -26,7 +26,7 @@ module _ {E : Type 0} (result : Result CheckedProgram E) (instrs list : List Ins
       (λ motion is. let program : motion.program ≡ program_of Motion list = is.0 ∙ ap (program_of Motion) same in
       record { same = program; accepted = subst (λ z. IsAccepted Motion (program_of Motion z)) same is.1; moves = subst (ComputesSpeed speed) (sym program) moves })
 
-  -- the same of a change and who crosses
+  -- the same for a change program and its lane changes
   pub change_given : (crosses : View → List ℕ → Bool) → ComputesCrossing crosses (program_of Change list) →
       IfOk result (λ change. (change.program ≡ program_of Change instrs) × IsAccepted Change (program_of Change instrs)) → IfOk result (IsChangeComputing crosses (program_of Change list))
   change_given crosses changes =

@@ -1,5 +1,5 @@
--- Notes that are given by ranges and a few facts about the order, and a test of whether a table of them
--- checks.
+-- Notes that are given by ranges and a few facts about the order, and a test that decides whether a table of
+-- them checks.
 use Rattle.std.proofs.Common.{◌≡◌, ℕ, zero, suc, ◌+◌, ◌<◌, ◌≤◌, ◌&&◌, ◌||◌, not, refl, sym, subst, arith, inl, inr, List, [], ◌∷◌, length, Bool, true, false, IsTrue, Option, Some, None, nat_eq, nat_le, cond, get_or}
 use Rattle.std.specs.Prelude.{slice_get, IfSome}
 use Rattle.std.specs.List.{list_all}
@@ -32,7 +32,7 @@ pub record Fact : Type 0 where
   pub other : Variable
   pub level : ℕ
 
--- a row of such a table: what is known of the first registers, facts about the order, and whether the side
+-- a row of such a table: the values of the first registers, facts about the order, and whether the side
 -- cell is empty
 pub record Known : Type 0 where
   pub values : List AbstractValue
@@ -47,7 +47,7 @@ abbrev said_by : Kind → List AbstractValue → Variable → AbstractValue
 said_by kind values (variable.Register r) = get_or values (register_number r) Nothing
 said_by kind values (variable.Input k) = entry_values kind (variable.Input k)
 
--- the note that a row stands for
+-- the note of a row
 abbrev note_of : Kind → Known → Note
 note_of kind known = record { values = said_by kind known.values; level = level_by known.facts; side = known.side }
 
@@ -55,7 +55,7 @@ note_of kind known = record { values = said_by kind known.values; level = level_
 abbrev unknown : Known
 unknown = record { values = []; facts = []; side = false }
 
--- the first says no more of a variable than the second
+-- the first value is no more precise than the second
 abbrev says_no_more : AbstractValue → AbstractValue → Bool
 says_no_more Nothing t = true
 says_no_more (Between a b) (Between c d) = nat_le a c && nat_le d b
@@ -123,7 +123,7 @@ no_stronger kind known n h =
       beside = implied known.side n.side second.1;
     }
 
--- there is no reason to refuse
+-- no reason to reject holds
 abbrev none_stands : Option Reason → Bool
 none_stands None = true
 none_stands (Some reason) = false
@@ -173,7 +173,7 @@ module _ (kind : Kind) (program : Program) (table : List Known) where
   suits_target n None = true
   suits_target n (Some t) = is_no_stronger kind (at_pc t) n
 
-  -- the table checks at pc, where the instruction is i
+  -- the table checks at pc, if the instruction there is i
   abbrev passes : ℕ → Instr → Bool
   passes pc i =
       (nat_eq pc 0 || some_leads program.instrs pc pc)

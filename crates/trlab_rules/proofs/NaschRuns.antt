@@ -1,4 +1,4 @@
--- The motion program of 1992 answers the published speed.
+-- The motion program of Nagel and Schreckenberg (1992) computes the published speed.
 use Rattle.std.proofs.Common.{◌≡◌, ℕ, ◌+◌, ◌-◌, ◌<◌, ◌^◌, min, refl, subst, arith, List, Bool, true, false}
 use Rattle.trlab_code.specs.declared.program.Kind.TheVariants.{Motion}
 use Rattle.trlab_code.specs.declared.instruction.Register.TheVariants.{R0, R1, R2, R3}
@@ -11,7 +11,7 @@ use Rattle.trlab_rules.specs.Standard.{nasch_program}
 use Rattle.trlab_rules.specs.Laws.{ComputesSpeed}
 use Rattle.trlab_rules.proofs.Rows.{Run, num, get, draw, add, sub, smaller, if_false-jumps, if_false-falls, go}
 
--- a speed that is seen can be raised by one
+-- a speed that the car sees can be increased by one
 pub one_more : (view : View) → IsViewInRange view → view.speed + 1 < 2 ^ 32
 one_more view seen = omega (arith, seen.speed, seen.limit)
 
@@ -51,7 +51,7 @@ module _ (p : ℕ) (view : View) (words : List ℕ) (seen : IsViewInRange view) 
       (if_false-jumps R3 11 refl refl
       (go R0 safe refl refl (omega arith) (omega arith))))))))))
 
--- it answers the speed of Nagel and Schreckenberg
+-- it computes the speed of Nagel and Schreckenberg
 pub nasch_moves : (p : ℕ) → ComputesSpeed (nasch_speed p) (nasch_program p)
 nasch_moves p view words seen =
     let run = runs p view words seen (happens_at p words 0) refl in

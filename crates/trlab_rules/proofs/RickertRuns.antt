@@ -1,4 +1,4 @@
--- The change program of 1996 answers who crosses.
+-- The change program of Rickert et al. (1996) computes which cars change lanes.
 use Rattle.std.proofs.Common.{◌≡◌, ℕ, ◌+◌, ◌&&◌, refl, List, Bool, true, false, nat_lt, nat_le, cond}
 use Rattle.std.proofs.lemmas.Bool.{ltb-true, ltb-false, lt-leb, le-leb}
 use Rattle.trlab_code.specs.declared.program.Kind.TheVariants.{Change}
@@ -14,16 +14,16 @@ use Rattle.trlab_rules.specs.Laws.{ComputesCrossing}
 use Rattle.trlab_rules.proofs.Rows.{Run, num, get, side, draw, add, at_most-jumps, at_most-falls, if_false-jumps, if_false-falls, cross, stay}
 use Rattle.trlab_rules.proofs.NaschRuns.{one_more}
 
--- a number that is below another is not at least that
+-- a number below another is not at least that number
 not_least : (m n : ℕ) → nat_lt m n ≡ true → nat_le n m ≡ false
 not_least m n below = lt-leb n m (ltb-true m n below)
 
--- a number that is not below another is at least that
+-- a number that is not below another is at least that number
 least : (m n : ℕ) → nat_lt m n ≡ false → nat_le n m ≡ true
 least m n not_below = le-leb n m (ltb-false m n not_below)
 
 module _ (c : ℕ) (view : View) (words : List ℕ) (seen : IsViewInRange view) where
-  -- from an instruction with these values it comes to an end with this answer
+  -- from an instruction with these values the program comes to an end with this answer
   abbrev Ends : ℕ → Store → Answer → Type 0
   Ends pc s answer = Run Change (rickert_program c).instrs view words (At pc s) answer
 
@@ -46,7 +46,7 @@ module _ (c : ℕ) (view : View) (words : List ℕ) (seen : IsViewInRange view) 
   stays : (s : Store) → Ends 15 s Stays
   stays s = stay refl
 
-  -- each test in turn: where it fails the car stays, and else the next one follows
+  -- each test in turn: if it fails the car stays, otherwise the next test follows
   by_draw : (h : Bool) → view.side ≡ true → happens_at c words 1 ≡ h → Ends 12 at_sideback (cond h Crosses Stays)
   unfolding update
   by_draw true empty happens = draw R3 1 c true refl happens (if_false-falls R3 15 refl refl (cross refl empty))
@@ -93,7 +93,7 @@ module _ (c : ℕ) (view : View) (words : List ℕ) (seen : IsViewInRange view) 
   by_side true near ahead back h empty d e f g = side R0 refl refl (if_false-falls R0 15 refl (rw empty) (by_gap near ahead back h empty d e f g))
   by_side false near ahead back h taken d e f g = side R0 refl refl (if_false-jumps R0 15 refl (rw taken) (stays _))
 
--- it answers who crosses by the exchange of lanes
+-- it computes the lane changes of the published rule
 pub rickert_changes : (c : ℕ) → ComputesCrossing (rickert_crosses c) (rickert_program c)
 rickert_changes c view words seen =
     let run = by_side c view words seen view.side (nat_lt view.gap (view.speed + 1)) (nat_lt (view.speed + 1) view.sidegap) (nat_lt view.limit view.sideback) (happens_at c words 1) refl refl refl refl refl in

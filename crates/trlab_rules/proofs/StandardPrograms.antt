@@ -1,4 +1,4 @@
--- The standard programs are programs: they have not too many instructions, and their fields are in range.
+-- The standard programs are valid: they do not have too many instructions, and their fields are in range.
 use Rattle.std.proofs.Common.{ℕ, ◌≤◌, List, [], ◌∷◌, All, arith}
 use Rattle.std.proofs.lemmas.List.Elements.{All-cons, All-nil}
 use Rattle.trlab_bounds.specs.declared.programs.TheConstants.{CERTAIN}

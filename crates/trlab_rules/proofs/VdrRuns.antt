@@ -1,4 +1,4 @@
--- The motion program of 1998 answers the published speed.
+-- The motion program of Barlovic et al. (1998) computes the published speed.
 use Rattle.std.proofs.Common.{◌≡◌, ℕ, ◌+◌, ◌-◌, min, refl, subst, arith, List, Bool, true, false, nat_eq}
 use Rattle.std.proofs.lemmas.Bool.{eqb-true, lt-leb}
 use Rattle.trlab_code.specs.declared.program.Kind.TheVariants.{Motion}
@@ -18,11 +18,11 @@ module _ (p p0 : ℕ) (view : View) (words : List ℕ) (seen : IsViewInRange vie
   abbrev safe : ℕ
   safe = safe_speed view.speed view.limit view.gap
 
-  -- the values once the draw is done
+  -- the values after the draw
   abbrev drawn : Bool → Store
   drawn h = update (update (update (start Motion view) (variable.Register R0) (Number view.speed)) (variable.Register R1) (Number 1)) (variable.Register R3) (Flag h)
 
-  -- after the draw it moves as the one of 1992
+  -- after the draw the car moves as by the program of 1992
   behind : (h : Bool) → Run Motion (vdr_program p p0).instrs view words (At 6 (drawn h)) (Goes (brake h safe))
   unfolding start update
   behind true =
@@ -45,7 +45,7 @@ module _ (p p0 : ℕ) (view : View) (words : List ℕ) (seen : IsViewInRange vie
       (if_false-jumps R3 14 refl refl
       (go R0 safe refl refl (omega arith) (omega arith)))))))
 
-  -- before the draw it asks whether the car is stopped
+  -- before the draw the program tests whether the car is stopped
   runs : (stands : Bool) (h : Bool) → nat_eq view.speed 0 ≡ stands → happens_at (vdr_braking_chance p p0 view.speed) words 0 ≡ h →
       Run Motion (vdr_program p p0).instrs view words (At 0 (start Motion view)) (Goes (brake h safe))
   unfolding start update
@@ -63,7 +63,7 @@ module _ (p p0 : ℕ) (view : View) (words : List ℕ) (seen : IsViewInRange vie
       (draw R3 0 p h refl (rw stands at happens)
       (behind h))))
 
--- it answers the speed of Barlovic, Santen, Schadschneider and Schreckenberg
+-- it computes the speed of Barlovic, Santen, Schadschneider and Schreckenberg
 pub vdr_moves : (p p0 : ℕ) → ComputesSpeed (vdr_speed p p0) (vdr_program p p0)
 vdr_moves p p0 view words seen =
     let run = runs p p0 view words seen (nat_eq view.speed 0) (happens_at (vdr_braking_chance p p0 view.speed) words 0) refl refl in

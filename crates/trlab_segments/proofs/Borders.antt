@@ -1,4 +1,4 @@
--- Where segments begin, and that together they are all cars.
+-- The borders of the segments; together the segments contain all cars.
 use Rattle.std.proofs.Common.{◌≡◌, ℕ, zero, suc, ◌+◌, ◌-◌, ◌*◌, ◌/◌, ◌<◌, ◌≤◌, List, [], ◌∷◌, ◌++◌, append-nil, map, refl, sym, ap, ◌∙◌, arith, le_trans, mul-le-mul_right, suc-mul, mul_comm}
 use Rattle.std.proofs.lemmas.Nat.{le-div}
 use Rattle.std.proofs.Math.Nat.{div-mul-le_self, div-eq_of_lt-le}

@@ -180,7 +180,7 @@ pub runs_not : (job now : JobState) (lease : LeaseState) (road : Cells) (sum : S
 runs_not job now lease road sum view run other own =
     other (road_at_is_one (run_start now.seed) now.sheet now.done lease.base.road road own.base (sum, run.comes))
 
--- a lease that is given back is refused if it is not the one that is out, and accepted if it is
+-- a lease that is returned is refused if it is not the one that is out, and accepted if it is
 pub back_refused : (lease : Offered) (job : JobState) → accepts_lease lease job ≡ false → give_back_outcome lease job ≡ refusal StrangerLease job
 back_refused lease job other = ap (λ own. if own then record { reply = Done; job = record job { done = lease.step; out = None } } else refusal StrangerLease job) other
 
@@ -204,7 +204,8 @@ full_stays s call full =
     let next : BookState = record { count = s.count + 1; next = next_after s.next (outcome_of_call s call).reply; jobs = (outcome_of_call s call).jobs } in
     sym (cond-true (has_full_history s) s next full)
 
--- the same for a book that is not full, and a call that lends nothing and in which an allocation may have failed
+-- the same for a book that is not full, and a call that lends nothing and in which an allocation may have
+-- failed
 pub told_made : (s now : BookState) (m : Bool) (call : Call) (told : Reply) → s ≡ now → has_full_history now ≡ false
     → MatchBool m (Unit {0}) (told ≡ (outcome_of_call s call).reply) → MatchBool m (Unit {0}) (told ≡ reply_of now call)
 told_made s now true call told view room made = tt

@@ -1,4 +1,4 @@
--- The steps that a lease has run lead a job's road and its tally on.
+-- The steps that a lease has run continue a job's road and its tally.
 use Rattle.std.proofs.Common.{◌≡◌, ℕ, suc, ◌+◌, ◌<◌, ◌==◌, not, true, Option, None, List, [], ◌∷◌, ◌++◌, refl, sym, ◌∙◌, ap, subst, length, length-append, arith, get_or, drop}
 use Rattle.std.proofs.lemmas.List.{drop_more}
 use Rattle.std.specs.Prelude.{◌&&◌, IsSome, Some, is_some, nat_le, if◌then◌else◌}
@@ -36,14 +36,14 @@ leads_push key number step road last next (x ∷ xs) ran leads is =
     let P : ℕ → Type 0 = λ s. IsNext ran.rule (dice_of key number s) last next ran.tally in
     (leads.0, leads.1, leads_push key number (step + 1) leads.0 last next xs ran leads.2 (subst P e is))
 
--- a run on its way, and steps that lead it on under the rules in force, to a last road
+-- a run on its way, and steps that continue it under the rules in force, to a last road
 pub record WayOn (seed : Seed) (sheet : Sheet) (step : ℕ) (sum : StepTally) (ran : List ExecutedStep) (last : Cells) : Type 0 where
   pub road : Cells
   pub run : IsReachedByRun (record { seed = seed; sheet = sheet; step = step; road = road; sum = sum })
   pub leads : LeadsTo seed.key seed.number step road ran last
   pub rules : RanUnderSheet sheet step ran
 
--- after one of these steps the sum is still small, and the others lead on
+-- after one of these steps the sum is still small, and the other steps continue
 pub record GoneOn (seed : Seed) (sheet : Sheet) (step : ℕ) (sum : StepTally) (ran : ExecutedStep) (more : List ExecutedStep) (last : Cells) : Type 0 where
   pub small : IsSmallSum (suc step) (tally_sum sum ran.tally)
   pub way : WayOn seed sheet (step + 1) (if nat_le seed.warm step then tally_sum sum ran.tally else sum) more last

@@ -112,9 +112,10 @@ comes_sheet : (seed : Start) (sheet : Sheet) (step : ℕ) (road : Cells) (sum : 
 comes_sheet seed sheet zero road sum comes = comes.0
 comes_sheet seed sheet (suc step) road sum comes = comes_sheet seed sheet step comes.0 comes.1 comes.4
 
--- what is known of the job of a lease that ran only ordered steps
+-- ---- the job of a lease that ran only ordered steps
 
--- the lease is out for this job, began at the steps done, ran steps that were ordered, and runs the job's road
+-- the lease is out for this job, began at the steps done, ran steps that were ordered, and runs the job's
+-- road
 record IsOutFor (job : JobState) (lease : LeaseState) : Type 0 where
   out : job.out ≡ Some lease.number
   going : job.cancelled ≡ false

@@ -121,13 +121,13 @@ push_was (first ∷ jobs) last job (suc number) at = elim (push_was jobs last jo
   | inr new ↦ inr (ap suc new.0, new.1)
 ]
 
--- a call submitted this job, and was answered with its number
+-- a call submitted this job, and the reply has its number
 abbrev Submits : Call → Reply → ℕ → JobState → Type 0
 Submits asked told number job =
     (rule : Programs) × (asked ≡ call.Submit job.seed rule job.steps) × (told ≡ reply.Number number)
 
--- after a call, each job was there before or is submitted by the call; no job is removed, and a submit that was
--- answered with a number has added one job at the end
+-- after a call, each job was there before or is submitted by the call; no job is removed, and a submit whose
+-- reply has a number has added one job at the end
 record Left (jobs : List JobState) (asked : Call) (told : Reply) (now : List JobState) : Type 0 where
   from : (number : ℕ) (job : JobState) → slice_get now number ≡ Some job → Was jobs number job ⊎ Submits asked told number job
   grows : length jobs ≤ length now
@@ -202,7 +202,7 @@ call_left book asked =
     let later : BookState = record { count = book.count + 1; next = next_after book.next (outcome_of_call book asked).reply; jobs = (outcome_of_call book asked).jobs } in
     full_by (has_full_history book) book later asked (outcome_of_call book asked).reply (served_left book asked)
 
--- one of the calls submitted this job, and was answered with its number
+-- one of the calls submitted this job, and the reply has its number
 record SubmitsAmong (calls : List Call) (replies : List Reply) (number : ℕ) (job : JobState) : Type 0 where
   k : ℕ
   rule : Programs
@@ -251,7 +251,7 @@ of_job history book number seen replays (Some job) here is = (job, jobs_are_subm
 pub snapshots_are_of_submits : SnapshotsAreOfSubmits
 snapshots_are_of_submits history book number seen replays is = of_job history book number seen replays (slice_get book.jobs number) refl is
 
--- a submit after some calls is answered with a number that no earlier job has
+-- the reply to a submit after some calls has a number that no earlier job has
 later_number : (calls : List Call) (book : BookState) (k number : ℕ) (seed : Seed) (rule : Programs) (steps : ℕ) → slice_get calls k ≡ Some (call.Submit seed rule steps) → slice_get (replies_from book calls) k ≡ Some (reply.Number number)
     → length book.jobs ≤ number
 later_number [] book k number seed rule steps a b = absurd (none-some (call.Submit seed rule steps) a)

@@ -1,4 +1,4 @@
--- Accepted programs answer to each car of a legal road.
+-- Accepted programs have an answer for each car of a legal road.
 use Rattle.std.proofs.Common.{◌≡◌, ℕ, zero, suc, ◌-◌, ◌<◌, ◌≤◌, Bool, Option, true, false, cond, Some, None, length, refl, subst, arith}
 use Rattle.trlab_bounds.specs.declared.roads.TheConstants.{MAX_LENGTH}
 use Rattle.std.specs.Prelude.{is_none}
@@ -53,12 +53,12 @@ lane_low l lanes on two = omega (arith, on, two)
 not_some : {A : Type 0} {a : A} → ◌≡◌ {A = Option A} None (Some a) → ⊥
 not_some h = cc
 
--- a lane of a legal road, and so what is seen on it, is short
+-- a lane of a legal road is short, and so are the distances that a car sees on it
 pub seen_within : (road : Cells) (l : ℕ) (way : ℕ → ℕ) → IsLegal road → l < length road.lanes → clear_cells (lane_of road l) way ≤ 99999
 seen_within road l way legal on =
     short_run (clear_cells (lane_of road l) way) (length (lane_of road l)) (length (lane_of road 0)) (clear_within (lane_of road l) way) (legal.shape.equal l on) legal.shape.cells.few_cells
 
--- what the motion program of a car of a legal road sees is in range
+-- the view of a car of a legal road is in range for its motion program
 pub motion_view_is_view : (road : Cells) (car : Car) → IsLegal road → IsAt road car → IsViewInRange (motion_view_of road car)
 motion_view_is_view road car legal here = record {
   speed = legal.within_limit car here;
@@ -71,7 +71,7 @@ motion_view_is_view road car legal here = record {
   headspeed = headspeed_within road car.lane car.place legal;
 }
 
--- what the change program of a car of a legal road of two lanes sees is in range
+-- the view of a car of a legal road of two lanes is in range for its change program
 pub change_view_is_view : (road : Cells) (car : Car) → IsLegal road → length road.lanes ≡ 2 → IsAt road car → IsViewInRange (change_view_of road car)
 change_view_is_view road car legal two here =
     let l = car.lane in
@@ -94,7 +94,7 @@ change_view_is_view road car legal two here =
 some_inside : {a b : ℕ × ℕ} → ◌≡◌ {A = Cell} (Some a) (Some b) → a ≡ b
 some_inside h = cc
 
--- a speed that a motion program answers to what a cell holds, if that is a car
+-- the speed of a motion program for the content of a cell, if this is a car
 record AnswersCell (motion : CheckedProgram) (dice : Dice) (road : Cells) (l x : ℕ) (c : Cell) (v : ℕ) : Type 0 where
   answers : (number speed : ℕ) → c ≡ Some (number, speed) → AnswersSpeed motion dice road (car_in l x number speed) v
   within_gap : (number speed : ℕ) → c ≡ Some (number, speed) → v ≤ gap (lane_of road l) x
@@ -113,7 +113,7 @@ answer_of motion dice road checked legal l x (Some here) is =
       },
     )
 
--- an accepted motion program answers a speed to each car of a legal road, within its gap and the limit
+-- an accepted motion program has a speed for each car of a legal road, within its gap and the limit
 pub speeds_exist : (motion : CheckedProgram) (dice : Dice) (road : Cells) → IsChecked Motion motion → IsLegal road → (speeds : ℕ → ℕ → ℕ) × AnswersSpeeds motion dice road speeds × Fits speeds road
 speeds_exist motion dice road checked legal =
     let answer = λ (l x : ℕ). answer_of motion dice road checked legal l x (cell road l x) refl in (
@@ -129,7 +129,7 @@ none_of : (c : Cell) → is_none c ≡ true → c ≡ None
 none_of None h = refl
 none_of (Some car) h = absurd cc
 
--- what a change program answers to what a cell holds, if that is a car
+-- the answer of a change program for the content of a cell, if this is a car
 record ChoosesCell (change : CheckedProgram) (dice : Dice) (road : Cells) (l x : ℕ) (c : Cell) (crosses : Bool) : Type 0 where
   answers : (number speed : ℕ) → c ≡ Some (number, speed) → AnswersCrossing change dice road (car_in l x number speed) crosses
   side_empty : (number speed : ℕ) → c ≡ Some (number, speed) → crosses ≡ true → cell road (other_lane l) x ≡ None
@@ -146,7 +146,8 @@ crossing_of change dice road checked legal two l x (Some here) is =
       },
     )
 
--- an accepted change program answers to each car of a legal road of two lanes, and lets it cross to an empty cell alone
+-- an accepted change program has an answer for each car of a legal road of two lanes, and changes only to
+-- empty cells
 pub crossings_exist : (change : CheckedProgram) (dice : Dice) (road : Cells) → IsChecked Change change → IsLegal road → length road.lanes ≡ 2 → (crosses : ℕ → ℕ → Bool) × AnswersCrossings change dice road crosses × CrossesToEmpty crosses road
 crossings_exist change dice road checked legal two =
     let choice = λ (l x : ℕ). crossing_of change dice road checked legal two l x (cell road l x) refl in (

@@ -1,4 +1,4 @@
--- What is seen of cars that are asked, and what their programs answer.
+-- The views of the cars whose programs are run, and the answers of their programs.
 use Rattle.std.proofs.Common.{◌≡◌, ◌∙◌, ℕ, ◌≤◌, Bool, true, false, Some, List, length, refl, sym, ap, subst}
 use Rattle.std.specs.Prelude.{slice_index, slice_index_or}
 use Rattle.trlab_code.specs.declared.program.Kind.TheVariants.{Motion, Change}
@@ -25,7 +25,7 @@ use Rattle.trlab_step.proofs.Parts.{same_beside, same_view}
 some_same : {a b : Car} → Some a ≡ Some b → a ≡ b
 some_same h = cc
 
--- one car stands at an index of the standing order
+-- an index of the standing order has only one car
 same : (road : Cells) (k : ℕ) (told : Car) → IsNthCar road k told → (car : Car) → IsNthCar road k car → told ≡ car
 same road k told order car here = some_same (sym order ∙ here)
 
@@ -48,7 +48,7 @@ module _ (road : Cells) (k : ℕ) (told : Car) (order : IsNthCar road k told) (l
         side = λ e. absurd (not_change e);
       }
 
--- what is seen of a car beside what a motion program sees of it
+-- the parts of a car's view that only a change program sees
 module _ (road : Cells) (k : ℕ) (told : Car) (order : IsNthCar road k told) (view : View) (number : ℕ) (own : DescribesCar Motion road k view number) where
   pub beside_asked : IsLegal road → length road.lanes ≡ 2 → IsAt road told → (empty : Bool) (ahead behind : ℕ) → empty ≡ slice_index_or (sides road) k false
       → ((car : Car) → IsNthCar road k car → empty ≡ side (lane_of road (other_lane car.lane)) car.place)
@@ -71,19 +71,20 @@ module _ (road : Cells) (k : ℕ) (told : Car) (order : IsNthCar road k told) (v
 pub same_dice : (dice : Dice) (key : List ℕ) (road step : ℕ) → dice.key ≡ key → dice.road ≡ road → dice.step ≡ step → dice ≡ dice_of key road step
 same_dice dice key road step a b d = ap (λ k. dice_of k dice.road dice.step) a ∙ ap (λ r. dice_of key r dice.step) b ∙ ap (dice_of key road) d
 
--- a motion program answers this speed to the k-th car in standing order, within its gap and the limit
+-- a motion program computes this speed for the k-th car in standing order, within its gap and the limit
 pub record GoesBy (motion : CheckedProgram) (dice : Dice) (road : Cells) (k speed : ℕ) : Type 0 where
   pub answer : (car : Car) → IsNthCar road k car → AnswersSpeed motion dice road car speed
   pub gap : speed ≤ slice_index (gaps road) k
   pub limit : speed ≤ road.limit
 
--- a change program answers so whether the k-th car in standing order crosses, and only to an empty cell
+-- a change program decides in this way whether the k-th car in standing order changes lanes, only to an
+-- empty cell
 pub record CrossesBy (change : CheckedProgram) (dice : Dice) (road : Cells) (k : ℕ) (crosses : Bool)
     : Type 0 where
   pub answer : (car : Car) → IsNthCar road k car → AnswersCrossing change dice road car crosses
   pub side : crosses ≡ true → slice_index_or (sides road) k false ≡ true
 
--- what a block answers to a car is what its motion program answers
+-- the speed of a car in a block is the answer of its motion program
 pub goes_by : (motion : CheckedProgram) (dice : Dice) (road : Cells) (k : ℕ) (view : View) (number speed : ℕ) → DescribesCar Motion road k view number
     → MovesWith motion.program.instrs view (words_of dice number) motion.budget speed → GoesBy motion dice road k speed
 goes_by motion dice road k view number speed asked moves = record {
@@ -96,7 +97,7 @@ goes_by motion dice road k view number speed asked moves = record {
   limit = subst (λ n. speed ≤ n) asked.limit moves.allowed.limit;
 }
 
--- the same of whether it crosses
+-- the same for its lane change
 pub crosses_by : (change : CheckedProgram) (dice : Dice) (road : Cells) (k : ℕ) (view : View) (number : ℕ) (crosses : Bool) → DescribesCar Change road k view number
     → CrossesWith change.program.instrs view (words_of dice number) change.budget crosses → CrossesBy change dice road k crosses
 crosses_by change dice road k view number crosses asked chooses = record {

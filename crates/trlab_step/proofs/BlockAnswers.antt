@@ -1,4 +1,4 @@
--- What the cars of a block answer, which is put behind the answers before it.
+-- The answers of the cars of a block, which are appended to the answers before them.
 use Rattle.std.proofs.Common.{◌≡◌, ◌∙◌, ℕ, ◌+◌, ◌%◌, ◌<◌, ◌≤◌, List, ◌++◌, Bool, false, length, take, get_or, get_or-take, length-take, sym, subst, arith}
 use Rattle.std.specs.Prelude.{slice_index, slice_index_or}
 use Rattle.trlab_bounds.specs.declared.roads.TheConstants.{MAX_LIMIT}
@@ -27,7 +27,7 @@ module _ {n : ℕ} (size : ℕ) (few : size ≤ n) where
     byte_same : (speed limit : ℕ) → speed ≤ limit → limit ≤ MAX_LIMIT → speed % 256 ≡ speed
     byte_same speed limit within low = omega (arith, within, low)
 
-    -- the speeds of a block, each in a byte, are those that its cars take
+    -- the speeds of a block, one byte each, are those of its cars
     pub block_goes : (column bytes : List ℕ) → ((j : ℕ) → j < size → DescribesCar Motion road (begin + j) (view_of views j) (slice_index views.number j))
         → ((j : ℕ) → j < n → j < views.cars → MovesWith program.program.instrs (view_of views j) (car_words dice views j) program.budget (slice_index column j))
         → ((j : ℕ) → j < n → slice_index bytes j ≡ slice_index column j % 256)
@@ -40,7 +40,7 @@ module _ {n : ℕ} (size : ℕ) (few : size ≤ n) where
         let is = get_or-take size bytes j 0 first ∙ low j (near j first) ∙ same in
         subst (GoesBy program dice road (begin + j)) (sym is) (goes_by program dice road (begin + j) (view_of views j) (slice_index views.number j) (slice_index column j) seen moved)
 
-    -- whether the cars of a block cross
+    -- which cars of a block change lanes
     pub block_crosses : (flags : List Bool) → ((j : ℕ) → j < size → DescribesCar Change road (begin + j) (view_of views j) (slice_index views.number j))
         → ((j : ℕ) → j < n → j < views.cars → CrossesWith program.program.instrs (view_of views j) (car_words dice views j) program.budget (slice_index_or flags j false))
         → (j : ℕ) → j < length (take size flags) → CrossesBy program dice road (begin + j) (get_or (take size flags) j false)
@@ -52,7 +52,7 @@ module _ {n : ℕ} (size : ℕ) (few : size ≤ n) where
         (crosses_by program dice road (begin + j) (view_of views j) (slice_index views.number j) (slice_index_or flags j false) seen chosen)
 
 module _ (program : CheckedProgram) (dice : Dice) (road : Cells) (from middle to : ℕ) where
-  -- the speeds of a part, and of a block behind it
+  -- the speeds of a part, and of a block after it
   module _ (speeds block : List ℕ) (end : middle + length block ≡ to) (goes : (k : ℕ) → k < length block → GoesBy program dice road (middle + k) (get_or block k 0)) where
     pub more_speeds : AnswersSpeedsPart program dice road from middle speeds → AnswersSpeedsPart program dice road from to (speeds ++ block)
     more_speeds part =
@@ -62,7 +62,7 @@ module _ (program : CheckedProgram) (dice : Dice) (road : Cells) (from middle to
     pub more_fit : AnswersSpeedsPart program dice road from middle speeds → SpeedsFitPart road from speeds → SpeedsFitPart road from (speeds ++ block)
     more_fit part fits = more_fits road from middle speeds block part.one_each fits (λ k below. (goes k below).gap) (λ k below. (goes k below).limit)
 
-  -- who crosses in a part, and in a block behind it
+  -- the lane changes of a part, and of a block after it
   module _ (crosses block : List Bool) (end : middle + length block ≡ to) (goes : (k : ℕ) → k < length block → CrossesBy program dice road (middle + k) (get_or block k false)) where
     pub more_crossings : AnswersCrossingsPart program dice road from middle crosses → AnswersCrossingsPart program dice road from to (crosses ++ block)
     more_crossings part =

@@ -1,10 +1,10 @@
--- The blocks of cars that are asked one after another.
+-- The blocks of cars whose programs are run, one block after another.
 use Rattle.std.proofs.Common.{◌≡◌, ℕ, ◌+◌, ◌-◌, ◌*◌, ◌/◌, ◌%◌, ◌<◌, ◌≤◌, List, [], min, Bool, arith}
 use Rattle.trlab_road.specs.declared.car.Car.{Car}
 use Rattle.trlab_road.specs.Cells.{Cells}
 use Rattle.trlab_step.specs.Answers.{AreAnswersPart, CrossingsFitPart, SpeedsFitPart}
 
--- before the first block there is no answer
+-- there are no answers before the first block
 pub part_none : {X : Type 0} (IsAnswer : Car → X → Type 0) (road : Cells) (from to : ℕ) (answers : List X) → answers ≡ [] → to ≡ from → AreAnswersPart IsAnswer road from to answers
 part_none IsAnswer road from to answers e there = rw e (record { one_each = omega (arith, there); each = λ k car answer h here. absurd cc })
 
@@ -14,7 +14,7 @@ fits_none road from speeds e = rw e (record { within_gaps = λ k h. absurd (omeg
 pub free_none : (road : Cells) (from : ℕ) (crosses : List Bool) → crosses ≡ [] → CrossingsFitPart road from crosses
 free_none road from crosses e = rw e (record { side_empty = λ k h goes. absurd (omega (arith, h)) })
 
--- where the first and the last block begin and end
+-- the beginning and the end of the first block, and of the last
 pub first_begin : (from to : ℕ) → from ≤ to → min to (from + 0) ≡ from
 first_begin from to rising = omega (arith, rising)
 
@@ -28,7 +28,7 @@ module _ (from to block : ℕ) {count : ℕ} (rising : from ≤ to) (is : count 
   pub begin_is : min to (from + 32 * block) ≡ from + 32 * block
   begin_is = let b = begin_low in omega (arith, b)
 
-  -- a block ends behind 32 cars, or behind the last car
+  -- a block ends after 32 cars, or after the last car
   module _ (size : ℕ) (sized : size ≡ min 32 (to - (from + 32 * block))) where
     pub end_low : from + 32 * block + size ≤ to
     end_low = let b = begin_low in omega (arith, b, sized)
@@ -39,7 +39,7 @@ module _ (from to block : ℕ) {count : ℕ} (rising : from ≤ to) (is : count 
     pub end_after : from + 32 * block ≤ from + 32 * block + size
     end_after = omega arith
 
-    -- so many cars has the block, and behind them the next one begins
+    -- the number of cars in a block; the next block begins after them
     pub size_is : from + 32 * block + size - (from + 32 * block) ≡ size
     size_is = omega arith
 

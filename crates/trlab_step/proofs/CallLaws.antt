@@ -8,7 +8,7 @@ use Rattle.trlab_step.proofs.NextLaws.{lane_change_is_one, lane_change_somewhere
 use Rattle.trlab_step.proofs.RunLaws.{force_all, road_is_one, rule_for_like, run_comes_to_road}
 use Rattle.trlab_step.proofs.SafeCalls.{step_calls_safe}
 
--- a step has one middle road only, and that is legal
+-- a step has only one middle road, and this road is legal
 pub steps_call_safely : StepsCallSafely
 steps_call_safely rule dice road middle next tally is legal step =
     let side = lane_change_somewhere rule.change dice road is.change is.two_lanes legal in

@@ -1,4 +1,4 @@
--- How much one step counts at most.
+-- The largest counts of one step.
 use Rattle.std.proofs.Common.{◌≡◌, ℕ, suc, ◌*◌, ◌<◌, ◌≤◌, List, [], ◌∷◌, length, get_or, arith, Bool, true, false, cond}
 use Rattle.std.proofs.lemmas.List.Sums.{sum_by-cons}
 use Rattle.std.specs.Prelude.{Option, Some, None, sum_by, count_by, is_some, nat_eq}
@@ -62,7 +62,7 @@ few_cars road legal = few_on_lanes road.limit road.lanes legal
 all_in_order : (road : Cells) → length (standing road) ≡ cars road
 all_in_order road = length-standing_from_lane 0 road.lanes
 
--- a tally that is that of one step at most
+-- a tally that is no larger than the largest of one step
 pub record IsSmall (tally : StepTally) : Type 0 where
   pub distance : tally.distance ≤ MAX_LIMIT * 200000
   pub stopped : tally.stopped ≤ 200000

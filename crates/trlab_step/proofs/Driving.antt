@@ -12,7 +12,7 @@ use Rattle.trlab_step.specs.Run.{Seed, Sheet, IsRoadAt, dice_at}
 use Rattle.trlab_step.proofs.NextLaws.{next_road_exists, next_road_is_one}
 use Rattle.trlab_step.proofs.RunLaws.{force_all, road_at_is_one, rule_for_like, run_comes_to_road}
 
--- there is one next road only, and a clean one
+-- there is exactly one next road, and it is clean
 next_is_clean : (rule : Programs) (dice : Dice) (road next : Cells) (tally : StepTally) → IsRuleFor (length road.lanes) rule → IsLegal road
     → IsNext rule dice road next tally → IsCleanNext rule dice road next tally
 next_is_clean rule dice road next tally is legal comes =

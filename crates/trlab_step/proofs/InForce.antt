@@ -26,12 +26,12 @@ steps_rise least (entry ∷ later) rises zero (suc j) d up below =
 steps_rise least (entry ∷ later) rises (suc i) zero d up below = absurd (omega arith)
 steps_rise least (entry ∷ later) rises (suc i) (suc j) d up below = steps_rise (entry.0 + 1) later rises.1 i j d (omega arith) (omega arith)
 
--- where no step has come, no later rule is in force
+-- if no later rule has begun, none is in force
 none_begun : (later : Sheet) (step : ℕ) → AllWithin (λ (entry : ℕ × Programs). nat_le entry.0 step ≡ false) later 0 (length later) → in_force later step ≡ None
 none_begun [] step late = refl
 none_begun (entry ∷ later) step late = rw (late 0 entry (omega arith) (omega arith)) refl
 
--- where those up to one have come, and no more, that one is in force
+-- if the later rules up to one have begun, and no more, that one is in force
 some_begun : (later : Sheet) (step k : ℕ) (d : ℕ × Programs) → k < length later
     → AllWithin (λ (entry : ℕ × Programs). nat_le entry.0 step ≡ true) later 0 (k + 1)
     → AllWithin (λ (entry : ℕ × Programs). nat_le entry.0 step ≡ false) later (k + 1) (length later)
@@ -46,13 +46,13 @@ some_begun (entry ∷ later) step (suc k) d below come late =
           (λ i e low high. come (suc i) e (omega arith) (omega arith)) (λ i e low high. late (suc i) e (omega arith) (omega arith)),
     ) refl
 
--- the first rule is in force where no later one is
+-- the first rule is in force if no later rule is
 pub first_in_force : (first : Programs) (later : Sheet) (step : ℕ)
     → AllWithin (λ (entry : ℕ × Programs). nat_le entry.0 step ≡ false) later 0 (length later)
     → in_force ((0, first) ∷ later) step ≡ Some first
 first_in_force first later step late = rw (le-leb 0 step (omega arith), none_begun later step late) refl
 
--- and else the last that has begun
+-- otherwise the last one that has begun
 pub later_in_force : (first : Programs) (later : Sheet) (step k : ℕ) (d : ℕ × Programs) → k < length later
     → AllWithin (λ (entry : ℕ × Programs). nat_le entry.0 step ≡ true) later 0 (k + 1)
     → AllWithin (λ (entry : ℕ × Programs). nat_le entry.0 step ≡ false) later (k + 1) (length later)

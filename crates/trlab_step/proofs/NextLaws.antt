@@ -1,4 +1,4 @@
--- The next road: there is one, and one only.
+-- There is exactly one next road.
 use Rattle.std.proofs.Common.{◌≡◌, ℕ, suc, ◌<◌, ◌+◌, Bool, cond, Option, Some, None, List, [], ◌∷◌, length, get_or, refl, sym, ◌∙◌, ap, subst, arith}
 use Rattle.std.proofs.lemmas.List.Sums.{sum_by-cons}
 use Rattle.std.specs.Prelude.{count_by, IfSome, IsSome}
@@ -25,7 +25,7 @@ use Rattle.trlab_step.proofs.AnswersExist.{speeds_exist, crossings_exist}
 use Rattle.trlab_step.proofs.PartLaws.{one_answer_each, one_crossing_each}
 use Rattle.trlab_step.proofs.SafeCalls.{step_calls_safe}
 
--- a road is like itself, and like what a road like it is like
+-- a road is like itself, and likeness is transitive
 pub like_itself : (road : Cells) → IsLegal road → IsLegalLike road road
 like_itself road legal = record { legal = legal; same_lanes = refl; same_limit = refl; same_count = refl }
 
@@ -37,11 +37,11 @@ like_next old middle new a b = record {
   same_count = b.same_count ∙ a.same_count;
 }
 
--- where no car crosses, the lane change is clean
+-- if no car changes lanes, the lane change is clean
 pub no_change_clean : (road : Cells) → IsCleanLaneChange road road
 no_change_clean road = record { same_count = refl; none_lost = λ car here. on_own_lane here; none_made = λ car here. (car.lane, here) }
 
--- the lane change leads to a road
+-- the lane change has a result
 pub record LaneChangeSomewhere (change : Option CheckedProgram) (dice : Dice) (road : Cells) : Type 0 where
   pub middle : Cells
   pub changes : ℕ
@@ -71,7 +71,7 @@ lane_change_somewhere (Some change) dice road checked two legal =
       };
     }
 
--- the motion leads to a road
+-- the motion has a result
 pub record MotionSomewhere (motion : CheckedProgram) (dice : Dice) (road : Cells) : Type 0 where
   pub next : Cells
   pub motion_phase : IsMotionPhase motion dice road next
@@ -96,7 +96,7 @@ motion_somewhere motion dice road checked legal =
       };
     }
 
--- what is counted on the way to a road
+-- the counts of the step to a road
 abbrev tally_of : Cells → ℕ → StepTally
 tally_of next changes = record { distance = total_speed next; stopped = stopped_cars next; changes = changes }
 
@@ -118,18 +118,18 @@ next_road_exists rule dice road is legal =
       like_next road side.middle ahead.next side.like ahead.like,
     )
 
--- a motion program answers one speed only to each car
+-- a motion program has only one speed for each car
 pub speeds_agree : (motion : CheckedProgram) (dice : Dice) (road : Cells) (speeds others : ℕ → ℕ → ℕ) → AnswersSpeeds motion dice road speeds → AnswersSpeeds motion dice road others
     → AgreeAtCars speeds others road
 speeds_agree motion dice road speeds others a b car here =
     one_answer_each motion dice road car (speeds car.lane car.place) (others car.lane car.place) (a.each car here) (b.each car here)
 
--- the motion leads to one road only
+-- the motion has only one result
 motion_is_one : (motion : CheckedProgram) (dice : Dice) (road next other : Cells) → IsMotionPhase motion dice road next → IsMotionPhase motion dice road other → next ≡ other
 motion_is_one motion dice road next other a b =
     one_road_only b.0 road next other (moves_by a.0 b.0 road next (speeds_agree motion dice road a.0 b.0 a.1 b.1) a.2) b.2
 
--- a change program lets each car cross or stay, and not both
+-- a change program lets each car change lanes or stay, and not both
 crossings_agree : (change : CheckedProgram) (dice : Dice) (road : Cells) (crosses others : ℕ → ℕ → Bool) → AnswersCrossings change dice road crosses → AnswersCrossings change dice road others
     → AgreeAtCars crosses others road
 crossings_agree change dice road crosses others a b car here =
@@ -154,7 +154,7 @@ crossing_cars_same road crosses others same =
     (λ k h. let car = get_or (standing road) k no_one in
     same car (standing_cell road k no_one (rw length-standing_from_lane at h)))
 
--- the lane change leads to one road only, and one count of crossing cars
+-- the lane change has only one result, and one number of lane changes
 pub lane_change_is_one : (change : Option CheckedProgram) (dice : Dice) (road middle other : Cells) (m n : ℕ) → IsLaneChangePhase change dice road middle m → IsLaneChangePhase change dice road other n → (middle ≡ other) × (m ≡ n)
 lane_change_is_one None dice road middle other m n a b = (a.0 ∙ sym b.0, a.1 ∙ sym b.1)
 lane_change_is_one (Some change) dice road middle other m n a b =

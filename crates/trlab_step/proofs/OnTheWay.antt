@@ -1,4 +1,4 @@
--- A run on its way: its road is legal, and what it has counted is little enough.
+-- A run on its way: its road is legal, and its counts are small enough.
 use Rattle.std.proofs.Common.{◌≡◌, ℕ, zero, suc, ◌+◌, ◌*◌, ◌^◌, ◌<◌, ◌≤◌, length, refl, sym, subst, arith, Bool, true, false}
 use Rattle.std.specs.Prelude.{Some, nat_le, if◌then◌else◌}
 use Rattle.trlab_bounds.specs.declared.roads.TheConstants.{MAX_LIMIT}
@@ -13,21 +13,21 @@ use Rattle.trlab_step.proofs.RunLaws.{force_all, run_comes_to_road, road_is_one}
 use Rattle.trlab_step.specs.Progress.{Progress, IsReachedByRun}
 use Rattle.trlab_step.proofs.Counts.{IsSmall, small_tally}
 
--- the road to which a run comes is like the one from which it started
+-- each road of a run is like its first road
 pub like_start : (seed : Seed) (sheet : Sheet) (step : ℕ) (road : Cells) (sum : StepTally) → IsLegal seed.road → IsSheetFor (length seed.road.lanes) sheet
     → ComesTo seed sheet step road sum → IsLegalLike seed.road road
 like_start seed sheet step road sum legal suits comes =
     let at = run_comes_to_road seed sheet step legal suits in
     subst (λ (r : Cells). IsLegalLike seed.road r) (road_is_one seed sheet step at.0 road at.1 sum at.2 comes).0 at.3
 
--- the rule in force is one for the lanes of the road that is there
+-- the rule in force is one for the lanes of the current road
 pub rule_here : (run : Progress) (rule : Programs) → IsReachedByRun run → in_force run.sheet run.step ≡ Some rule → IsRuleFor (length run.road.lanes) rule
 rule_here run rule on under =
     let like = like_start run.seed run.sheet run.step run.road run.sum on.legal on.suits on.comes in
     subst (λ lanes. IsRuleFor lanes rule) (sym like.same_lanes)
     (force_all (IsRuleFor (length run.seed.road.lanes)) run.sheet run.step rule on.suits.rules under)
 
--- a sum of so many small tallies
+-- a sum of this number of small tallies
 pub record IsSmallSum (steps : ℕ) (sum : StepTally) : Type 0 where
   pub distance : sum.distance ≤ MAX_LIMIT * 200000 * steps
   pub stopped : sum.stopped ≤ 200000 * steps
@@ -43,7 +43,7 @@ one_more false step before sum tally small few is =
     let a = small.distance in let b = small.stopped in let c = small.changes in
     rw is (record { distance = omega arith; stopped = omega arith; changes = omega arith })
 
--- so is what a run has counted
+-- so are the counts of a run
 pub small_sum : (seed : Seed) (sheet : Sheet) (step : ℕ) (road : Cells) (sum : StepTally) → IsLegal seed.road → IsSheetFor (length seed.road.lanes) sheet
     → ComesTo seed sheet step road sum → IsSmallSum step sum
 small_sum seed sheet zero road sum legal suits comes = rw comes.2 (record { distance = omega arith; stopped = omega arith; changes = omega arith })
@@ -53,7 +53,7 @@ small_sum seed sheet (suc step) road sum legal suits comes =
     one_more (nat_le seed.warm step) step comes.1 sum comes.3 (small_sum seed sheet step comes.0 comes.1 legal suits comes.4)
     (small_tally comes.2 (dice_at seed step) comes.0 road comes.3 before.legal after.legal comes.5.next) comes.5.counted
 
--- and what it has counted with the tally of its next step
+-- and these counts plus the tally of the next step
 pub room_for : (run : Progress) (rule : Programs) (next : Cells) (tally : StepTally) → IsReachedByRun run → IsLegal next → IsNext rule (dice_at run.seed run.step) run.road next tally
     → IsSmallSum (suc run.step) (tally_sum run.sum tally)
 room_for run rule next tally on legal is =

@@ -21,7 +21,7 @@ use Rattle.trlab_step.specs.Laws.{SpeedsAreUnique, SpeedsJoin, CrossingsAreUniqu
 one_speed : {a b : ℕ} → Goes a ≡ Goes b → a ≡ b
 one_speed h = cc
 
--- a motion program answers one speed only to a car
+-- a motion program has only one answer for a car
 pub one_answer_each : (motion : CheckedProgram) (dice : Dice) (road : Cells) (car : Car) (a b : ℕ) → AnswersSpeed motion dice road car a → AnswersSpeed motion dice road car b → a ≡ b
 one_answer_each motion dice road car a b first second =
     one_speed ((one_answer Motion motion.program.instrs (motion_view_of road car) (words_of dice car.number) (Goes a) (Goes b) first.0 second.0 first.1 second.1).0)
@@ -32,7 +32,7 @@ one_side true false h = absurd cc
 one_side false true h = absurd cc
 one_side false false h = refl
 
--- a change program lets a car cross or stay, and not both
+-- a change program lets a car change lanes or stay, and not both
 pub one_crossing_each : (change : CheckedProgram) (dice : Dice) (road : Cells) (car : Car) (a b : Bool) → AnswersCrossing change dice road car a → AnswersCrossing change dice road car b → a ≡ b
 one_crossing_each change dice road car a b first second =
     one_side a b ((one_answer Change change.program.instrs (change_view_of road car) (words_of dice car.number) (crossing_answer a) (crossing_answer b) first.0 second.0 first.1 second.1).0)
@@ -46,7 +46,7 @@ module _ {X : Type 0} (none : X) (IsAnswer : Car → X → Type 0) (road : Cells
       → IsNthCar road (from + k) car → IsAnswer car (get_or answers k none)
   part_at from to answers part k car below here = part.each k car (get_or answers k none) (slice_get-get_or answers k none below) here
 
-  -- where each car has one answer, the cars of a part have one list of them
+  -- if each car has only one answer, the cars of a part have only one list of answers
   pub part_is_one : (from to : ℕ) (answers others : List X) → ((car : Car) (a b : X) → IsAnswer car a → IsAnswer car b → a ≡ b)
       → to ≤ cars road → AreAnswersPart IsAnswer road from to answers → AreAnswersPart IsAnswer road from to others → answers ≡ others
   part_is_one from to answers others one within a b =
@@ -59,7 +59,7 @@ module _ {X : Type 0} (none : X) (IsAnswer : Car → X → Type 0) (road : Cells
       let there : slice_get (standing road) (from + k) ≡ Some car = slice_get-get_or (standing road) (from + k) no_one (omega (arith, size, count, below, within, all)) in
       one car (get_or answers k none) (get_or others k none) (part_at from to answers a k car below there) (part_at from to others b k car (omega (arith, size, count, below)) there))
 
-  -- what a list answers at an index, if it has one there
+  -- the answer of a list at an index, if it has one there
   pub at_index : (answers : List X) (k : ℕ) (answer : X) → slice_get answers k ≡ Some answer → (k < length answers) × (get_or answers k none ≡ answer)
   at_index answers k answer is =
       elim (cases_lt k (length answers)) [
@@ -67,12 +67,12 @@ module _ {X : Type 0} (none : X) (IsAnswer : Car → X → Type 0) (road : Cells
         | inr past ↦ let e = sym (slice_get_past answers k past) ∙ is in absurd cc
       ]
 
-  -- answers that are right at each index are right
+  -- answers that are correct at each index are correct
   pub each_answer : (from : ℕ) (answers : List X) → ((k : ℕ) (car : Car) → k < length answers → IsNthCar road (from + k) car → IsAnswer car (get_or answers k none))
       → (k : ℕ) (car : Car) (answer : X) → slice_get answers k ≡ Some answer → IsNthCar road (from + k) car → IsAnswer car answer
   each_answer from answers right k car answer is here = let there = at_index answers k answer is in subst (IsAnswer car) there.1 (right k car there.0 here)
 
-  -- the answers to two parts, one behind the other, are answers to both
+  -- the answers to two parts, one after the other, are answers to both
   pub parts_join : (from middle to : ℕ) (first second : List X) → AreAnswersPart IsAnswer road from middle first → AreAnswersPart IsAnswer road middle to second
       → AreAnswersPart IsAnswer road from to (first ++ second)
   parts_join from middle to first second a b =
@@ -92,7 +92,7 @@ module _ {X : Type 0} (none : X) (IsAnswer : Car → X → Type 0) (road : Cells
         ]);
       }
 
-  -- the answers of a part and those of a block behind it are those of both
+  -- the answers to a part and those of a block after it are those of both
   pub more_answers : (from middle : ℕ) (answers block : List X) → AreAnswersPart IsAnswer road from middle answers
       → ((k : ℕ) (car : Car) → k < length block → IsNthCar road (middle + k) car → IsAnswer car (get_or block k none))
       → AreAnswersPart IsAnswer road from (middle + length block) (answers ++ block)
@@ -113,20 +113,20 @@ module _ {X : Type 0} (none : X) (IsAnswer : Car → X → Type 0) (road : Cells
         part_at 0 (cars road) answers part k car (omega (arith, low, size)) (subst (λ i. IsNthCar road i car) first there);
   }
 
--- the cars of a part have one list of speeds
+-- the cars of a part have only one list of speeds
 pub speeds_are_one : SpeedsAreUnique
 speeds_are_one motion dice road from to speeds others within a b =
     part_is_one 0 (AnswersSpeed motion dice road) road from to speeds others (one_answer_each motion dice road) within a b
 
--- the speeds of two parts, one behind the other, are those of both
+-- the speeds of two parts, one after the other, are those of both
 pub speeds_join : SpeedsJoin
 speeds_join motion dice road from middle to first second a b = parts_join 0 (AnswersSpeed motion dice road) road from middle to first second a b
 
--- the cars of a part have one list of answers whether they cross
+-- the cars of a part have only one list of lane changes
 pub crossings_are_one : CrossingsAreUnique
 crossings_are_one change dice road from to crosses others within a b =
     part_is_one false (AnswersCrossing change dice road) road from to crosses others (one_crossing_each change dice road) within a b
 
--- who crosses in two parts, one behind the other, are those who cross in both
+-- the lane changes of two parts, one after the other, are those of both
 pub crossings_join : CrossingsJoin
 crossings_join change dice road from middle to first second a b = parts_join false (AnswersCrossing change dice road) road from middle to first second a b

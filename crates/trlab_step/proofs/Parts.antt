@@ -17,13 +17,13 @@ use Rattle.trlab_step.specs.Answers.{change_view_of, motion_view_of, CrossingsFi
 pub same_view : (a b c d x y z w : ℕ) → a ≡ x → b ≡ y → c ≡ z → d ≡ w → motion_view a b c d ≡ motion_view x y z w
 same_view a b c d x y z w e f g h = ap (λ k. motion_view k b c d) e ∙ ap (λ k. motion_view x k c d) f ∙ ap (λ k. motion_view x y k d) g ∙ ap (motion_view x y z) h
 
--- what a change program sees of a car is what a motion program sees, and what the road tells of the other lane
+-- a change program's view of a car is the motion program's view, and the side cell and gaps of the road
 pub same_beside : (road : Cells) (view : View) (told car : Car) (empty : Bool) (ahead_there behind_there : ℕ) → view ≡ motion_view_of road car → told ≡ car
     → empty ≡ side (lane_of road (other_lane car.lane)) car.place → ahead_there ≡ sidegap (lane_of road (other_lane car.lane)) car.place → behind_there ≡ sideback (lane_of road (other_lane car.lane)) car.place
     → with_other_lane view told.lane empty ahead_there behind_there ≡ change_view_of road car
 same_beside road view told car empty ahead_there behind_there a b c d e = rw (a, b, c, d, e) refl
 
--- what a list has at an index after more was put behind it
+-- an element of a list after more elements were appended
 appended : {X : Type 0} (none : X) (P : ℕ → X → Type 0) (xs ys : List X) → ((k : ℕ) → k < length xs → P k (get_or xs k none)) → ((k : ℕ) → k < length ys → P (length xs + k) (get_or ys k none))
     → (k : ℕ) → k < length (xs ++ ys) → P k (get_or (xs ++ ys) k none)
 appended none P xs ys before behind k below =
@@ -37,7 +37,7 @@ appended none P xs ys before behind k below =
           subst (P k) (sym (get_or-append_right xs ys (length xs) k none refl past)) (subst (λ i. P i (get_or ys j none)) place (behind j inside))
     ]
 
--- the bounds of the speeds of a part, and of a block behind it
+-- the bounds of the speeds of a part, and of a block after it
 pub more_fits : (road : Cells) (from middle : ℕ) (speeds block : List ℕ) → from + length speeds ≡ middle → SpeedsFitPart road from speeds
     → ((k : ℕ) → k < length block → get_or block k 0 ≤ get_or (gaps road) (middle + k) 0) → ((k : ℕ) → k < length block → get_or block k 0 ≤ road.limit) → SpeedsFitPart road from (speeds ++ block)
 more_fits road from middle speeds block whole part gap limit =
@@ -47,7 +47,7 @@ more_fits road from middle speeds block whole part gap limit =
       within_limit = appended 0 (λ i s. s ≤ road.limit) speeds block part.within_limit limit;
     }
 
--- the side cells of those who cross in a part, and in a block behind it
+-- the side cells of the cars that change lanes, in a part and in a block after it
 pub more_free : (road : Cells) (from middle : ℕ) (crosses block : List Bool) → from + length crosses ≡ middle → CrossingsFitPart road from crosses
     → ((k : ℕ) → k < length block → get_or block k false ≡ true → get_or (sides road) (middle + k) false ≡ true) → CrossingsFitPart road from (crosses ++ block)
 more_free road from middle crosses block whole part empty =

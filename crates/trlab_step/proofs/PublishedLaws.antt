@@ -31,11 +31,11 @@ use Rattle.trlab_step.proofs.PartLaws.{one_answer_each, one_crossing_each}
 use Rattle.trlab_road.specs.declared.car.Car.{Car}
 use Rattle.trlab_road.proofs.Ring.{car_in}
 
--- a word of a car
+-- the random words of a car
 word_is : (dice : Dice) (number k : ℕ) → k < 16 → slice_index (words_of dice number) k ≡ random_word dice.key dice.road number dice.step k
 word_is dice number k below = slice_index-random_words dice.key dice.road number dice.step k below
 
--- the motion by a program that answers the speed of a rule
+-- the motion by a program that computes the speed of a rule
 goes_by : (speed : View → List ℕ → ℕ) (motion : CheckedProgram) (dice : Dice) (old new : Cells)
     → ComputesSpeed speed motion.program
     → IsLegal old → IsMotionPhase motion dice old new → AllMoveAhead (λ car. speed (motion_view_of old car) (words_of dice car.number)) old new
@@ -47,7 +47,7 @@ goes_by speed motion dice old new moves legal phase car here =
     let arrives = (phase.2.each_lane car.lane (on_lane old car.lane car.place (car.number, car.speed) here)).arrives car.place car.number car.speed here in
     subst (λ (w : ℕ). IsAt new (car_after_motion old car w)) same arrives
 
--- the same by the words of the car's number
+-- the same by the random words of the car's number
 all_go : (goes others : Car → ℕ) (old new : Cells) → ((car : Car) → goes car ≡ others car) → AllMoveAhead goes old new → AllMoveAhead others old new
 all_go goes others old new same go car here = subst (λ (w : ℕ). IsAt new (car_after_motion old car w)) (same car) (go car here)
 
@@ -80,7 +80,7 @@ vdr_on_cells p p0 rule dice old new tally is legal next =
     vdr_goes_by p p0 rule.motion dice old new is.motion.moves legal
     (motion_alone rule dice old next.0 new tally.changes is.change next.1.lane_change next.1.motion)
 
--- where the cars stand after a lane change
+-- the cells of the cars after a lane change
 change_by : (crosses : ℕ → ℕ → Bool) (old new : Cells) → IsLegal old → ChangesLanes crosses old new → CrossesToEmpty crosses old → CarsCrossIf (λ car. crosses car.lane car.place) old new
 change_by crosses old new legal phase free car here =
     let l = car.lane in
@@ -106,7 +106,7 @@ across : (b : Bool) → (if b then EndsAcross else Stays) ≡ crossing_answer b
 across true = refl
 across false = refl
 
--- who crosses by a program that answers so by a rule
+-- the lane changes by a program that computes those of a rule
 changes_agree : (crosses : View → List ℕ → Bool) (change : CheckedProgram) (dice : Dice) (old : Cells) (answers : ℕ → ℕ → Bool) → ComputesCrossing crosses change.program → IsLegal old → length old.lanes ≡ 2 → AnswersCrossings change dice old answers
     → (car : Car) → IsAt old car → answers car.lane car.place ≡ crosses (change_view_of old car) (words_of dice car.number)
 changes_agree crosses change dice old answers changes legal two crossings car here =
@@ -158,7 +158,7 @@ rickert_phase c change dice old middle changes by legal phase =
           (change_by answers old middle legal phase.3 free car here);
     }
 
--- the change program of the rule of 1996
+-- the change program of Rickert et al. (1996)
 rickert_change : (c : ℕ) (change : Option CheckedProgram) (dice : Dice) (old middle : Cells) (changes : ℕ) → MatchOption change ⊥ (IsChangeComputing (rickert_crosses c) (rickert_program c)) → IsLegal old → IsLaneChangePhase change dice old middle changes
     → Changed c dice old middle
 rickert_change c None dice old middle changes is legal phase = absurd is

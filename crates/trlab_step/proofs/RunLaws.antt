@@ -1,4 +1,4 @@
--- Runs under a sheet of rules: each step has a road, and one only.
+-- Runs under a sheet of rules: each step has exactly one road.
 use Rattle.std.proofs.Common.{◌≡◌, ℕ, zero, suc, Bool, true, false, Option, Some, None, [], ◌∷◌, refl, sym, ◌∙◌, ap, subst, inl, inr, ◌⊎◌, length, arith}
 use Rattle.std.proofs.lemmas.Bool.{le-leb}
 use Rattle.std.specs.Prelude.{All, nat_le, unwrap_or, if◌then◌else◌}
@@ -66,6 +66,6 @@ road_is_one seed sheet (suc step) road other sum count a b =
     let total : StepTally → StepTally → StepTally = λ s t. if nat_le seed.warm step then tally_sum s t else s in
     (same.0, a.5.counted ∙ ap (λ s. total s a.3) before.1 ∙ ap (total b.1) same.1 ∙ sym b.5.counted)
 
--- a run has one road only at each step, whatever was counted
+-- a run has only one road at each step, for any counts
 pub road_at_is_one : (seed : Seed) (sheet : Sheet) (step : ℕ) (road other : Cells) → IsRoadAt seed sheet step road → IsRoadAt seed sheet step other → road ≡ other
 road_at_is_one seed sheet step road other a b = (road_is_one seed sheet step road other a.0 b.0 a.1 b.1).0

@@ -1,4 +1,4 @@
--- What cars of a legal road see is in range, so the calls of accepted programs are safe.
+-- The views of the cars of a legal road are in range, so the calls of accepted programs are safe.
 use Rattle.std.proofs.Common.{◌≡◌, ◌≤◌, ℕ, Option, Some, None, length, refl, subst}
 use Rattle.std.specs.Prelude.{IfSome, IsSome}
 use Rattle.trlab_words.proofs.RandomWords.{length-random_words}
@@ -22,7 +22,7 @@ use Rattle.trlab_step.proofs.AnswersExist.{change_view_is_view, motion_view_is_v
 not_change : Motion ≡ Change → ⊥
 not_change h = cc
 
--- what is seen of a car of a legal road is in range
+-- the view of a car of a legal road is in range
 pub views_in_range : ViewsAreInRange
 views_in_range Motion road car legal two here = motion_view_is_view road car legal here
 views_in_range Change road car legal two here = change_view_is_view road car legal (two refl) here
@@ -33,7 +33,7 @@ calls_safe kind checked dice road is legal two car here =
     let seen = views_in_range kind road car legal two here in
     record { in_range = seen; ends = is.safe (view_for_kind kind road car) (words_of dice car.number) seen (length-random_words dice.key dice.road car.number dice.step) }
 
--- a program ends once, so its answer comes within its budget
+-- a program ends only once, so its answer comes within its budget
 pub speeds_in_time : SpeedsComeWithinBudget
 speeds_in_time motion dice road car speed is legal here answer =
     let safe = (calls_safe Motion motion dice road is legal (λ e. absurd (not_change e)) car here).ends in
@@ -50,7 +50,7 @@ changes_safe : (change : Option CheckedProgram) (dice : Dice) (road : Cells) →
 changes_safe None dice road is two legal = tt
 changes_safe (Some change) dice road is two legal = calls_safe Change change dice road is legal (λ e. two refl)
 
--- and so are those of both phases of a step
+-- so are the calls of both phases of a step
 pub step_calls_safe : (rule : Programs) (dice : Dice) (road middle : Cells) → IsRule rule → (IsSome rule.change → length road.lanes ≡ 2) → IsLegal road → IsLegal middle → StepCallsAreSafe rule dice road middle
 step_calls_safe rule dice road middle is two legal after = record {
   lane_change = changes_safe rule.change dice road is.change two legal;

@@ -1,4 +1,4 @@
--- Sheets of rules: a rule from step 0 on and later ones, whose steps rise, are a sheet.
+-- A rule from step 0 on, and later rules whose steps rise, are a sheet.
 use Rattle.std.proofs.Common.{◌≡◌, ℕ, zero, suc, ◌+◌, Bool, true, false, [], ◌∷◌, refl, subst, arith}
 use Rattle.std.proofs.lemmas.Bool.{eqb-true, eqb-false}
 use Rattle.std.specs.Prelude.{◌==◌, All, if◌then◌else◌}
@@ -19,7 +19,7 @@ pub with_is_sheet : (first : Programs) (later : Sheet) → StepsIncreaseFrom 0 l
 with_is_sheet first [] rises = (refl, tt)
 with_is_sheet first (entry ∷ later) rises = sheet_by (entry.0 == 0) first entry later refl rises
 
--- what holds of the rule and of each later one
+-- a property of the rule and of each later one
 abbrev pub AllRules : (Programs → Type 0) → Sheet → Type 0
 AllRules P sheet = All (λ (entry : ℕ × Programs). P entry.1) sheet
 
@@ -32,7 +32,7 @@ all_by : (b : Bool) (P : Programs → Type 0) (first : Programs) (entry : ℕ ×
 all_by true P first entry later is all = all
 all_by false P first entry later is all = with_first P first (entry ∷ later) is all
 
--- holds of the rules of their sheet
+-- is a property of each rule of their sheet
 pub with_all : (P : Programs → Type 0) (first : Programs) (later : Sheet) → P first → AllRules P later → AllRules P (sheet_with first later)
 with_all P first [] is all = with_first P first [] is all
 with_all P first (entry ∷ later) is all = all_by (entry.0 == 0) P first entry later is all

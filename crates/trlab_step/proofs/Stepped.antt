@@ -1,4 +1,4 @@
--- The answers of all cars lead through the two phases of a step.
+-- The answers of all cars give the two phases of a step.
 use Rattle.std.proofs.Common.{◌≡◌, ℕ, Some, None, List, refl, sym, ◌∙◌, ap, arith}
 use Rattle.std.specs.Prelude.{Bool, Option, false, length, count_by, nat_eq, sum}
 use Rattle.trlab_verify.specs.CheckedProgram.{CheckedProgram}
@@ -14,7 +14,7 @@ use Rattle.trlab_step.proofs.Parts.{whole_allowed}
 use Rattle.trlab_step.proofs.SumsOverCars.{answers_in_order, total_speed-moved, stopped_cars-moved, crossing_cars-counted}
 use Rattle.trlab_step.proofs.PartLaws.{by_place}
 
--- where all cars are asked on the road as it stands, and cross by their answers, the lane change is done
+-- if all cars change lanes by their programs' answers on the given road, the lane change is done
 pub lane_change_is_done : (change : CheckedProgram) (dice : Dice) (road middle : Cells) (crosses : List Bool) (changes : ℕ) → length road.lanes ≡ 2 → AnswersCrossingsPart change dice road 0 (cars road) crosses
     → ((answer : ℕ → ℕ → Bool) → crosses ≡ in_order answer road → ChangesLanes answer road middle)
     → changes ≡ count_by (λ c. c) crosses → IsLaneChangePhase (Some change) dice road middle changes
@@ -24,7 +24,7 @@ lane_change_is_done change dice road middle crosses changes two part phase count
     let done = phase (crosses_at road crosses) (sym (answers_in_order false road crosses size)) in
     (two, crosses_at road crosses, by_place false (AnswersCrossing change dice road) road crosses part, done, counted ∙ sym (crossing_cars-counted road crosses size))
 
--- cars that go ahead by their answers in standing order do so by the answers of their places
+-- a motion by answers in standing order is a motion by the answers of the cars' places
 pub moved_by_place : (motion : CheckedProgram) (dice : Dice) (road next : Cells) (speeds : List ℕ) → AnswersSpeedsPart motion dice road 0 (cars road) speeds
     → ((answer : ℕ → ℕ → ℕ) → speeds ≡ in_order answer road → Moves answer road next) → Moves (answer_at road speeds) road next
 moved_by_place motion dice road next speeds part moves =
@@ -32,28 +32,28 @@ moved_by_place motion dice road next speeds part moves =
     moves (answer_at road speeds) (sym (answers_in_order 0 road speeds (omega (arith, one_each))))
 
 module _ (motion : CheckedProgram) (dice : Dice) (road next : Cells) (speeds : List ℕ) where
-  -- where all cars are asked on the road as it stands, and go ahead by their answers, the motion is done
+  -- if all cars move by their programs' answers on the given road, the motion is done
   pub motion_is_done : AnswersSpeedsPart motion dice road 0 (cars road) speeds → Moves (answer_at road speeds) road next → IsMotionPhase motion dice road next
   motion_is_done part moves = (answer_at road speeds, by_place 0 (AnswersSpeed motion dice road) road speeds part, moves)
 
-  -- the sum of the answers is that of the new speeds
+  -- the sum of the answers is the sum of the new speeds
   pub all_gone : (distance : ℕ) → IsSpeedsPart motion dice road 0 (cars road) speeds → Moves (answer_at road speeds) road next
       → distance ≡ sum speeds → distance ≡ total_speed next
   all_gone distance told moves gone = gone ∙ sym (total_speed-moved road next speeds (whole_allowed motion dice road speeds told) moves)
 
-  -- the answers that are 0 are as many as the cars that are stopped
+  -- there are as many answers 0 as stopped cars
   pub all_stopped : (stopped : ℕ) → IsSpeedsPart motion dice road 0 (cars road) speeds → Moves (answer_at road speeds) road next
       → stopped ≡ count_by (λ speed. nat_eq speed 0) speeds → stopped ≡ stopped_cars next
   all_stopped stopped told moves counted = counted ∙ sym (stopped_cars-moved road next speeds (whole_allowed motion dice road speeds told) moves)
 
--- whoever asks the cars, who cross by their answers or do not cross
+-- the lane change by the cars' answers, or none, for any way of computing the answers
 crossed_by_answers : (change : Option CheckedProgram) (dice : Dice) (road middle : Cells) (crosses : List Bool) → IsLaneChangeByAnswers change dice road middle crosses
     → IsLaneChangePhase change dice road middle (count_by (λ c. c) crosses)
 crossed_by_answers None dice road middle crosses by = (by.0, ap (λ cs. count_by (λ c. c) cs) by.1)
 crossed_by_answers (Some change) dice road middle crosses by =
     lane_change_is_done change dice road middle crosses (count_by (λ c. c) crosses) by.0 by.1 by.2 refl
 
--- and who then go ahead by theirs, the next road is come to
+-- followed by the motion by their answers, gives the next road
 pub answers_lead_on : AnswersLeadToNextRoad
 answers_lead_on rule dice road middle next crosses speeds cross go =
     let moves = moved_by_place rule.motion dice middle next speeds go.answers.0 go.moves in (

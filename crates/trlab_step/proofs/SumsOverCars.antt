@@ -1,4 +1,4 @@
--- Sums over the cars of a road: what is counted in a step is the sum over the answers.
+-- Sums over the cars of a road: the counts of a step are sums over the answers.
 use Rattle.std.proofs.Common.{◌≡◌, ◌≢◌, ℕ, zero, suc, ◌+◌, ◌<◌, ◌≤◌, Bool, false, Some, None, List, [], ◌∷◌, length, get_or, set, map, refl, sym, ◌∙◌, ap, subst, arith, cond}
 use Rattle.std.specs.Prelude.{sum_by, sum, count_by, nat_eq}
 use Rattle.std.proofs.lemmas.List.{get_or-set_other, ext_get_or, length-map}
@@ -15,13 +15,13 @@ use Rattle.trlab_road.proofs.Numbers.{rank_of_kth}
 use Rattle.trlab_road.proofs.StandingOrder.{get_or-map_in, length-standing_from_lane}
 use Rattle.trlab_step.specs.Next.{total_speed, stopped_cars, crossing_cars}
 
--- the sum over the cars of a lane of what each weighs by its place, number and speed
+-- the sum over the cars of a lane of a weight of each car's place, number and speed
 weight : (ℕ → ℕ × ℕ → ℕ) → Lane → ℕ
 weight f [] = 0
 weight f (None ∷ cells) = weight (λ x. f (suc x)) cells
 weight f (Some car ∷ cells) = f 0 car + weight (λ x. f (suc x)) cells
 
--- without the car of a place the lane weighs so much less
+-- the weight of a lane without the car of one place
 weight-set : (f : ℕ → ℕ × ℕ → ℕ) (lane : Lane) (y : ℕ) (b : ℕ × ℕ) → at lane y ≡ Some b → weight f lane ≡ f y b + weight f (set lane y None)
 unfolding weight
 weight-set f [] y b h = absurd cc
@@ -30,7 +30,8 @@ weight-set f (None ∷ cells) (suc y) b h = weight-set (λ x. f (suc x)) cells y
 weight-set f (Some car ∷ cells) zero b h = let e : car ≡ b = cc in ap (λ c. f 0 c + weight (λ x. f (suc x)) cells) e
 weight-set f (Some car ∷ cells) (suc y) b h = let e = weight-set (λ x. f (suc x)) cells y b h in omega arith
 
--- where each car of a lane has a car of another for itself that weighs as much, the other weighs no less
+-- if each car of a lane corresponds to a car of the same weight on another lane, the other lane weighs no
+-- less
 no_lighter : (f g : ℕ → ℕ × ℕ → ℕ) (xs ys : Lane) (R : ℕ → ℕ → Type 0) →
     ((x : ℕ) (a : ℕ × ℕ) → at xs x ≡ Some a → (y : ℕ) × ((b : ℕ × ℕ) × ((at ys y ≡ Some b) × R x y × (f x a ≡ g y b)))) →
     ((x z y : ℕ) → R x y → R z y → x ≡ z) →
@@ -51,7 +52,7 @@ no_lighter f g (Some a ∷ xs) ys R partner own =
     let same = p.1.1.2 in
     omega (arith, rest, split, same)
 
--- what the cars of a lane weigh by their answers before the motion, they weigh by their speeds after it
+-- the weight of a lane's answers before the motion is the weight of its speeds after it
 lane_total : (g : ℕ → ℕ) (answer : ℕ → ℕ) (old new : Lane) → LaneMoves answer old new → Apart answer old → weight (λ x car. g (answer x)) old ≡ weight (λ x car. g car.1) new
 lane_total g answer old new m far =
     let Goes : ℕ → ℕ → Type 0 = λ x y. (number : ℕ) × ((before : ℕ) × ((at old x ≡ Some (number, before)) × (y ≡ ahead (length old) x (answer x)))) in
@@ -65,7 +66,7 @@ lane_total g answer old new m far =
     (λ y z x h k. h ∙ sym k) in
     omega (arith, no_less, no_more)
 
--- the sum over the cars of a lane in standing order
+-- the sum over the cars of a lane, in standing order
 lane_sum : (h : Car → ℕ) (f : ℕ → ℕ × ℕ → ℕ) (l s : ℕ) (lane : Lane) → ((x : ℕ) (car : ℕ × ℕ) → h (record { number = car.0; lane = l; place = s + x; speed = car.1 }) ≡ f x car) → sum_by h (standing_from l s lane) ≡ weight f lane
 unfolding weight
 lane_sum h f l s [] same = refl
@@ -79,7 +80,7 @@ lane_sum h f l s (Some here ∷ cells) same =
     (λ x car. let e : suc s + x ≡ s + suc x = omega arith in ap (λ p. h (record { number = car.0; lane = l; place = p; speed = car.1 })) e ∙ same (suc x) car) in
     sum_by-cons h (record { number = here.0; lane = l; place = s; speed = here.1 }) (standing_from l (suc s) cells) ∙ ap (λ n. n + sum_by h (standing_from l (suc s) cells)) head ∙ ap (λ n. f 0 here + n) rest
 
--- what the cars of lanes weigh by their answers before the motion, they weigh by their speeds after it
+-- the weight of the lanes' answers before the motion is the weight of their speeds after it
 lanes_total : (g : ℕ → ℕ) (answer : ℕ → ℕ → ℕ) (base : ℕ) (olds news : List Lane) → length news ≡ length olds
     → ((l : ℕ) → l < length olds → LaneMoves (answer (base + l)) (get_or olds l []) (get_or news l []))
     → ((l : ℕ) → l < length olds → Apart (answer (base + l)) (get_or olds l []))
@@ -115,7 +116,7 @@ sum_by-map g f (x ∷ xs) =
 no_one : Car
 no_one = record { number = 0; lane = 0; place = 0; speed = 0 }
 
--- answers in standing order are those that each car has by its place
+-- the answers in standing order are the answers of the cars' places
 pub answers_in_order : {X : Type 0} (none : X) (road : Cells) (answers : List X) → length answers ≡ cars road → map (λ (car : Car). get_or answers (rank road car.lane car.place) none) (standing road) ≡ answers
 unfolding no_one
 answers_in_order none road answers size =
@@ -125,7 +126,7 @@ answers_in_order none road answers size =
     (λ k h. let below : k < length (standing road) = rw length-map at h in
     get_or-map_in answer (standing road) k no_one none below ∙ ap (λ i. get_or answers i none) (rank_of_kth road k (omega (arith, below, count))))
 
--- what the cars of a road weigh by their speeds after the motion is what the answers weigh
+-- the weight of the speeds after the motion is the weight of the answers
 moved_total : (g : ℕ → ℕ) (road next : Cells) (speeds : List ℕ) → AreSafeSpeeds road speeds → Moves (answer_at road speeds) road next → sum_by (λ (car : Car). g car.speed) (standing next) ≡ sum_by g speeds
 moved_total g road next speeds allowed moves =
     let answer = answer_at road speeds in
@@ -136,15 +137,15 @@ moved_total g road next speeds allowed moves =
     (λ l h. subst (λ k. Apart (answer k) (get_or road.lanes l [])) (zero_first l) (apart_within_gaps (answer l) (get_or road.lanes l []) (fits.each_lane l h))) in
     sym lanes ∙ sym (sum_by-map g (λ (car : Car). answer car.lane car.place) (standing road)) ∙ ap (sum_by g) (answers_in_order 0 road speeds allowed.one_each)
 
--- the sum of the answers is that of the speeds after the motion
+-- the sum of the answers is the sum of the speeds after the motion
 pub total_speed-moved : (road next : Cells) (speeds : List ℕ) → AreSafeSpeeds road speeds → Moves (answer_at road speeds) road next → total_speed next ≡ sum speeds
 total_speed-moved road next speeds allowed moves = moved_total (λ s. s) road next speeds allowed moves
 
--- the answers that are 0 are as many as the cars that are stopped after the motion
+-- there are as many answers 0 as stopped cars after the motion
 pub stopped_cars-moved : (road next : Cells) (speeds : List ℕ) → AreSafeSpeeds road speeds → Moves (answer_at road speeds) road next → stopped_cars next ≡ count_by (λ s. nat_eq s 0) speeds
 stopped_cars-moved road next speeds allowed moves = moved_total (λ s. cond (nat_eq s 0) 1 0) road next speeds allowed moves
 
--- the cars that cross are as many as the answers that say so
+-- there are as many lane changes as answers for them
 pub crossing_cars-counted : (road : Cells) (crosses : List Bool) → length crosses ≡ cars road → crossing_cars (crosses_at road crosses) road ≡ count_by (λ c. c) crosses
 crossing_cars-counted road crosses size =
     let one : Bool → ℕ = λ c. cond c 1 0 in

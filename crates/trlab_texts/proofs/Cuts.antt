@@ -1,4 +1,4 @@
--- How many lines a text has, and whether it has any.
+-- The number of lines of a text, and whether it has any.
 use Rattle.std.proofs.Common.{◌≡◌, ◌==◌, ℕ, suc, ◌≤◌, List, [], ◌∷◌, length, refl, sym, ◌∙◌, arith, Bool, true, false, cond}
 use Rattle.std.specs.Prelude.{IsTrue, ◌↔◌}
 use Rattle.std.specs.List.{onto_first}
@@ -20,7 +20,7 @@ unfolding lines_of
 no_text_in [] e = refl
 no_text_in (c ∷ text) e = absurd (some_line (c == 10) c (lines_of text) e)
 
--- whether a text is empty is whether it has no lines
+-- a text is empty exactly if it has no lines
 pub end_test : (text : List ℕ) (b : Bool) → b ≡ (length text == 0) → IsTrue b ↔ (lines_of text ≡ [])
 end_test text true e = (λ h. no_line_in text (eqb-true (length text) 0 (sym e)), λ h. refl)
 end_test text false e = (λ h. let no : false ≡ true = h in cc, λ h. let no : true ≡ false = sym (eq-eqb (length text) 0 (no_text_in text h)) ∙ sym e in cc)

@@ -1,4 +1,4 @@
--- A fault of a program's lines stands at one of them, or at the line 0.
+-- A fault of a program is at one of its lines, or at line 0.
 use Rattle.std.proofs.Common.{◌≡◌, ◌==◌, ℕ, suc, ◌+◌, ◌≤◌, List, [], ◌∷◌, ◌++◌, length, subst, ap, arith, inl, inr, Bool, true, false, cond}
 use Rattle.std.specs.Prelude.{◌⊎◌, Option, None, Some, Result, Ok, Err}
 use Rattle.trlab_code.specs.declared.program.Kind.{Kind}
@@ -11,7 +11,7 @@ use Rattle.trlab_asm.specs.Results.{◌>>=◌}
 use Rattle.trlab_asm.specs.Reading.{InstrDraft, Labels, Line, line_content}
 use Rattle.trlab_asm.specs.Assembly.{LineDraft, Parts, no_parts, in_line, with_draft, with_line, first_pass, jump_to, resolve_label, resolve, second_pass, instrs_of, code_of, IsOutOfMemory}
 
--- a fault stands at a line up to n
+-- a fault at a line up to n
 abbrev Within : {A : Type 0} → ℕ → Result A AsmFault → Type 0
 Within n (Ok x) = Unit {0}
 Within n (Err fault) = fault.line ≤ n
@@ -21,7 +21,7 @@ ReadWithin : ℕ → List LineDraft → Type 0
 ReadWithin n [] = Unit {0}
 ReadWithin n (read ∷ reads) = (read.line ≤ n) × ReadWithin n reads
 
--- so the first pass reads, or has a fault there
+-- so the first pass succeeds, or has a fault there
 abbrev PassWithin : ℕ → Result Parts AsmFault → Type 0
 PassWithin n (Ok parts) = ReadWithin n parts.drafts
 PassWithin n (Err fault) = fault.line ≤ n
@@ -94,7 +94,7 @@ code_within : (kind : Kind) (lines : List (List ℕ)) → Within (length lines) 
 code_within kind lines =
     passes_within (length lines) kind (first_pass no_parts 1 lines) (first_within (length lines) 1 lines no_parts (omega arith) (nothing_read (length lines)))
 
--- the line of what an assembler says of some lines
+-- the line of an assembler's fault in some lines
 pub line_within : (kind : Kind) (lines : List (List ℕ)) (fault : AsmFault) → (code_of kind lines ≡ Err fault) ⊎ IsOutOfMemory fault → fault.line ≤ length lines
 line_within kind lines fault (inl told) = subst (Within (length lines)) told (code_within kind lines)
 line_within kind lines fault (inr none) = let at : fault.line ≡ 0 = ap (λ f. f.line) none in omega arith

@@ -1,5 +1,5 @@
--- What words, lines and texts say: their values keep what is asked, and their causes are other than that a
--- standard rule is refused.
+-- Results for words, lines and texts: values have the required property, and error numbers are not the one
+-- for a rejected standard rule.
 use Rattle.std.proofs.Common.{◌≡◌, ◌≢◌, ℕ, ◌+◌, ◌<◌, ◌≤◌, ◌&&◌, Bool, true, false, List, refl, arith, if◌then◌else◌, leb-true}
 use Rattle.std.specs.Prelude.{Option, None, Some, ok_or, Result, Ok, Err, MatchResult, nat_le}
 use Rattle.trlab_road.specs.declared.fault.RoadFault.{RoadFault}
@@ -20,7 +20,7 @@ use Rattle.trlab_texts.specs.Causes.{IsNotStandardRefused}
 use Rattle.trlab_texts.specs.Reading.{Fault, at_line}
 use Rattle.trlab_texts.specs.Words.{is_word, number_of, one_word, number_within, within, word_after}
 
--- a number of another cause
+-- the number of another cause
 apart : (n : ℕ) → n < 40 → n ≢ 40
 apart n low e = absurd (omega (arith, low, e))
 
@@ -63,7 +63,7 @@ pub road_other : (fault : RoadFault) → IsNotStandardRefused (Road fault)
 road_other Lanes = apart _ (omega arith)
 road_other _ = apart _ (omega arith)
 
--- why the verifier refuses a program of one's own
+-- the reason for which the verifier rejects a user's program
 pub verdict_other : (kind : Kind) (program : Program) (at reason : ℕ) → IsRefused kind program at reason → IsNotStandardRefused (Verdict reason)
 verdict_other kind program at reason refused e =
     let some = numbered_from_one kind program at reason refused in
@@ -74,15 +74,15 @@ verdict_other kind program at reason refused e =
 abbrev pub IsOtherFault : Fault → Type 0
 IsOtherFault fault = IsNotStandardRefused fault.cause
 
--- nothing is asked
+-- the property that every value has
 abbrev pub Anything : {A : Type 0} → A → Type 0
 Anything x = Unit {0}
 
--- what a line says keeps what is asked, or has another cause
+-- the result for a line has the required property, or has another cause
 abbrev pub Fine : {A : Type 0} → (A → Type 0) → Result A Cause → Type 0
 Fine Keeps says = MatchResult says Keeps IsNotStandardRefused
 
--- the same of what a text says
+-- the same for a text
 abbrev pub FineText : {A : Type 0} → (A → Type 0) → Result A Fault → Type 0
 FineText Keeps says = MatchResult says Keeps IsOtherFault
 

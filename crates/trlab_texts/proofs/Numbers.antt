@@ -18,7 +18,7 @@ use Rattle.trlab_texts.specs.declared.fault.Cause.TheVariants.{Number}
 abbrev ok_number : ℕ → Result ℕ Cause
 ok_number v = Ok v
 
--- digits of a number above 0 begin with no 0
+-- the digits of a number above 0 do not begin with 0
 pub zero_first : (word : List ℕ) (n : ℕ) → 1 < length word → get_or word 0 0 ≡ 48 → n ≤ LONGEST_NUMBER → word ≡ decimal n → ⊥
 zero_first word zero long first small e = let bad : length word ≡ 1 = ap length (e ∙ decimal_digit 0 (omega arith)) in omega arith
 zero_first word (suc n) long first small e =
@@ -37,7 +37,7 @@ numeral_form word n other small e =
     let all : all_digits word ≡ true = own.from word (rw e is.1) in
     let both : true ≡ false = sym (numeral_said word some all) ∙ other in cc
 
--- and they are at most ten
+-- and there are at most ten
 pub ten_digits : (word : List ℕ) (n : ℕ) → MAX_DIGITS < length word → n ≤ LONGEST_NUMBER → word ≡ decimal n → ⊥
 ten_digits word n long small e =
     let short : length (decimal n) ≤ 10 = length-decimal-le 10 n (omega arith) (omega arith) (omega arith) in
@@ -48,7 +48,7 @@ both_true : (a b : Bool) → (a && b) ≡ true → (a ≡ true) × (b ≡ true)
 both_true true b e = (refl, e)
 both_true false b e = cc
 
--- ten digits at most, with no needless 0, are those of their value
+-- at most ten digits, without leading zeros, are those of their value
 pub digits_written : (word : List ℕ) → is_numeral word ≡ true → length word ≤ MAX_DIGITS → (get_or word 0 0 ≡ 48 → length word ≡ 1)
     → (word ≡ decimal (digits_value 10 word)) × (digits_value 10 word ≤ LONGEST_NUMBER)
 digits_written word is short needless =
@@ -57,7 +57,7 @@ digits_written word is short needless =
     let most : digits_value 10 word < 10 ^ 10 = digits_value_short own word 10 parts.1 (omega arith) in
     (sym (decimal-digits_value own word parts.1 some needless (omega arith)), omega arith)
 
--- the digits of a number stand for it
+-- the digits of a number are read as this number
 pub number_of_some : (word : List ℕ) (n : ℕ) → n ≤ LONGEST_NUMBER → word ≡ decimal n → number_of word ≡ Some n
 number_of_some word n small e =
     let value : digits_value 10 word ≡ n = ap (digits_value 10) e ∙ (decimal_is_IsNumeral n (omega arith)).1 in
@@ -74,7 +74,7 @@ none_step low high v word false e small none = refl
 none_step low high v word true e small none =
     high_step low high v (nat_le low v) (nat_le v high) refl (λ below. none v (omega arith) (sym ((bytes_eq-Decides (decimal v) word).0 e)))
 
--- what is no number's digits stands for no number in a range
+-- a word that is not a number's digits is not read as a number in a range
 pub number_of_none : (low high : ℕ) (word : List ℕ) → high ≤ LONGEST_NUMBER → ((n : ℕ) → n ≤ LONGEST_NUMBER → word ≢ decimal n) → within low high (number_of word) ≡ Err Number
 number_of_none low high word small none = none_step low high (digits_value 10 word) word (bytes_eq (decimal (digits_value 10 word)) word) refl small none
 

@@ -1,4 +1,4 @@
--- Rules, readings and texts that say exactly one thing, which is fine.
+-- Rules, readings and texts with exactly one meaning, which has the required property.
 use Rattle.std.proofs.Common.{◌≡◌, ℕ, Bool, true, false, List, [], ◌∷◌, length, refl, sym, ◌∙◌, ap, subst}
 use Rattle.std.specs.Prelude.{Option, None, Some, IfSome, Result, Ok, Err, IfOk, MatchResult, nat_lt}
 use Rattle.trlab_texts.specs.declared.fault.Cause.{Cause}
@@ -9,14 +9,14 @@ use Rattle.trlab_texts.specs.Lines.{Rest}
 use Rattle.trlab_texts.specs.Reading.{Fault, LineRule, Reading, give, Continues, ◌>>=◌, line_with_rest, LineParsesTo, line, exactly, SizedTextParsesTo, TextParsesTo, read_if, before, at_line, result_of_line}
 use Rattle.trlab_texts.proofs.Fine.{IsOtherFault, Fine, FineText, line_other, too_big_other, at_line_fine}
 
--- exactly one thing is said; a value keeps what is asked, and so does a fault
+-- there is exactly one result; a value has the required property, and so does a fault
 pub record One {A E : Type 0} (Keeps : A → Type 0) (Fails : E → Type 0) (Says : Result A E → Type 0) : Type 0 where
   pub answer : Result A E
   pub says : Says answer
   pub keeps : MatchResult answer Keeps Fails
   pub only : (other : Result A E) → Says other → other ≡ answer
 
--- one line says one thing
+-- a line has one meaning
 abbrev pub OneLine : {A : Type 0} → (A → Type 0) → (Result A Cause → Type 0) → Type 0
 OneLine Keeps Says = One Keeps IsNotStandardRefused Says
 
@@ -24,19 +24,19 @@ OneLine Keeps Says = One Keeps IsNotStandardRefused Says
 abbrev pub OneText : {A : Type 0} → (A → Type 0) → (Result A Fault → Type 0) → Type 0
 OneText Keeps Says = One Keeps IsOtherFault Says
 
--- one thing is said before the lines that are left
+-- there is one meaning before the remaining lines
 pub record OnePart {A : Type 0} (Keeps : A → Type 0) (Says : Result (A × Rest) Fault → Type 0) : Type 0 where
   pub one : OneText (λ found. Keeps found.0) Says
 
--- a rule by which each line says one thing
+-- a rule by which each line has one meaning
 abbrev pub OneRule : {A : Type 0} → (A → Type 0) → LineRule A → Type 0
 OneRule Keeps rule = (text : List ℕ) → OneLine Keeps (rule text)
 
--- a reading by which lines say one thing from each place on
+-- a reading by which the lines from each place on have one meaning
 abbrev pub OneReading : {A : Type 0} → (A → Type 0) → Reading A → Type 0
 OneReading Keeps reading = (place : Rest) → OnePart Keeps (reading place)
 
--- two answers are one
+-- two results are equal
 pub agree : {A E : Type 0} {Keeps : A → Type 0} {Fails : E → Type 0} {Says : Result A E → Type 0} (a b : Result A E)
     → One Keeps Fails Says → Says a → Says b → a ≡ b
 agree a b one p q = one.only a p ∙ sym (one.only b q)
@@ -45,26 +45,26 @@ keeps_ok : {A E : Type 0} (P : A → Type 0) (F : E → Type 0) (says : Result A
 keeps_ok P F (Ok x) keeps = keeps
 keeps_ok P F (Err fault) keeps = tt
 
--- there is an answer, and its value keeps what is asked
+-- there is a result, and its value has the required property
 pub said : {A E : Type 0} {Keeps : A → Type 0} {Fails : E → Type 0} {Says : Result A E → Type 0}
     → One Keeps Fails Says → (says : Result A E) × (Says says × IfOk says Keeps)
 said {A} {E} {Keeps} {Fails} one = (one.answer, (one.says, keeps_ok Keeps Fails one.answer one.keeps))
 
--- each fault is fine
+-- each fault has the required property
 pub fails : {A E : Type 0} {Keeps : A → Type 0} {Fails : E → Type 0} {Says : Result A E → Type 0} (fault : E)
     → One Keeps Fails Says → Says (Err fault) → Fails fault
 fails {A} {E} {Keeps} {Fails} fault one p = subst (λ (says : Result A E). MatchResult says Keeps Fails) (sym (one.only (Err fault) p)) one.keeps
 
--- each value keeps what is asked
+-- each value has the required property
 pub values : {A E : Type 0} {Keeps : A → Type 0} {Fails : E → Type 0} {Says : Result A E → Type 0} (value : A)
     → One Keeps Fails Says → Says (Ok value) → Keeps value
 values {A} {E} {Keeps} {Fails} value one p = subst (λ (says : Result A E). MatchResult says Keeps Fails) (sym (one.only (Ok value) p)) one.keeps
 
--- what is stated as a value
+-- a result that is given as a value
 pub exact : {A E : Type 0} {P : A → Type 0} {F : E → Type 0} (value : Result A E) → MatchResult value P F → One P F (λ says. says ≡ value)
 exact value keeps = record { answer = value; says = refl; keeps = keeps; only = λ other p. p }
 
--- what is made of an answer
+-- a result that is computed from another one
 pub made : {A B E G : Type 0} {P : A → Type 0} {F : E → Type 0} {Q : B → Type 0} {H : G → Type 0} {Says : Result A E → Type 0} (make : Result A E → Result B G)
     → One P F Says → ((says : Result A E) → MatchResult says P F → MatchResult (make says) Q H)
     → One Q H (λ out. (says : Result A E) × (Says says × (out ≡ make says)))
@@ -96,7 +96,7 @@ with_more : {A : Type 0} (P Q : A → Type 0) (found : Result (A × Rest) Fault)
 with_more P Q (Ok found) more fine = more found.0 fine
 with_more P Q (Err fault) more fine = fine
 
--- what is said keeps more
+-- the values have a further property
 pub part_with : {A : Type 0} {P Q : A → Type 0} {Says : Result (A × Rest) Fault → Type 0} → ((x : A) → P x → Q x) → OnePart P Says → OnePart Q Says
 part_with {A} {P} {Q} more part =
     let one = part.one in
@@ -133,7 +133,7 @@ pub before_fine : {A : Type 0} (P : A → Type 0) (place : Rest) (says : Result 
 before_fine P place (Ok x) fine = fine
 before_fine P place (Err fault) fine = fine
 
--- what is said before a place
+-- the meaning before a place
 pub before_one : {A : Type 0} {P : A → Type 0} {Says : Result A Fault → Type 0} (place : Rest) → OneText P Says
     → OnePart P (λ out. (says : Result A Fault) × (Says says × (out ≡ before place says)))
 before_one {A} {P} place one = record { one = made (before place) one (before_fine P place) }
@@ -147,6 +147,6 @@ sized_one : {A : Type 0} {P : A → Type 0} (Says : List ℕ → Result A Fault 
 sized_one Says true text one = exact (Err (record { line = 0; cause = TooBig })) too_big_other
 sized_one Says false text one = one
 
--- a text says one thing where its lines do
+-- a text has one meaning if its lines have
 pub text_one : {A : Type 0} {P : A → Type 0} (Says : List ℕ → Result A Fault → Type 0) (text : List ℕ) → OneText P (Says text) → OneText P (TextParsesTo Says text)
 text_one Says text one = sized_one Says (nat_lt TEXT_LIMIT (length text)) text one

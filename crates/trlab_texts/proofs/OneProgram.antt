@@ -1,4 +1,4 @@
--- The lines of a program say exactly one thing.
+-- The lines of a program have exactly one meaning.
 use Rattle.std.proofs.Common.{◌≡◌, ℕ, ◌+◌, ◌<◌, ◌≤◌, ◌^◌, Bool, true, false, List, [], ◌∷◌, length, refl, sym, ◌∙◌, ap, subst, inl, inr, arith}
 use Rattle.std.proofs.lemmas.Bool.{cases_order}
 use Rattle.std.proofs.lemmas.List.Elements.{All-from_get_or}
@@ -33,7 +33,7 @@ use Rattle.trlab_texts.specs.Programs.{BytesDecodeTo, DigitsDecodeTo, CodeParses
 use Rattle.trlab_texts.proofs.Fine.{Anything, Fine, FineText, code_other, hex_other, line_other, program_other, verdict_other, word_fine}
 use Rattle.trlab_texts.proofs.OneAnswer.{OneLine, OneText, OnePart, OneRule, OneReading, exact, made, next_one, then_one, before_fine, before_one}
 
--- what bytes say, with the cause of a text
+-- the result for bytes, with the cause of a text
 abbrev with_cause : Result Program CodeFault → Result Program Cause
 with_cause (Ok program) = Ok program
 with_cause (Err fault) = Err (Code fault)
@@ -70,7 +70,7 @@ word_one : (word : Result (List ℕ) Cause) → Fine Anything word → OneLine I
 word_one (Ok digits) fine = digits_one digits (decode_of digits) refl
 word_one (Err cause) fine = exact (Err cause) fine
 
--- each line says one program in hexadecimal digits, or has a fault
+-- each line is one program in hexadecimal digits, or has a fault
 pub code_one : OneRule IsValidProgram code_line
 code_one text = word_one (word_after (codes "code ") text) (word_fine (codes "code ") text)
 
@@ -91,7 +91,7 @@ after_line_fine : (first : ℕ) (says : Result Program AsmFault) → MatchResult
 after_line_fine first (Ok program) is = is
 after_line_fine first (Err fault) is = program_other fault.why
 
--- the lines of a program say one, or have a fault
+-- the lines of a program are one program, or have a fault
 pub program_after_fine : (kind : Kind) (first : ℕ) (lines : List (List ℕ)) → FineText IsValidProgram (program_after kind first lines)
 program_after_fine kind first lines = after_line_fine first (code_of kind lines) (lines_say kind lines)
 
@@ -111,7 +111,7 @@ next_program_one kind number (text ∷ left) = headed_one kind (bytes_eq text (h
 program_one : (kind : Kind) → OneReading IsValidProgram (program_part kind)
 program_one kind place = next_program_one kind place.number place.left
 
--- one longest way
+-- only one longest path
 pub one_longest : (code : List Instr) (n m : ℕ) → IsLongest code 0 n → IsLongest code 0 m → n ≡ m
 one_longest code n m p q =
     let up : n ≤ m = q.most n p.way in
@@ -131,11 +131,11 @@ one_fault_at e = cc
 none_some : {a : ℕ} (o : Option ℕ) → o ≡ None → o ≡ Some a → ⊥
 none_some o e f = cc
 
--- an accepted program is not refused
+-- an accepted program is not rejected
 pub not_refused : (kind : Kind) (program : Program) (at reason : ℕ) → IsAccepted kind program → IsRefused kind program at reason → ⊥
 not_refused kind program at reason accepted refused = none_some (reason_number_at kind program at) (accepted at refused.within) refused.here
 
--- a program is refused at one instruction
+-- a program is rejected at only one instruction
 pub refused_at_one : (kind : Kind) (program : Program) (at reason place other : ℕ) → IsRefused kind program at reason → IsRefused kind program place other → at ≡ place
 refused_at_one kind program at reason place other p q = elim (cases_order at place) [
   | inl same ↦ same
@@ -145,7 +145,7 @@ refused_at_one kind program at reason place other p q = elim (cases_order at pla
   ]
 ]
 
--- and for one reason
+-- and for only one reason
 pub refused_one : (kind : Kind) (program : Program) (at reason place other : ℕ) → IsRefused kind program at reason → IsRefused kind program place other → reason ≡ other
 refused_one kind program at reason place other p q =
     one_fault_at (sym p.here ∙ ap (reason_number_at kind program) (refused_at_one kind program at reason place other p q) ∙ q.here)
@@ -161,7 +161,7 @@ refused_only kind first program at reason refused (Ok checked) p = absurd (not_r
 refused_only kind first program at reason refused (Err fault) p =
     ap Err (p.2.1 ∙ ap (λ n. record { line = first; cause = Verdict n }) (refused_one kind program p.0 p.1 at reason p.2.0 refused))
 
--- the verifier says one thing of each program
+-- the verifier has only one verdict on each program
 verdict_one : (kind : Kind) (first : ℕ) (program : Program) → IsValidProgram program → OneText (IsChecked kind) (IsVerdict kind first program)
 verdict_one kind first program is = elim (accepted_or_refused kind program) [
   | inl accepted ↦
@@ -176,7 +176,7 @@ verdict_one kind first program is = elim (accepted_or_refused kind program) [
   }
 ]
 
--- each part says one checked program, or has one first fault
+-- each part is one checked program, or has one first fault
 pub part_one : (kind : Kind) → OneReading (IsChecked kind) (part kind)
 part_one kind place =
     then_one (program_part kind) (verdict kind place.number) (program_one kind)

@@ -10,7 +10,7 @@ use Rattle.trlab_texts.specs.declared.fault.TextFault.TheVariants.{At}
 use Rattle.trlab_texts.specs.Programs.{split_at_end, with_first_line}
 use Rattle.trlab_texts.proofs.Cuts.{no_text_in}
 
--- a front of a text that ends where a line ends
+-- a prefix of a text that ends at the end of a line
 abbrev pub IsClosed : List ℕ → Type 0
 IsClosed front = (more : List ℕ) → lines_of (front ++ more) ≡ lines_of front ++ lines_of more
 
@@ -23,7 +23,7 @@ onto lines (Some found) = Some (lines ++ found.0, found.1)
 abbrev pub IsFree : List (List ℕ) → Type 0
 IsFree lines = (more : List (List ℕ)) → split_at_end (lines ++ more) ≡ onto lines (split_at_end more)
 
--- so many lines of a text were read, of which none is `end`, and so much is left
+-- a number of lines of a text were read, none of which is `end`, and the rest is left
 pub record Searched (text left : List ℕ) (count : ℕ) : Type 0 where
   pub front : List ℕ
   pub parts : text ≡ front ++ left
@@ -111,7 +111,7 @@ searched_end text left line rest count s lines less is =
     ap split_at_end whole ∙ s.free (line ∷ lines_of rest) ∙ ap (onto (lines_of s.front)) (part_here line (lines_of rest) is)
     ∙ ap (λ t. Some (t, lines_of rest)) (append-nil (lines_of s.front))
 
--- the text before what is left
+-- the text before the rest
 pub searched_front : (text left : List ℕ) (count : ℕ) (s : Searched text left count) → take (length text - length left) text ≡ s.front
 searched_front text left count s =
     let before : length text - length left ≡ length s.front = omega (arith, ap length s.parts, length-append s.front left) in
@@ -120,7 +120,7 @@ searched_front text left count s =
 whole_front : (text left front : List ℕ) → text ≡ front ++ left → left ≡ [] → text ≡ front
 whole_front text left front parts none = parts ∙ ap (λ t. front ++ t) none ∙ append-nil front
 
--- where no line is left, none is `end`
+-- if no line is left, none is `end`
 pub searched_all : (text left : List ℕ) (count : ℕ) → Searched text left count → lines_of left ≡ []
     → (split_at_end (lines_of text) ≡ None) × (length (lines_of text) ≡ count)
 unfolding split_at_end

@@ -1,4 +1,4 @@
--- Where parts of some bytes of a line are.
+-- The position of some bytes within a line.
 use Rattle.std.proofs.Common.{Bool, true, false, cond, ◌≡◌, ◌==◌, ℕ, ◌+◌, List, [], ◌∷◌, ◌++◌, length, take, drop, get_or, refl, sym, ◌∙◌, ap, subst, arith, length-append, take-append-drop, drop-cons, add-one}
 use Rattle.std.specs.Prelude.{Option, None, Some, unwrap_or, Result, Ok, Err, nat_le, ◌&&◌}
 use Rattle.std.specs.List.{position}
@@ -12,11 +12,11 @@ use Rattle.trlab_texts.specs.Words.{within}
 use Rattle.trlab_texts.specs.Places.{HasBytesAt}
 use Rattle.trlab_texts.proofs.Said.{behind_front}
 
--- a line is at its own start
+-- a line begins at position 0 of itself
 pub whole : (line : List ℕ) → HasBytesAt line 0 line
 whole line = record { before = []; after = []; parts = sym (append-nil line); place = refl }
 
--- the first part of some bytes is where they are
+-- the first part of some bytes has their position
 pub first_part : (line bytes front rest : List ℕ) (at : ℕ) → HasBytesAt line at bytes → bytes ≡ front ++ rest → HasBytesAt line at front
 first_part line bytes front rest at is e = record {
   before = is.before;
@@ -25,7 +25,7 @@ first_part line bytes front rest at is e = record {
   place = is.place;
 }
 
--- what follows it is that much later
+-- the part after it begins as many bytes later as the first part has
 pub last_part : (line bytes front rest : List ℕ) (at : ℕ) → HasBytesAt line at bytes → bytes ≡ front ++ rest → HasBytesAt line (at + length front) rest
 last_part line bytes front rest at is e = record {
   before = is.before ++ front;
@@ -34,7 +34,7 @@ last_part line bytes front rest at is e = record {
   place = length-append is.before front ∙ ap (λ n. n + length front) is.place;
 }
 
--- what is behind a prefix
+-- the bytes after a prefix
 pub behind_prefix : (line bytes prefix rest : List ℕ) (at : ℕ) → HasBytesAt line at bytes → Some rest ≡ without_prefix prefix bytes → HasBytesAt line (at + length prefix) rest
 behind_prefix line bytes prefix rest at is e = last_part line bytes prefix rest at is (behind_front prefix bytes rest (sym e))
 
@@ -48,17 +48,17 @@ cut_at c text front rest (Some i) at e =
     let parts : text ≡ take i text ++ (get_or text i 0 ∷ drop (i + 1) text) = sym (take-append-drop i text) ∙ rw (drop-cons text i 0, add-one) refl in
     (get_or text i 0, parts ∙ (ap (λ l. l ++ (get_or text i 0 ∷ drop (i + 1) text)) (sym before) ∙ ap (λ r. front ++ (get_or text i 0 ∷ r)) (sym behind)))
 
--- a text is what its cut leaves, with a byte between
+-- a text consists of the two parts of its cut, with a byte between them
 cut_parts : (c : ℕ) (text front rest : List ℕ) → Some (front, rest) ≡ cut c text → (x : ℕ) × (text ≡ front ++ (x ∷ rest))
 cut_parts c text front rest e = cut_at c text front rest (position (λ b. b == c) text) refl e
 
--- what is before a cut
+-- the bytes before a cut
 pub before_cut : (line bytes front rest : List ℕ) (at c : ℕ) → HasBytesAt line at bytes → Some (front, rest) ≡ cut c bytes → HasBytesAt line at front
 before_cut line bytes front rest at c is e =
     let parts = cut_parts c bytes front rest e in
     first_part line bytes front (parts.0 ∷ rest) at is parts.1
 
--- what is after it
+-- the bytes after it
 pub after_cut : (line bytes front rest : List ℕ) (at c : ℕ) → HasBytesAt line at bytes → Some (front, rest) ≡ cut c bytes → HasBytesAt line (at + length front + 1) rest
 after_cut line bytes front rest at c is e =
     let parts = cut_parts c bytes front rest e in
@@ -69,7 +69,7 @@ within_fails : (inside : Bool) (n : ℕ) (cause : Cause) → ◌≡◌ {A = Resu
 within_fails true n cause e = absurd (cc e)
 within_fails false n cause e = refl
 
--- the one cause for which a word is no number of a range
+-- the only cause for which a word is not a number in a range
 pub only_number : (low high : ℕ) (found : Option ℕ) (cause : Cause) → Err cause ≡ within low high found → within low high found ≡ Err Number
 only_number low high None cause e = refl
 only_number low high (Some n) cause e = within_fails (nat_le low n && nat_le n high) n cause e

@@ -1,4 +1,4 @@
--- What the lines of programs say.
+-- The meaning of the lines of programs.
 use Rattle.std.proofs.Common.{◌≡◌, ◌≢◌, ℕ, List, refl, sym, false}
 use Rattle.std.specs.Prelude.{Result, Ok, Err}
 use Rattle.std.specs.Str.{bytes_eq}
@@ -29,7 +29,7 @@ kind_not Motion Change program other = refl
 kind_not Change Motion program other = refl
 kind_not Change Change program other = absurd (other refl)
 
--- the line of a program of the kind, of one of the other, and of none
+-- the lines of a program of this kind, of one of the other kind, and of none
 pub code_of_kind : (kind : Kind) (text : List ℕ) (program : Program) → code_line text (Ok program) → program.kind ≡ kind → code_line_of kind text (Ok program)
 code_of_kind kind text program says is = (Ok program, (says, sym (kind_as kind program.kind program is)))
 
@@ -47,7 +47,7 @@ in_one_line kind place after text (Ok found) stands other says = rw (stands.0, o
 in_one_line kind place after text (Err (At number cause)) stands other says = rw (stands.0, other) (rw stands.0 at says)
 in_one_line kind place after text (Err Memory) stands other says = tt
 
--- what the verifier says of a program that was read
+-- the verdict on a program that was read
 pub verdict_behind : (kind : Kind) (place after : Rest) (program : Program) (checked : CheckedProgram) → program_part kind place (Ok (program, after))
     → IsVerdict kind place.number program (Ok checked) → part kind place (Ok (checked, after))
 verdict_behind kind place after program checked says answer =

@@ -1,4 +1,4 @@
--- What the next line says by a rule, and what is read after it.
+-- The meaning of the next line by a rule, and the reading of the lines after it.
 use Rattle.std.proofs.Common.{◌≡◌, ℕ, ◌+◌, List, [], ◌∷◌, refl, ap}
 use Rattle.std.specs.Prelude.{Result, Ok, Err}
 use Rattle.std.specs.Result.{IsErr, IsErrAnd}
@@ -14,13 +14,13 @@ use Rattle.trlab_texts.specs.Reading.{Fault, LineRule, Reading, LineParsesTo, �
 pub rest_is : (after : Rest) (n : ℕ) → after.number ≡ n → after ≡ record { number = n; left = after.left }
 rest_is after n e = let P : Rest = record { number = n; left = after.left } in rw (← e) refl
 
--- a line says something
+-- a line has a meaning
 pub line_content : {A : Type 0} (rule : LineRule A) (place after : Rest) (text : List ℕ) (x : A)
     → IsNextLine place text after → rule text (Ok x) → line rule place (Ok (x, after))
 line_content rule place after text x stands says =
     rw stands.0 (Ok x, (says, ap (λ p. Ok (x, p)) (rest_is after (place.number + 1) stands.1)))
 
--- a line has a fault, or memory ran out
+-- a line has a fault, or an allocation failed
 pub line_fails : {A : Type 0} (rule : LineRule A) (place after : Rest) (text : List ℕ) (number : ℕ) (fault : LineFault)
     → IsNextLine place text after → number ≡ place.number
     → ReportsLine (rule text) (Err fault) → Reports (line rule place) (Err (text_fault number fault))
@@ -32,14 +32,14 @@ next_by : {A : Type 0} (P Q : LineRule A) (number : ℕ) (left : List (List ℕ)
 next_by P Q number [] out weaker says = says
 next_by P Q number (text ∷ left) out weaker says = (says.0, (weaker text says.0 says.1.0, says.1.1))
 
--- what a line says by a rule it says by a weaker one
+-- the meaning of a line by a rule is its meaning by a weaker rule
 pub line_by : {A : Type 0} (P Q : LineRule A) (rest : Rest) (out : Result (A × Rest) TextFault) → ((text : List ℕ) (says : Result A Cause) → P text says → Q text says)
     → Reports (line P rest) out → Reports (line Q rest) out
 line_by P Q rest (Ok found) weaker says = next_by P Q rest.number rest.left (Ok found) weaker says
 line_by P Q rest (Err (At number cause)) weaker says = next_by P Q rest.number rest.left (Err (record { line = number; cause = cause })) weaker says
 line_by P Q rest (Err Memory) weaker says = tt
 
--- a reading goes on after what was said
+-- a reading continues after a result
 pub goes_on : {A B : Type 0} (first : Reading A) (next : A → Reading B) (place after : Rest) (x : A) (out : Result (B × Rest) TextFault)
     → first place (Ok (x, after)) → Reports (next x after) out → Reports ((first >>= next) place) out
 goes_on first next place after x (Ok found) says rest = (Ok (x, after), (says, rest))

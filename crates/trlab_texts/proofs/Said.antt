@@ -1,4 +1,4 @@
--- What is read of a line with a name and a number is what stands there.
+-- Reading a line with a name and a number gives the number in the line.
 use Rattle.std.proofs.Common.{◌≡◌, ℕ, ◌<◌, ◌≤◌, ◌^◌, List, [], ◌∷◌, ◌++◌, length, take, drop, refl, sym, ◌∙◌, ap, arith, Bool, true, false, cond, take-append-drop, inl, inr}
 use Rattle.std.specs.Prelude.{decimal, Option, None, Some, Result, Ok, Err, nat_le, ◌&&◌, ◌⊎◌}
 use Rattle.std.specs.Str.{bytes_eq}
@@ -14,7 +14,7 @@ use Rattle.trlab_texts.specs.Words.{is_word, has_space, number_of, within, one_w
 use Rattle.trlab_texts.specs.declared.fault.Cause.{Cause}
 use Rattle.trlab_texts.specs.declared.fault.Cause.TheVariants.{Line, Number}
 
--- which way a test went
+-- the result of a test
 chosen : {A : Type 0} (b : Bool) (x y : A) (z : A) → cond b x y ≡ z → ((b ≡ true) × (x ≡ z)) ⊎ ((b ≡ false) × (y ≡ z))
 chosen true x y z e = inl (refl, e)
 chosen false x y z e = inr (refl, e)
@@ -89,7 +89,7 @@ front_after front word =
     let same = (bytes_eq-Decides (take (length front) (front ++ word)) front).1 (take-append_seam front word) in
     rw (same, drop-append_seam front word) refl
 
--- the other way round
+-- the converse
 pub number_again : (front : List ℕ) (low high n : ℕ) → high < 2 ^ 32 → low ≤ n → n ≤ high → number_within low high (word_after front (front ++ decimal n)) ≡ Ok n
 number_again front low high n small above below =
     rw (front_after front (decimal n), decimal_is_word n (omega arith), number_of_some (decimal n) n (omega arith) refl) (within_again low high n above below)

@@ -1,4 +1,4 @@
--- Steps under any rule, whether its programs were accepted or not: what its cars answer on a legal road is
+-- Steps under any rule, whether or not its programs were accepted: their answers on a legal road are
 -- allowed, so the road stays legal.
 use Rattle.std.proofs.Common.{◌≡◌, ℕ, Bool, Option, Some, None, length, sym, subst}
 use Rattle.trlab_code.specs.declared.program.Kind.TheVariants.{Change}
@@ -25,7 +25,7 @@ use Rattle.trlab_step.specs.Laws.{IsLegalLike}
 use Rattle.trlab_step.specs.Next.{IsLaneChangePhase, IsMotionPhase, IsNext}
 use Rattle.trlab_step.proofs.NextLaws.{like_itself, like_next}
 
--- the speeds that a motion program answers are within the gaps and the limit
+-- the speeds of a motion program are within the gaps and the limit
 pub answers_fit : (motion : CheckedProgram) (dice : Dice) (road : Cells) (speeds : ℕ → ℕ → ℕ) → AnswersSpeeds motion dice road speeds → Fits speeds road
 answers_fit motion dice road speeds answers = record {
   each_lane = λ l h. record { gaps = λ x number speed here. (allowed (car_in l x number speed) here).gap };
@@ -37,7 +37,7 @@ answers_fit motion dice road speeds answers = record {
         let answer = answers.each car here in
         speed_allowed motion.program.instrs (motion_view_of road car) (words_of dice car.number) (speeds car.lane car.place) answer.0 answer.1
 
--- the cars that a change program lets cross do so to empty cells
+-- the cars that a change program lets change lanes do so only to empty cells
 pub crossings_free : (change : CheckedProgram) (dice : Dice) (road : Cells) (crosses : ℕ → ℕ → Bool) → length road.lanes ≡ 2 → AnswersCrossings change dice road crosses → CrossesToEmpty crosses road
 crossings_free change dice road crosses two answers = record {
   two_lanes = two;

@@ -36,7 +36,7 @@ use Rattle.trlab_traffic.proofs.Numbering.{choose}
 use Rattle.trlab_traffic.proofs.Places.{ahead_more}
 use Rattle.trlab_traffic.proofs.Slower.{more_happens}
 
--- a car has one lane and place
+-- a car has only one lane and place
 same_place : (f : ℕ → ℕ → ℕ) (road : Cells) (car other : Car) → IsLegal road → IsAt road car → IsAt road other → car.number ≡ other.number → f car.lane car.place ≡ f other.lane other.place
 same_place f road car other legal here there numbered =
     let place = legal.once car other here there numbered in
@@ -60,7 +60,7 @@ module _ (p q : ℕ) (light heavy : Programs) (dice : Dice) (rear front next_rea
   front_like : IsLegalLike front next_front
   front_like = next_legal_like light dice front next_front front_tally front_legal front_step
 
-  -- with no less room a car goes no less far on the front road
+  -- with no less room a car goes at least as far on the front road
   slower : (car same : Car) → IsAt rear car → IsAt front same → same.number ≡ car.number → gap_of rear car ≤ gap_of front same → a car.lane car.place ≤ b same.lane same.place
   slower car same here there numbered room =
       let c = happens_on q (slice_index (words_of dice car.number) 0) in
@@ -132,7 +132,7 @@ module _ (p q : ℕ) (light heavy : Programs) (dice : Dice) (rear front next_rea
       subst (IsNextOf rear number) (next_car_is_one next_rear number before.0 next like.legal after is) here
 
   module _ (later : ℕ → ℕ) (leads : (i : ℕ) → i < cars rear → LeadsBy i (later i)) where
-    -- where a car is that came with the step
+    -- the position of a car after the step
     further_after : (car : Car) → IsAt next_rear car → (same : Car) × IsAt next_front same × IsFurther (later car.number) next_rear car same
     further_after car here =
         let l = car.lane in

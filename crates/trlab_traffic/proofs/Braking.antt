@@ -1,4 +1,4 @@
--- Each random braking costs a cell.
+-- Each random braking costs one cell.
 use Rattle.std.proofs.Common.{◌≡◌, ℕ, zero, suc, ◌+◌, ◌-◌, ◌*◌, ◌≤◌, ◌&&◌, min, Bool, true, false, cond, List, [], ◌∷◌, length, get_or, refl, sym, ◌∙◌, ap, subst, inl, inr, arith, mul_comm, suc-mul, if◌then◌else◌}
 use Rattle.std.specs.Prelude.{All, nat_le, nat_lt, sum_by}
 use Rattle.std.proofs.lemmas.Bool.{cases_lt, le-leb, lt-leb}

@@ -34,7 +34,7 @@ kth_is f road k below =
     let count = length-standing_from_lane 0 road.lanes in
     get_or-map_in (λ (car : Car). f car.lane car.place) (standing road) k no_one 0 (omega (arith, below, count))
 
--- speeds that fit may be answered in standing order
+-- speeds that fit are safe speeds, in standing order
 pub may_move : (speeds : ℕ → ℕ → ℕ) (road : Cells) → Fits speeds road → AreSafeSpeeds road (in_order speeds road)
 may_move speeds road fits = record {
   one_each = length-map (standing road) (λ (car : Car). speeds car.lane car.place) ∙ length-standing_from_lane 0 road.lanes;
@@ -48,7 +48,7 @@ may_move speeds road fits = record {
       rw (kth_is speeds road k below) (fits.within_limit car (standing_cell road k no_one below));
 }
 
--- the sum of the speeds after a motion is that of the answers before it
+-- the sum of the speeds after a motion is the sum of the answers before it
 pub speeds_total : (speeds : ℕ → ℕ → ℕ) (road next : Cells) → Fits speeds road → Moves speeds road next → total_speed next ≡ sum_by (λ (car : Car). speeds car.lane car.place) (standing road)
 speeds_total speeds road next fits moves =
     let answers = in_order speeds road in
@@ -72,7 +72,7 @@ fitting_by_limit speeds road fits =
     let same : length (standing road) * road.limit ≡ road.limit * cars road = ap (λ k. k * road.limit) count ∙ mul_comm (cars road) road.limit in
     subst (λ m. sum_by (λ (car : Car). speeds car.lane car.place) (standing road) ≤ m) same all
 
--- lanes of the same lengths have as many cells
+-- lanes of the same lengths have the same number of cells
 same_cells : (xs ys : List Lane) → length ys ≡ length xs → ((l : ℕ) → l < length xs → length (get_or ys l []) ≡ length (get_or xs l [])) → sum_by lane_cells ys ≡ sum_by lane_cells xs
 same_cells [] [] size same = refl
 same_cells [] (y ∷ ys) size same = absurd (omega arith)
@@ -145,7 +145,7 @@ record OnItsWay (seed : Seed) (step : ℕ) (road : Cells) (sum : StepTally) : Ty
   cells : all_cells road ≡ all_cells seed.road
   within : IsDistanceUnderTriangle seed.road (step - seed.warm) sum.distance
 
--- the distance of one more step, where it is counted and where it is not
+-- the distance after one more step, whether or not it is counted
 one_more : (m n most step warm : ℕ) → m ≤ (step - warm) * most → n ≤ most → warm ≤ step → m + n ≤ (suc step - warm) * most
 one_more m n most step warm before now counted =
     let e : suc step - warm ≡ suc (step - warm) = omega arith in

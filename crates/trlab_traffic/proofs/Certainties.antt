@@ -1,5 +1,4 @@
--- Programs that leave nothing to chance end the same whatever their words are, so their rules lead to one road
--- for all dice.
+-- Deterministic programs end the same for all random words, so their rules lead to one road for all dice.
 use Rattle.std.proofs.Common.{◌≡◌, ℕ, zero, suc, ◌/◌, ◌^◌, ◌<◌, ◌⊎◌, cond, Option, Some, None, List, [], ◌∷◌, refl, sym, ◌∙◌, ap, subst, inl, inr, arith}
 use Rattle.std.specs.Prelude.{All, IfSome, nat_lt, slice_get, slice_index}
 use Rattle.std.proofs.lemmas.Bool.{le-ltb, lt-ltb}
@@ -25,7 +24,7 @@ use Rattle.trlab_step.specs.Run.{dice_at}
 use Rattle.trlab_step.proofs.RunLaws.{force_all}
 use Rattle.trlab_traffic.specs.Determinism.{HasOneOutcome, IsDeterministic, NaschWithoutRandomizationIsDeterministic, RunIsDeterministic, StepIsDeterministic}
 
--- a chance that is none, or certainty, happens on all words of 32 bits or on none
+-- a probability of 0 or 1: the event happens on all words of 32 bits, or on none
 same_drawn : (chance a b : ℕ) → (chance ≡ 0) ⊎ (chance ≡ CERTAIN) → a < 2 ^ 32 → b < 2 ^ 32 → nat_lt (a / 2) chance ≡ nat_lt (b / 2) chance
 same_drawn chance a b is low high =
     elim is [
@@ -61,7 +60,7 @@ module _ (kind : Kind) (view : View) (words others : List ℕ) (small : Small wo
     same_end (Done other) answer (suc n) ends = absurd ends
     same_end Stuck answer (suc n) ends = absurd ends
 
--- the words of a car are such words
+-- the random words of a car are words of 32 bits
 car_words_small : (dice : Dice) (number : ℕ) → Small (words_of dice number)
 car_words_small dice number k = random_words_small dice.key dice.road number dice.step k
 

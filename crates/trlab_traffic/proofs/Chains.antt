@@ -9,11 +9,11 @@ abbrev pub bit : Bool → ℕ
 bit true = 1
 bit false = 0
 
--- does a car leave its cell, where `next` says whether the cell ahead is taken?
+-- does a car leave its cell, if `next` is whether the cell ahead is taken?
 abbrev pub leaves : Bool → Bool → Bool → Bool
 leaves own next brake = own && not next && not brake
 
--- is a cell taken after the step, if `came` says whether a car comes to it?
+-- is a cell taken after the step, if `came` is whether a car comes to it?
 abbrev pub kept : Bool → Bool → Bool → Bool
 kept own left came = (own && not left) || came
 
@@ -24,12 +24,12 @@ module _ (t q : ℕ) where
   own_weight true false = t + q
   own_weight true true = t
 
-  -- the weight of one cell of a step: 0 if the new cell is another
+  -- the weight of one cell of a step: 0 if the new cell has another content
   abbrev pub cell_weight : Bool → Bool → Bool → Bool → Bool → ℕ
   cell_weight came own next brake new = bit (beq (kept own (leaves own next brake) came) new) * (own_weight own next * draw_weight t q own brake)
 
-  -- the weight of a step of a chain before which `came` says whether a car comes, and after which `first` is the cell ahead and `last`
-  -- says whether a car leaves
+  -- the weight of a step of a chain: `came` is whether a car comes before it, `first` is the cell ahead of
+  -- it, and `last` is whether a car leaves it
   abbrev pub chain : Bool → Bool → Bool → Ring → Ring → Ring → ℕ
   chain first last came [] [] [] = bit (beq came last)
   chain first last came (own ∷ old) (brake ∷ braking) (cell ∷ new) =
@@ -49,7 +49,7 @@ module _ (t q : ℕ) where
       + (cell_weight came true true false cell * sums first last false true new
       + cell_weight came true true true cell * sums first last false true new)
 
-  -- the sum over chains, as it is
+  -- the sum over chains, by its definition
   abbrev pub all_chains : Bool → Bool → Bool → Bool → Bool → Ring → ℕ
   all_chains first last came own cell new =
       rings (length new) (λ (old : Ring). sets (own ∷ old) (λ (braking : Ring). chain first last came (own ∷ old) braking (cell ∷ new)))
@@ -70,7 +70,7 @@ module _ (t q : ℕ) where
           let b = rings_pull n k (λ (r : Ring). g (true ∷ r)) (λ (r : Ring). f (true ∷ r)) in
           omega (arith, a, b)
 
-  -- both are the same
+  -- the two are equal
   pub chains_sum : (first last came own cell : Bool) (new : Ring) → all_chains first last came own cell new ≡ sums first last came own (cell ∷ new)
   chains_sum false last came false cell [] = omega arith
   chains_sum true last came false cell [] = omega arith
@@ -101,7 +101,7 @@ module _ (t q : ℕ) where
       let e' = ap (λ x. cell_weight came true true true cell * x) (chains_sum first last false true c new) in
       omega (arith, next_no, next_yes, a, b, a', b', d, e, d', e')
 
-  -- the closed form: a factor for each taken cell, by the cell behind it
+  -- the closed form: a factor for each taken cell, which depends on the cell behind it
   abbrev pub product : ℕ → ℕ → Bool → Ring → ℕ
   product e0 e1 false [] = e0
   product e0 e1 true [] = e1

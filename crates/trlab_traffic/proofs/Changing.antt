@@ -49,7 +49,7 @@ holes [] = refl
 holes (None ∷ cells) = let rest = holes cells in let e = empty-none cells in omega (arith, rest, e)
 holes (Some car ∷ cells) = let rest = holes cells in let e = empty-some car cells in omega (arith, rest, e)
 
--- the cars of a lane that cross go to empty cells of the other lane
+-- the cars of a lane that change go to empty cells of the other lane
 module _ (crosses : ℕ → ℕ → Bool) (road : Cells) (free : CrossesToEmpty crosses road) where
   to_hole : (l y : ℕ) (here : Cell) → cell road l y ≡ here → weight (λ (car : Car). cond (crosses car.lane car.place) 1 0) l y here ≤ cond (is_none (at (lane_of road (other_lane l)) y)) 1 0
   to_hole l y None is = omega arith

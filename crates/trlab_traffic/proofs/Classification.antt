@@ -1,4 +1,5 @@
--- Rule 184 classifies densities: a lane that has leapt for long enough has no two cars side by side, or no two empty cells.
+-- Rule 184 classifies densities: a lane that has leapt for long enough has no two adjacent cars, or no two
+-- adjacent empty cells.
 use Rattle.std.proofs.Common.{◌≡◌, ℕ, ◌+◌, ◌<◌, ◌≤◌, Bool, true, false, length, refl, sym, ap, subst, arith}
 use Rattle.trlab_road.specs.Cells.{Lane, lane_car_count, lane_of}
 use Rattle.trlab_road.specs.Gaps.{ahead}

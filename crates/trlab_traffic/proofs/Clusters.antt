@@ -9,7 +9,7 @@ use Rattle.trlab_traffic.proofs.Chains.{bit}
 use Rattle.trlab_traffic.proofs.RingSums.{rings, rings_same, rings_sum, size_is, trues}
 use Rattle.trlab_traffic.proofs.Stationary.{free, free_is}
 
--- are two numbers one? By recursion
+-- are two numbers equal? By recursion
 abbrev pub same : ℕ → ℕ → ℕ
 same zero zero = 1
 same zero (suc n) = 0
@@ -43,7 +43,8 @@ each_cell [] = refl
 each_cell (false ∷ r) = let rest = each_cell r in omega (arith, rest)
 each_cell (true ∷ r) = let rest = each_cell r in omega (arith, rest)
 
--- the places of a chain at which a taken cell has an empty one ahead, from the cell `before` on, up to the cell `first` behind its end
+-- the places of a chain at which a taken cell has an empty one ahead, from the cell `before` on, up to the
+-- cell `first` after its end
 abbrev ends : Bool → Bool → Ring → ℕ
 ends first before [] = bit (before && not first)
 ends first before (false ∷ r) = bit before + ends first false r
@@ -56,7 +57,7 @@ free_ends first true (false ∷ r) = let rest = free_ends first false r in omega
 free_ends first false (true ∷ r) = let rest = free_ends first true r in omega (arith, rest)
 free_ends first true (true ∷ r) = let rest = free_ends first true r in omega (arith, rest)
 
--- how many chains have m taken and e empty cells, and k such places
+-- the number of chains with m taken cells, e empty ones, and k such places
 abbrev picked : Bool → Bool → ℕ → ℕ → ℕ → Ring → ℕ
 picked first before m e k r = same (trues r) m * same (falses r) e * same (ends first before r) k
 

@@ -1,4 +1,5 @@
--- The cars of a run without lane changes, by their numbers: where each is, how far it has gone, and which car is next.
+-- The cars of a run without lane changes, by their numbers: the position, the distance and the next car of
+-- each.
 use Rattle.std.proofs.Common.{◌≡◌, ℕ, suc, ◌+◌, ◌<◌, ◌≤◌, length, refl, sym, ◌∙◌, ap, inl, inr, arith}
 use Rattle.std.proofs.lemmas.Bool.{cases_lt}
 use Rattle.trlab_road.specs.declared.car.Car.{Car}
@@ -81,7 +82,7 @@ module _ (old new : Cells) (speeds : ℕ → ℕ → ℕ) (moves : Moves speeds 
           omega (arith, before, now);
     }
 
--- the cars of the start
+-- the cars at the start
 pub record Start (road : Cells) : Type 0 where
   pub car : ℕ → Car
   pub next : ℕ → ℕ

@@ -20,7 +20,7 @@ use Rattle.trlab_traffic.proofs.NaschMoves.{motion_alone}
 use Rattle.trlab_traffic.proofs.Places.{ahead_back, ahead_below, ahead_more, ahead_none, ahead_swap, back_ahead, gap_below}
 use Rattle.trlab_traffic.proofs.Sums.{below, below_not, below_so, cell_sum, in_cell, is, is_not, is_so, sum_of_cells, sum_range, total, total_at, total_balance, total_below, total_none, total_same, total_swap, total_turned, weight}
 
--- the way to where a car goes
+-- the distance to the cell that a car goes to
 way_gone : (n p v : ℕ) → p < n → v < n → cells_ahead_to n p (ahead n p v) ≡ v
 way_gone n p v low short =
     let e : p + v ≡ v + p = omega arith in
@@ -42,8 +42,8 @@ is_there n p v c low short high =
       | inr apart ↦ is_not (ahead n p v) c (λ e. apart (sym (ap (cells_ahead_to n p) e) ∙ way_gone n p v low short)) ∙ sym (is_not (cells_ahead_to n p c) v apart)
     ]
 
--- of a car that goes v cells from p: whether it comes to the cell behind a detector and whether it passes on, whether it
--- was there and whether it passed the one before
+-- the path of a car that goes v cells from p: whether it comes to the cell behind a detector and whether it
+-- passes on, whether it was there, and whether it passed the detector before
 numbers_balance : (n z v : ℕ) → z < n → v < n → is (ahead n z 1) v + below (ahead n z 1) v ≡ is (ahead n z 1) 0 + below z v
 numbers_balance n z v low short =
     elim (cases_lt (z + 1) n) [
@@ -107,7 +107,7 @@ module _ (answer : ℕ → ℕ) (old new : Lane) (m : LaneMoves answer old new) 
   abbrev n : ℕ
   n = length old
 
-  -- where a car of the lane came from
+  -- the cell that a car of the lane came from
   pub record Came (y number speed : ℕ) : Type 0 where
     pub from : ℕ
     pub before : ℕ
@@ -172,7 +172,7 @@ module _ (answer : ℕ → ℕ) (old new : Lane) (m : LaneMoves answer old new) 
         let four : below (cells_ahead_to n (place_before_motion n (car_in 0 y car.0 car.1)) b) car.1 ≡ below (cells_ahead_to n p b) car.1 = ap (λ k. below (cells_ahead_to n k b) car.1) start in
         omega (arith, all, one, two, three, four)
 
-    -- who arrives at a cell is there
+    -- a car that arrives at a cell is there
     arrived_elsewhere : (y : ℕ) (here : Cell) → y ≢ c → weight arrived 0 y here ≡ 0
     arrived_elsewhere y None apart = refl
     arrived_elsewhere y (Some car) apart = is_not y c apart
@@ -184,7 +184,7 @@ module _ (answer : ℕ → ℕ) (old new : Lane) (m : LaneMoves answer old new) 
     arrived_is : total (in_cell arrived new) n ≡ digit (is_taken new c)
     arrived_is = total_at (in_cell arrived new) n c c_in (λ y low apart. arrived_elsewhere y (at new y) apart) ∙ arrived_here (at new c)
 
-    -- who started from a cell was there
+    -- a car that started from a cell was there
     started_elsewhere : (y : ℕ) (here : Cell) → at new y ≡ here → ((from : ℕ) → from ≡ c → y ≡ ahead n from (answer from) → (car : ℕ × ℕ) → at old from ≡ Some car → ⊥) → weight started 0 y here ≡ 0
     started_elsewhere y None there apart = refl
     started_elsewhere y (Some car) there apart =
@@ -266,7 +266,7 @@ module _ (answer : ℕ → ℕ) (old new : Lane) (m : LaneMoves answer old new) 
       let first : passages new (on 0) ≡ passages new x = ap (passages new) (ahead_none (length old) x x_low) in
       omega (arith, all, end, first)
 
--- the answers of the cars of any lane fit it
+-- the answers of the cars of any lane fit this lane
 pub any_lane_fits : (speeds : ℕ → ℕ → ℕ) (road : Cells) (l : ℕ) → Fits speeds road → LaneFits (speeds l) (lane_of road l)
 any_lane_fits speeds road l fits = record { gaps = λ x number speed here. (fits.each_lane l (on_lane road l x (number, speed) here)).gaps x number speed here }
 
@@ -281,7 +281,7 @@ step_is_continuous rule dice old new tally l x k none is_next low =
 abbrev speed_of : Car → ℕ
 speed_of car = car.speed
 
--- no car of a lane goes more than a round
+-- no car of a lane goes more than a lap
 pub record IsShort (lane : Lane) : Type 0 where
   pub short : (x number speed : ℕ) → at lane x ≡ Some (number, speed) → speed ≤ length lane
 
@@ -310,7 +310,7 @@ module _ (lane : Lane) (slow : IsShort lane) where
       ∙ total_same (λ y. total (λ x. passing x y) n) (in_cell speed_of lane) n (λ y low. cell_passes y (at lane y) refl)
       ∙ sym (cell_sum speed_of lane)
 
--- on whichever lane
+-- on any lane
 same_speed : (l x y : ℕ) (here : Cell) → weight speed_of l x here ≡ weight speed_of 0 y here
 same_speed l x y None = refl
 same_speed l x y (Some car) = refl

@@ -57,7 +57,7 @@ none_counted seed sheet l x (suc step) count early counts =
     uncounted_so (nat_le seed.warm step) count counts.1 (passages (lane_of counts.0 l) x) counts.4 (lt-leb seed.warm step (omega (arith, early)))
     ∙ none_counted seed sheet l x step counts.1 (omega (arith, early)) counts.3
 
--- a run has a road at each step before
+-- a run has a road at each earlier step
 pub road_before : (seed : Seed) (sheet : Sheet) (at step : ℕ) (road : Cells) → at ≤ step → IsRoadAt seed sheet step road → (start : Cells) × IsRoadAt seed sheet at start
 road_before seed sheet at zero road early here = let e : 0 ≡ at = omega (arith, early) in (road, subst (λ k. IsRoadAt seed sheet k road) e here)
 road_before seed sheet at (suc step) road early here =
@@ -225,7 +225,8 @@ detectors_count_run seed sheet (suc step) road sum count one comes counts =
           omega (arith, so_far, split, here, size, now, total)
     ]
 
--- two detectors k cells apart differ by no more than the cars that can be in k cells less those that must be
+-- the counts of two detectors k cells apart differ by no more than the cars that fit in k cells, less those
+-- that must be
 record AreClose (cars empty k first second : ℕ) : Type 0 where
   no_less : first ≤ second + (min k cars - (k - empty))
   no_more : second ≤ first + (min k cars - (k - empty))
@@ -261,7 +262,7 @@ detectors_are_close seed sheet step road sum l x k first second nobody comes rou
           record { no_less = omega (arith, all, a, b, c, d, e, f, count, first_count, free, first_free); no_more = omega (arith, all, a, b, c, d, e, f, count, first_count, free, first_free) }
     ]
 
--- how much these differences are, all together
+-- the sum of these differences
 spread : ℕ → ℕ → ℕ → ℕ
 spread cars empty k = min k cars - (k - empty)
 

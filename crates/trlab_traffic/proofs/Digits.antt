@@ -1,4 +1,4 @@
--- The cells of a lane as binary digits, 1 where a car is, and their sum.
+-- The cells of a lane as binary digits, 1 for a car, and their sum.
 use Rattle.std.proofs.Common.{◌≡◌, ℕ, ◌+◌, ◌%◌, Some, None, [], ◌∷◌, length, refl, ◌∙◌, ap, arith, mod-eq_of_lt}
 use Rattle.std.proofs.Math.Nat.{add-mod_right}
 use Rattle.trlab_road.specs.Cells.{Lane, lane_car_count}
@@ -7,11 +7,11 @@ use Rattle.trlab_traffic.specs.Rule184.{digit, is_taken}
 use Rattle.trlab_traffic.proofs.RoomAhead.{cars-none}
 use Rattle.trlab_traffic.proofs.Sums.{total, total_same}
 
--- the digit of a place, which may be some rounds on
+-- the digit of a place, which may be some laps ahead
 abbrev pub digit_at : Lane → ℕ → ℕ
 digit_at lane p = digit (is_taken lane (p % length lane))
 
--- as many digits as cars
+-- the sum of the digits is the number of cars
 pub taken_total : (lane : Lane) → total (λ x. digit (is_taken lane x)) (length lane) ≡ lane_car_count lane
 taken_total [] = refl
 taken_total (None ∷ cells) =

@@ -26,14 +26,14 @@ record Cruise (lane : Lane) (s low high : ℕ) : Type 0 where
   least : (x number speed : ℕ) → at lane x ≡ Some (number, speed) → low ≤ gap lane x
   most : (x number speed : ℕ) → at lane x ≡ Some (number, speed) → gap lane x ≤ high
 
--- cars that are as fast as gaps that differ by no more than one
+-- cars that are as fast as allowed by gaps that differ by at most one
 record Queue (lane : Lane) (g : ℕ) : Type 0 where
   speeds : (x number speed : ℕ) → at lane x ≡ Some (number, speed) → g ≤ speed
   least : (x number speed : ℕ) → at lane x ≡ Some (number, speed) → g ≤ gap lane x
   most : (x number speed : ℕ) → at lane x ≡ Some (number, speed) → gap lane x ≤ g + 1
 
 module _ (answer : ℕ → ℕ) (old new : Lane) (m : LaneMoves answer old new) (fits : LaneFits answer old) where
-  -- the gap of a car, by where it came from
+  -- the gap of a car, by the cell that it came from
   record Came (y speed : ℕ) : Type 0 where
     x : ℕ
     number : ℕ
@@ -63,7 +63,7 @@ module _ (answer : ℕ → ℕ) (old new : Lane) (m : LaneMoves answer old new) 
         within = fits.gaps x number from.1.0 was;
       }
 
-  -- cars that all go as far keep their gaps
+  -- cars that all go equally far keep their gaps
   cruise_on : (s v low high : ℕ) → Cruise old s low high → ((x number speed : ℕ) → at old x ≡ Some (number, speed) → answer x ≡ v) → Cruise new v low high
   cruise_on s v low high cruise goes = record {
     speeds = λ y number speed there. let c = came y number speed there in c.at_speed ∙ goes c.x c.number c.before c.was;
@@ -85,7 +85,7 @@ module _ (answer : ℕ → ℕ) (old new : Lane) (m : LaneMoves answer old new) 
         omega (arith, own, other, is, within, bound);
   }
 
-  -- cars that all go as far as they can take over the gaps of the next ones
+  -- cars that all go as far as they can take over the gaps of the next cars
   queue_on : (g : ℕ) → Queue old g → ((x number speed : ℕ) → at old x ≡ Some (number, speed) → answer x ≡ gap old x) → Queue new g
   queue_on g queue goes = record {
     speeds = λ y number speed there.
@@ -110,7 +110,7 @@ module _ (answer : ℕ → ℕ) (old new : Lane) (m : LaneMoves answer old new) 
         omega (arith, own, other, is, bound);
   }
 
--- the speeds of cars with room for the limit, all together
+-- the sum of the speeds of cars with room for the limit
 by_room : (t limit g speed : ℕ) → speed ≡ min t limit → limit ≤ g → min (min (speed + 1) limit) g ≡ min (suc t) limit
 by_room t limit g speed same room = omega (arith, same, room)
 
@@ -132,14 +132,14 @@ free limit count cells = record {
       ∙ mul_comm count limit;
 }
 
--- the speeds of cars that start, and of cars that have no room to be faster
+-- the speeds of cars that start, and of cars without room to be faster
 starting : (t g limit room speed : ℕ) → speed ≡ t → t < g → g ≤ room → g + 1 ≤ limit → min (min (speed + 1) limit) room ≡ suc t
 starting t g limit room speed same below least fast = omega (arith, same, below, least, fast)
 
 queuing : (g limit room speed : ℕ) → g ≤ speed → room ≤ g + 1 → g + 1 ≤ limit → min (min (speed + 1) limit) room ≡ room
 queuing g limit room speed quick most fast = omega (arith, quick, most, fast)
 
--- a dense lane: all its cars start together, until they have no room to be faster
+-- a dense lane: all its cars start together, until they lack the room to be faster
 record Dense (t g : ℕ) (lane : Lane) : Type 0 where
   starts : t ≤ g → Cruise lane t g (g + 1)
   queues : g ≤ t → Queue lane g

@@ -1,4 +1,4 @@
--- Gaps of cars that are evenly spread on one lane: no two differ by more than one cell.
+-- Gaps of cars that are evenly spread on one lane: any two differ by at most one cell.
 use Rattle.std.proofs.Common.{◌≡◌, ℕ, ◌+◌, ◌-◌, ◌*◌, ◌/◌, ◌%◌, ◌<◌, ◌≤◌, Some, None, length, refl, sym, ◌∙◌, ap, subst, inl, inr, arith, add-mul, div-lt_iff_lt-mul, div-mul-le_self, div-one, le-div_iff_mul-le, mul-le-mul_left}
 use Rattle.std.proofs.Math.Nat.{add-mod_right, add-mul-div_left, div-le_self, lt-div-mul-add, mod-eq_of_lt, mod-one}
 use Rattle.std.proofs.lemmas.Bool.{cases_eq, cases_lt}
@@ -32,7 +32,7 @@ spread cells n u v some before =
     let fits : (p + q) * n ≤ v * cells = omega (arith, a, b, step) in
     (le-div_iff_mul-le {k = n} {x = p + q} {y = v * cells} some).1 fits
 
--- and the next one no further
+-- and the next car is no further away than this
 near : (cells n u : ℕ) → 0 < n → place cells n (u + 1) < place cells n u + cells / n + 2
 near cells n u some =
     let p = place cells n u in
@@ -42,7 +42,7 @@ near cells n u some =
     let fits : (u + 1) * cells < (p + q + 2) * n = omega (arith, a, b) in
     (div-lt_iff_lt-mul {k = n} {x = (u + 1) * cells} {y = p + q + 2} some).1 fits
 
--- a round further on
+-- a lap further on
 again : (cells n u : ℕ) → 0 < n → place cells n (u + n) ≡ place cells n u + cells
 again cells n u some = ap (λ k. k / n) (add-mul u n cells) ∙ add-mul-div_left (u * cells) cells some
 
@@ -66,7 +66,7 @@ module _ (cells n : ℕ) (lane : Lane) (even : IsEvenlySpacedLane 1 cells n 0 la
         stopped = (some_pair_parts number number speed 0 (sym here ∙ sym (ap (at lane) to) ∙ stands number is.numbered)).1;
       }
 
-  -- this far ahead of a car there is no other
+  -- up to this distance ahead of a car there is no other
   pub gap_low : (x number speed : ℕ) → at lane x ≡ Some (number, speed) → cells / n ≤ gap lane x + 1
   gap_low x number speed here =
       let i = number in
@@ -109,7 +109,7 @@ module _ (cells n : ℕ) (lane : Lane) (even : IsEvenlySpacedLane 1 cells n 0 la
                 omega (arith, a, b, e, round, own, least, most, quotient)
           ])
 
-  -- and the next one is not much further ahead
+  -- and the next car is not much further ahead
   pub gap_high : (x number speed : ℕ) → 1 ≤ cells / n → at lane x ≡ Some (number, speed) → gap lane x ≤ cells / n
   gap_high x number speed some_room here =
       let i = number in

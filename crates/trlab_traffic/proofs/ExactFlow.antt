@@ -37,7 +37,7 @@ moving_is ring braking long =
     ∙ sym (movers_total first ring braking long)
 
 module _ (t q : ℕ) where
-  -- how many cars move, over all sets of braking cars
+  -- the number of cars that move, over all sets of braking cars
   abbrev distances : Bool → Ring → ℕ
   distances first old = sets old (λ (braking : Ring). set_weight t q old braking * movers first old braking)
 
@@ -144,7 +144,7 @@ grouped G n m e sum =
     let turn : G k * clustered_rings m e k ≡ clustered_rings m e k * G k = omega arith in
     rings_times (suc n) (G k) (picked_ring m e k) ∙ ap (λ x. G k * x) (ring_count n m e k sum) ∙ turn)
 
--- of k clusters each may be the first
+-- each of k clusters may be the first
 two_splits : (n k : ℕ) → n * (splits n k + splits n (suc k)) ≡ n * choose n k
 two_splits zero k = omega arith
 two_splits (suc n) zero = refl

@@ -1,4 +1,4 @@
--- A road whose lanes are exchanged goes on as it did, on the other lane.
+-- A road whose lanes are exchanged continues as the original road, with the lanes exchanged.
 use Rattle.std.proofs.Common.{◌≡◌, ℕ, zero, suc, ◌<◌, Bool, false, cond, Option, Some, None, List, [], ◌∷◌, length, get_or, refl, sym, ◌∙◌, ap, subst, arith}
 use Rattle.std.specs.Prelude.{All, IfSome, MatchOption, nat_eq, sum_by}
 use Rattle.std.proofs.lemmas.List.Sums.{sum_by-append, sum_by-cons}
@@ -184,7 +184,7 @@ run_is_symmetric seed sheet (suc step) road sum unread both comes =
       record { under = on_step.under; next = step_is_symmetric rule (dice_at seed step) before road tally ignores two on_step.next; counted = on_step.counted },
     )
 
--- the rule of 1996, instruction by instruction
+-- the rule of Rickert et al. (1996), instruction by instruction
 abbrev NoneReads : List Instr → Type 0
 NoneReads [] = Unit {0}
 NoneReads (instr ∷ code) = (reads_lane instr ≡ false) × NoneReads code

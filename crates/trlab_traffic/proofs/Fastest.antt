@@ -1,4 +1,4 @@
--- Nobody is faster: two runs from one start, by the answers of their cars.
+-- No rule is faster: two runs from the same initial state, compared by the answers of their cars.
 use Rattle.std.proofs.Common.{◌≡◌, ℕ, zero, suc, ◌+◌, ◌≤◌, ◌⊎◌, Bool, true, false, min, refl, sym, ◌∙◌, ap, subst, inl, inr, arith, nat_eq, if◌then◌else◌}
 use Rattle.std.specs.Prelude.{List, slice_index}
 use Rattle.std.proofs.lemmas.Bool.{cases_lt}
@@ -37,7 +37,7 @@ pub always_so : (P : Programs → Type 0) (rule : Programs) → P rule → EachR
 always_so P rule so zero d below = so
 always_so P rule so (suc k) d below = absurd (omega (arith, below))
 
--- a car answers the speed of its rule
+-- the answer of a car is the speed of its rule
 pub answer_is : (speed : View → List ℕ → ℕ) (rule : Programs) (dice : Dice) (road : Cells) (car : Car) (v : ℕ) → ComputesSpeed speed rule.motion.program → IsLegal road → IsAt road car → AnswersSpeed rule.motion dice road car v
     → v ≡ speed (motion_view_of road car) (words_of dice car.number)
 answer_is speed rule dice road car v moves legal here answers =
@@ -45,7 +45,7 @@ answer_is speed rule dice road car v moves legal here answers =
     let words = words_of dice car.number in
     one_answer_each rule.motion dice road car v (speed view words) answers (moves view words (motion_view_is_view road car legal here))
 
--- with the chance 0 no car brakes at random
+-- with probability 0 no car brakes at random
 pub no_brake : (b : Bool) (v : ℕ) → b ≡ false → brake b v ≡ v
 no_brake true v none = absurd cc
 no_brake false v none = refl
@@ -79,14 +79,15 @@ nobody_beats_gap rule sheet seed step is stay legal =
     (λ va ga fa a vb gb fb b next next_b after ua ha c hb own others gap within ends before. gap_on seed.road.limit fa ga a fb gb b own ends before)
     step
 
--- nor than that of 1992 without randomization, where each car speeds up by one at most
+-- nor faster than the rule of 1992 without randomization, under which each car speeds up by at most one
 record UpAnswers (limit va ga a vb gb b : ℕ) : Type 0 where
   up : a ≤ va + 1
   within_limit : a ≤ limit
   within_gap : a ≤ ga
   safe : b ≡ min (min (vb + 1) limit) gb
 
--- a car that has gone no further is as slow as its partner, or the partner moves by its gap or the limit from now on
+-- a car that has gone no further is as slow as its partner, or the partner moves by its gap or the limit
+-- from now on
 record UpKeeps (limit va fa vb gb fb next : ℕ) : Type 0 where
   no_further : fa ≤ fb
   state : ((fa ≡ fb) × (va ≡ vb) × (fb ≡ 0)) ⊎ ((next ≤ gb) × ((va ≤ vb) ⊎ (min limit gb ≤ vb + 1)))
@@ -154,7 +155,7 @@ nobody_beats_nasch rule sheet seed step is up stay legal =
     (λ va ga fa a vb gb fb b next next_b after ua ha c hb own others gap within ends before. up_on seed.road.limit va ga fa a vb gb fb b next next_b after ua ha c hb own others gap ends before)
     step
 
--- the rules of 1992 and of 1998 speed cars up by one at most
+-- the rules of 1992 and of 1998 speed cars up by at most one
 brake_down : (b : Bool) (v : ℕ) → brake b v ≤ v
 brake_down true v = omega arith
 brake_down false v = omega arith
@@ -180,19 +181,19 @@ vdr_speeds_up_by_one p p0 rule is view words speed n seen ends =
     let up : safe_speed view.speed view.limit view.gap ≤ view.speed + 1 = (let k : min (min (view.speed + 1) view.limit) view.gap ≤ view.speed + 1 = omega arith in k) in
     omega (arith, same, most, up)
 
--- with the limit 1 a greater chance of braking slows whole runs
+-- with v_max = 1 a larger braking probability slows whole runs
 record BrakeAnswers (ga a gb b : ℕ) : Type 0 where
   one : a ≤ 1
   slower : ga ≤ gb → a ≤ b
 
--- a car that brakes by a smaller chance, or has more room, goes as far
+-- a car that brakes with a smaller probability, or has more room, goes at least as far
 pub brakes_more : (c d : Bool) (va ga vb gb : ℕ) → (d ≡ true → c ≡ true) → ga ≤ gb → brake c (min (min (va + 1) 1) ga) ≤ brake d (min (min (vb + 1) 1) gb)
 brakes_more true true va ga vb gb so room = omega (arith, room)
 brakes_more true false va ga vb gb so room = omega (arith, room)
 brakes_more false true va ga vb gb so room = let e = so refl in absurd cc
 brakes_more false false va ga vb gb so room = omega (arith, room)
 
--- a rule whose cars brake by a chance that is never smaller, for any speed
+-- a rule whose cars brake with a probability that is never smaller, for any speed
 braking_slows : (p : ℕ) (chance : ℕ → ℕ) (light heavy : Programs) (seed : Seed) (step : ℕ) → ((speed : ℕ) → p ≤ chance speed) → IsNasch p light
     → ComputesSpeed (λ view words. nasch_speed (chance view.speed) view words) heavy.motion.program → StaysInLane heavy → IsLegal seed.road → seed.road.limit ≡ 1
     → IsNoFaster seed (always heavy) (always light) step

@@ -1,4 +1,4 @@
--- How many cars are in a part of a lane: at most all its cars, and at least as many as remain if all its
+-- The number of cars in a part of a lane: at most all its cars, and at least as many as remain if all its
 -- empty cells are there.
 use Rattle.std.proofs.Common.{◌≡◌, ℕ, zero, suc, ◌+◌, ◌%◌, ◌≤◌, Bool, true, false, cond, length, refl, sym, ◌∙◌, ap, subst, inl, inr, arith}
 use Rattle.std.proofs.lemmas.Bool.{cases_lt}
@@ -68,7 +68,7 @@ few lane x k low =
     let whole = lane_taken_or_empty lane in
     record { most = omega (arith, a, here, all); least = omega (arith, b, here, all, whole) }
 
--- a lane keeps its cells and its cars where nobody changes lanes
+-- a lane keeps its cells and its cars if no car changes lanes
 pub record KeepsCars (start road : Cells) (l : ℕ) : Type 0 where
   pub size : length (lane_of road l) ≡ length (lane_of start l)
   pub count : lane_car_count (lane_of road l) ≡ lane_car_count (lane_of start l)

@@ -1,4 +1,4 @@
--- Free flow goes on for ever where no car brakes by chance.
+-- Free flow continues for ever if no car brakes at random.
 use Rattle.std.proofs.Common.{◌≡◌, ℕ, zero, suc, ◌+◌, ◌-◌, ◌*◌, ◌<◌, ◌≤◌, min, Some, None, List, [], ◌∷◌, length, get_or, refl, sym, ◌∙◌, ap, subst, inl, inr, arith, mul_comm, mul-suc, mul-zero}
 use Rattle.std.specs.Prelude.{All, nat_le, sum_by}
 use Rattle.std.proofs.lemmas.Bool.{cases_lt, le-leb, lt-leb}
@@ -35,11 +35,11 @@ use Rattle.trlab_traffic.proofs.Turning.{lane_turned, length-turned, same_road, 
 at_limit_safe : (limit gap : ℕ) → limit ≤ gap → min (min (limit + 1) limit) gap ≡ limit
 at_limit_safe limit gap h = omega (arith, h)
 
--- a lane all of whose cars have so much room, and go so far
+-- a lane on which every car has this much room, and goes this far
 module _ (v : ℕ) (answer : ℕ → ℕ) (old new : Lane) (m : LaneMoves answer old new)
     (goes : (x number speed : ℕ) → at old x ≡ Some (number, speed) → answer x ≡ v)
     (room : (x number speed : ℕ) → at old x ≡ Some (number, speed) → v ≤ gap old x) where
-  -- the cells ahead of a car are empty afterwards too
+  -- the cells ahead of a car are also empty afterwards
   clear_after : (x number before j y : ℕ) → at old x ≡ Some (number, before) → y ≡ ahead (length old) x v → 1 ≤ j → j ≤ v → at new (ahead (length new) y j) ≡ None
   clear_after x number before j y here reach some most = of_cell (at new (ahead (length new) y j)) refl
     where
@@ -59,7 +59,7 @@ module _ (v : ℕ) (answer : ℕ → ℕ) (old new : Lane) (m : LaneMoves answer
           let e = sym was ∙ ap (at old) same ∙ (clear_within_gap old x v (room x number before here)).clear j some most in
           absurd cc
 
-  -- so each has room again
+  -- so every car has room again
   room_after : (y number speed : ℕ) → at new y ≡ Some (number, speed) → v ≤ gap new y
   room_after y number speed there =
       let came = m.nothing_else y number speed there in
@@ -71,13 +71,13 @@ module _ (v : ℕ) (answer : ℕ → ℕ) (old new : Lane) (m : LaneMoves answer
       let size = m.same_length in
       clear_is_gap new y v (omega (arith, fits, short, size)) (record { clear = λ j some most. clear_after x number came.1.0 j y was reach some most })
 
-  -- and has gone so far
+  -- and has gone this far
   speed_after : (y number speed : ℕ) → at new y ≡ Some (number, speed) → speed ≡ v
   speed_after y number speed there =
       let came = m.nothing_else y number speed there in
       came.1.1.at_speed ∙ goes came.0 number came.1.0 came.1.1.was
 
-  -- and each cell this far ahead has the content of the cell, if all cars went as far
+  -- and each cell this far ahead has the content of the cell, if all cars went this far
   module _ (fast : (x number speed : ℕ) → at old x ≡ Some (number, speed) → speed ≡ v) where
     cell_ahead : (x : ℕ) → x < length old → at new (ahead (length old) x v) ≡ at old x
     cell_ahead x low = of_cells (at old x) refl (at new (ahead (length old) x v)) refl
@@ -211,7 +211,7 @@ none_more m most step warm before early =
 none_yet : (most warm : ℕ) → 0 ≡ (0 - warm) * most
 none_yet most warm = let e : 0 - warm ≡ 0 = omega arith in rw e (omega arith)
 
--- under a rule by which free flow goes on
+-- under a rule by which free flow continues
 pub run_freely : (rule : Programs) (seed : Seed) (step : ℕ) (road : Cells) (sum : StepTally)
     → ((dice : Dice) (old new : Cells) (tally : StepTally) → IsLegal old → IsInFreeFlow old → IsNext rule dice old new tally → FreeMotion old new)
     → IsLegal seed.road → IsInFreeFlow seed.road → ComesTo seed ((0, rule) ∷ []) step road sum → FreelyOn seed step road sum

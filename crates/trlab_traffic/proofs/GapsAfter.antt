@@ -17,14 +17,14 @@ use Rattle.trlab_traffic.proofs.AnyRule.{answers_fit}
 use Rattle.trlab_traffic.proofs.NaschMoves.{motion_alone}
 use Rattle.trlab_traffic.proofs.Places.{ahead_more, ahead_once, clear_is_gap, gap_below}
 
--- two ways from one place that end at one place are as long
+-- two paths from the same place to the same place are equally long
 pub same_way : (n x i j : ℕ) → i < n → j < n → ahead n x i ≡ ahead n x j → i ≡ j
 same_way n x i j low high same =
     let a : x + i ≡ i + x = omega arith in
     let b : x + j ≡ j + x = omega arith in
     ahead_once n i j x low high (sym (ap (λ k. k % n) a) ∙ same ∙ ap (λ k. k % n) b)
 
--- a whole round
+-- a whole lap
 round : (n x : ℕ) → x < n → ahead n x n ≡ x
 round n x low = add-mod_right x n ∙ mod-eq_of_lt low
 
@@ -58,7 +58,7 @@ next_taken lane x car here = of_cell (at lane (next_place lane x)) refl
     of_cell (Some next) is = (next, is)
 
 module _ (answer : ℕ → ℕ) (old new : Lane) (m : LaneMoves answer old new) (fits : LaneFits answer old) where
-  -- the answers, but for one car, which goes k cells
+  -- the answers, except that one car goes k cells
   abbrev but : ℕ → ℕ → ℕ → ℕ
   but q k x = cond (eqb x q) k (answer x)
 
@@ -71,7 +71,7 @@ module _ (answer : ℕ → ℕ) (old new : Lane) (m : LaneMoves answer old new) 
         ];
   }
 
-  -- where a car could go over empty cells comes no other
+  -- no other car comes to a cell that a car could reach over empty cells
   nobody_else : (q k z : ℕ) (car other : ℕ × ℕ) → at old q ≡ Some car → k ≤ gap old q → at old z ≡ Some other → ahead (length old) z (answer z) ≡ ahead (length old) q k → z ≡ q
   nobody_else q k z car other here room there meet =
       elim (cases_eq z q) [
@@ -99,7 +99,7 @@ module _ (answer : ℕ → ℕ) (old new : Lane) (m : LaneMoves answer old new) 
           let reach : ahead (length old) q (answer q) ≡ ahead (length old) q k = sym (came.1.1.reaches ∙ ap (λ i. ahead (length old) i (answer i)) same) in
           absurd (differs (same_way (length old) q (answer q) k (omega (arith, own, short)) (omega (arith, room, short)) reach))
 
-  -- the gap of a car grows by the next car's distance, and falls by its own
+  -- the gap of a car increases by the next car's distance, and decreases by its own
   pub gap_after : (x number speed : ℕ) → at old x ≡ Some (number, speed) → gap new (ahead (length old) x (answer x)) ≡ gap old x - answer x + answer (next_place old x)
   gap_after x number speed here =
       let n = length old in

@@ -1,5 +1,5 @@
--- There is room between the passages of a detector: in v + 1 steps in a row, where v is the limit, not every
--- step has one.
+-- Passages of a detector are apart: in v + 1 consecutive steps, where v is v_max, not every step has a
+-- passage.
 use Rattle.std.proofs.Common.{◌≡◌, ℕ, zero, suc, ◌+◌, ◌-◌, ◌<◌, ◌≤◌, true, cond, is_some, Some, None, length, refl, sym, ◌∙◌, ap, subst, inl, inr, arith, Bool}
 use Rattle.std.specs.Prelude.{count_by, nat_le}
 use Rattle.std.proofs.lemmas.Bool.{cases_lt, le-leb, lt-leb}
@@ -27,7 +27,7 @@ use Rattle.trlab_traffic.proofs.OnePassage.{detector_counts_one}
 use Rattle.trlab_traffic.proofs.Places.{ahead_below, ahead_more, ahead_none}
 use Rattle.trlab_traffic.proofs.Sums.{below, below_cases, below_is, cell_sum, in_cell, total, weight}
 
--- a sum that is not 0 has a value that is not
+-- a nonzero sum has a nonzero term
 some_value : (w : ℕ → ℕ) (n : ℕ) → 1 ≤ total w n → (y : ℕ) × ((y < n) × (1 ≤ w y))
 some_value w zero some = absurd (omega (arith, some))
 some_value w (suc n) some =
@@ -81,7 +81,7 @@ module _ (answer : ℕ → ℕ) (old new : Lane) (m : LaneMoves answer old new) 
       let place : ahead n x 1 ≡ ahead n p.from (w + 1) = ap (λ k. ahead n k 1) (sym (way_reaches n p.from x inside_ring low)) ∙ ahead_more n p.from w 1 in
       ap (at old) place ∙ clear
 
-  -- a car that passes a detector is within the limit ahead of it
+  -- a car that passes a detector is ahead of it by at most the limit
   record Ends (limit x : ℕ) : Type 0 where
     on : ℕ
     some : 1 ≤ on
@@ -168,7 +168,7 @@ module _ (seed : Seed) (sheet : Sheet) (legal : IsLegal seed.road) (nobody : Eac
       let size = s.size in
       none_ahead (lane_of s.old l) x (was_free s.answer (lane_of s.old l) (lane_of road l) s.moves s.fits x (omega (arith, low, size)) some)
 
-  -- where a detector has passages in two steps, the next one has one in the first of them
+  -- if a detector has passages in two consecutive steps, the next one has a passage in the first of them
   next_passed : (t x : ℕ) → x < n → Passed t x → Passed (suc t) x → Passed t (ahead n x 1)
   next_passed t x low first second =
       let s = lane_step (suc t) second.0 second.1.0 in
@@ -199,7 +199,7 @@ module _ (seed : Seed) (sheet : Sheet) (legal : IsLegal seed.road) (nobody : Eac
       let stands = one_ahead lane y in
       omega (arith, one, same, stands)
 
-  -- a car passes at most as many detectors in a row as the limit
+  -- a car passes at most as many consecutive detectors as the limit
   not_all : (t x : ℕ) → x < n → ((j : ℕ) → j ≤ seed.road.limit → Passed t (ahead n x j)) → ⊥
   not_all t x low each =
       let first = each 0 (omega arith) in
@@ -225,7 +225,7 @@ module _ (seed : Seed) (sheet : Sheet) (legal : IsLegal seed.road) (nobody : Eac
       let stands = stands_ahead (lane_of road l) n (length (lane_of s.old l)) x i (ahead n x (i - 1)) new_size (sym s.size) step e.taken in
       omega (arith, one, free, all, there, stands)
 
-  -- a count is no more than the steps, and where it is as many each has a passage
+  -- a count is at most the number of steps, and if it equals this number, each step has a passage
   record Each (x step count : ℕ) : Type 0 where
     few : count ≤ step - seed.warm
     each : count ≡ step - seed.warm → (t : ℕ) → seed.warm ≤ t → t < step → Passed t x

@@ -1,6 +1,7 @@
--- Heights: the number of cars before a place, as seen by an observer who goes ahead one cell per step, plus
--- the number of steps. If cars go up to s cells per step, a height becomes itself plus one or the height s
--- cells ahead, whichever is larger. So after some steps it is the largest over the places that could reach it.
+-- Heights: the number of cars before a place, for an observer who moves ahead one cell per step, plus the
+-- number of steps. If cars go up to s cells per step, a height becomes itself plus one or the height s
+-- cells ahead, whichever is larger. So after some steps it is the largest over the places that could reach
+-- it.
 use Rattle.std.proofs.Common.{◌≡◌, ℕ, zero, suc, ◌+◌, ◌-◌, ◌*◌, ◌<◌, ◌≤◌, max, refl, sym, ◌∙◌, ap, subst, inl, inr, arith, mul-add, mul-suc, mul-zero, suc-mul}
 use Rattle.std.proofs.lemmas.Bool.{cases_lt}
 use Rattle.trlab_traffic.proofs.Sums.{total, total_last, total_same}
@@ -10,7 +11,7 @@ abbrev pub height : (ℕ → ℕ) → ℕ → ℕ → ℕ → ℕ
 height w s zero x = total w x
 height w s (suc t) x = max (height w s t x + 1) (height w s t (x + s))
 
--- a height is no less than any that could reach it
+-- a height is at least each one that could reach it
 pub no_less : (w : ℕ → ℕ) (s t x j : ℕ) → j ≤ t → total w (x + s * j) + (t - j) ≤ height w s t x
 no_less w s zero x j low =
     let none : j ≡ 0 = omega (arith, low) in
@@ -27,7 +28,7 @@ no_less w s (suc t) x (suc i) low =
     let e : x + s * suc i ≡ x + s + s * i = omega (arith, more) in
     rw e (omega (arith, rest))
 
--- and is one of them
+-- and equals one of them
 pub record Reaches (w : ℕ → ℕ) (s t x j : ℕ) : Type 0 where
   pub low : j ≤ t
   pub is : height w s t x ≡ total w (x + s * j) + (t - j)
@@ -54,7 +55,7 @@ reached w s (suc t) x =
           (suc j, record { low = omega (arith, low); is = (let k : max (height w s t x + 1) (height w s t (x + s)) ≡ total w (x + s * suc j) + (suc t - suc j) = omega (arith, more, low, is) in k) })
     ]
 
--- sums of values that come again each round
+-- sums of values that repeat in each lap
 module _ (w : ℕ → ℕ) (n : ℕ) (again : (x : ℕ) → w (x + n) ≡ w x) where
   one_round : (x : ℕ) → total w (x + n) ≡ total w x + total w n
   one_round zero = let e : 0 + n ≡ n = omega arith in ap (total w) e ∙ (let k : total w n ≡ 0 + total w n = omega arith in k)
@@ -66,7 +67,7 @@ module _ (w : ℕ → ℕ) (n : ℕ) (again : (x : ℕ) → w (x + n) ≡ w x) w
       let same = again x in
       ap (total w) e ∙ (let k : total w (suc (x + n)) ≡ total w (suc x) + total w n = omega (arith, a, b, rest, same) in k)
 
-  -- as many cells as a round has no more than the cars of a round, and no less than all but the empty cells
+  -- as many cells as a lap has hold at most the cars of a lap, and at least all but the empty cells
   grows : (a d : ℕ) → total w a ≤ total w (a + d)
   grows a zero = let e : a + 0 ≡ a = omega arith in let f = ap (total w) e in omega (arith, f)
   grows a (suc d) =
@@ -92,8 +93,8 @@ module _ (w : ℕ → ℕ) (n : ℕ) (again : (x : ℕ) → w (x + n) ≡ w x) w
       let all = one_round x in
       omega (arith, more, f, all)
 
-  -- if there is room for this number of cells per car, heights rise by no more than one over these cells, once each car
-  -- had a step
+  -- if there is room for this number of cells per car, heights rise by at most one over these cells, once
+  -- each car had a step
   pub rises_slowly : (s t x : ℕ) → s * total w n ≤ n → total w n ≤ t + 1 → 1 ≤ total w n → height w s t (x + s) ≤ height w s t x + 1
   rises_slowly s t x few round some =
       let from = reached w s t (x + s) in
@@ -120,7 +121,7 @@ module _ (w : ℕ → ℕ) (n : ℕ) (again : (x : ℕ) → w (x + n) ≡ w x) w
             omega (arith, is, f, short, least, last, low, round, some)
       ]
 
-  -- and where there is no more room, by no less than one, once a car at v could have gone over all empty cells
+  -- and if there is no more room, by at least one, once a car at v could have gone over all empty cells
   module _ (one : (x : ℕ) → w x ≤ 1) where
     slow : (a d : ℕ) → total w (a + d) ≤ total w a + d
     slow a zero = let e : a + 0 ≡ a = omega arith in let f = ap (total w) e in omega (arith, f)
@@ -132,7 +133,7 @@ module _ (w : ℕ → ℕ) (n : ℕ) (again : (x : ℕ) → w (x + n) ≡ w x) w
         let most = one (a + d) in
         omega (arith, f, last, rest, most)
 
-    -- this number of cells for each of some cars holds as many cars
+    -- this number of cells for each of some cars holds at least as many cars
     enough : (v q x : ℕ) → q ≤ total w n → n ≤ total w n + v * q → total w x + q ≤ total w (x + suc v * q)
     enough v q x low soon =
         elim (cases_lt (suc v * q) n) [
@@ -147,7 +148,7 @@ module _ (w : ℕ → ℕ) (n : ℕ) (again : (x : ℕ) → w (x + n) ≡ w x) w
           | inr long ↦ let all = whole_round x (suc v * q) long in omega (arith, all, low)
         ]
 
-    -- the first cars of a round, or all of them
+    -- the first cars of a lap, or all of them
     all_or_first : (v t x : ℕ) → n ≤ suc v * total w n → n ≤ total w n + v * (t + 1) → 0 < n → (i : ℕ) × ((i ≤ t) × (total w x + suc i ≤ total w (x + suc v * suc i)))
     all_or_first v t x many soon some =
         let none = mul-zero (suc v) in

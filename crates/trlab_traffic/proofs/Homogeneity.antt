@@ -1,4 +1,4 @@
--- The ring is homogeneous: a rotated road goes on as the road itself does.
+-- The ring is homogeneous: a rotated road continues as the road itself does.
 use Rattle.std.proofs.Common.{◌≡◌, ℕ, zero, suc, ◌+◌, ◌<◌, Bool, cond, Option, Some, None, List, length, map, refl, sym, ◌∙◌, ap, subst, arith}
 use Rattle.std.specs.Prelude.{nat_eq}
 use Rattle.std.proofs.lemmas.List.{length-map}
@@ -52,7 +52,7 @@ module _ (r : ℕ) (road : Cells) (car : Car) (here : IsAt (rotate_road r road) 
   pub stood : IsAt road (car_before r road car)
   stood = sym (turned_at r (lane_of road car.lane) car.place place_low) ∙ on_own
 
-  -- and sees the same
+  -- and has the same view
   pub motion_view_turned : motion_view_of (rotate_road r road) car ≡ motion_view_of road (car_before r road car)
   motion_view_turned =
       let own = lane_of road car.lane in
@@ -85,7 +85,7 @@ module _ (r : ℕ) (road : Cells) (car : Car) (here : IsAt (rotate_road r road) 
       (ap (λ (lane : Lane). sideback lane x) turn_other ∙ sideback_turned r other x some_other low ∙ ap (sideback other) same)
       (ap (λ (lane : Lane). headspeed lane x) turn ∙ headspeed_turned r own x some)
 
--- the answers of the motion program on the rotated road
+-- the speeds of the motion program on the rotated road
 speeds_turned : (r : ℕ) (motion : CheckedProgram) (dice : Dice) (road : Cells) (speeds : ℕ → ℕ → ℕ) → AnswersSpeeds motion dice road speeds
     → AnswersSpeeds motion dice (rotate_road r road) (λ l x. speeds l (place_before r road l x))
 speeds_turned r motion dice road speeds answers = record {
@@ -113,7 +113,7 @@ pub motion_turned : (r : ℕ) (motion : CheckedProgram) (dice : Dice) (road next
 motion_turned r motion dice road next phase =
     (λ l x. phase.0 l (place_before r road l x), speeds_turned r motion dice road phase.0 phase.1, moves_turned r phase.0 road next phase.2)
 
--- the two lanes of a legal road have as many cells
+-- the two lanes of a legal road have the same number of cells
 beside_equal : (road : Cells) (l : ℕ) → IsLegal road → length road.lanes ≡ 2 → l < length road.lanes → length (lane_of road (other_lane l)) ≡ length (lane_of road l)
 beside_equal road l legal two on = legal.shape.equal (other_lane l) (omega (arith, two)) ∙ sym (legal.shape.equal l on)
 

@@ -1,4 +1,4 @@
--- A program that does not read on which lane its car is ends the same on both.
+-- A program that does not read the lane of its car ends the same on both lanes.
 use Rattle.std.proofs.Common.{◌≡◌, ◌&&◌, ◌||◌, ℕ, zero, suc, ◌+◌, ◌*◌, ◌/◌, not, min, max, Bool, true, false, cond, Option, Some, None, List, refl, sym, ◌∙◌, ap, subst}
 use Rattle.std.specs.Prelude.{All, nat_eq, nat_le, nat_lt, slice_get}
 use Rattle.std.proofs.lemmas.Option.{get_or_from_slice_get, slice_get_within}
@@ -124,7 +124,7 @@ module _ (kind : Kind) (view : View) (words : List ℕ) (lane : ℕ) where
     same_end Stuck (At q t) answer n same ends = absurd same
     same_end Stuck (Done b) answer n same ends = absurd same
 
--- so a program ends the same whichever lane its car is on
+-- so a program ends the same on either lane
 pub lane_is_not_read : (kind : Kind) (code : List Instr) (view : View) (words : List ℕ) (lane : ℕ) (answer : Answer) (n : ℕ) → All (λ instr. reads_lane instr ≡ false) code
     → EndsWith kind code view words answer n → EndsWith kind code (record view { lane = lane }) words answer n
 unfolding SameState

@@ -1,4 +1,4 @@
--- Where nobody changes lanes, a lane depends only on its own cars.
+-- If no car changes lanes, a lane depends only on its own cars.
 use Rattle.std.proofs.Common.{◌≡◌, ℕ, zero, suc, Some, [], length, refl, sym, ◌∙◌, ap, subst, inl, inr, arith}
 use Rattle.std.proofs.lemmas.Bool.{cases_lt}
 use Rattle.std.proofs.lemmas.List.{get_or_past}
@@ -22,7 +22,7 @@ use Rattle.trlab_traffic.specs.Apart.{RunKeepsLanesApart, ShareLane, StepKeepsLa
 use Rattle.trlab_traffic.specs.Runs.{StaysInLane}
 use Rattle.trlab_traffic.proofs.NaschMoves.{motion_alone}
 
--- the motion of a lane knows a function of answers by its values at cars alone
+-- the motion of a lane depends on the answers only at cars
 pub lane_moves_by : (answer other : ℕ → ℕ) (old new : Lane) → ((x number speed : ℕ) → at old x ≡ Some (number, speed) → answer x ≡ other x) → LaneMoves answer old new → LaneMoves other old new
 lane_moves_by answer other old new same m = record {
   same_length = m.same_length;
@@ -36,7 +36,7 @@ lane_moves_by answer other old new same m = record {
 no_cells : (answer : ℕ → ℕ) → LaneMoves answer [] []
 no_cells answer = record { same_length = refl; arrives = λ x number speed here. absurd cc; nothing_else = λ y number speed there. absurd cc }
 
--- each lane moves, also one that the road does not have
+-- each lane moves, even a lane that the road does not have
 pub any_lane : (answer : ℕ → ℕ → ℕ) (old new : Cells) (l : ℕ) → Moves answer old new → LaneMoves (answer l) (lane_of old l) (lane_of new l)
 any_lane answer old new l m =
     elim (cases_lt l (length old.lanes)) [

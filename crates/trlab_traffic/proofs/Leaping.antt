@@ -1,4 +1,5 @@
--- A lane whose cars move at the limit or by their gaps, whichever is less: its cars are the slope of heights.
+-- A lane whose cars move at the limit or by their gaps, whichever is smaller: its cars are the slope of
+-- heights.
 use Rattle.std.proofs.Common.{◌≡◌, ◌≢◌, ℕ, zero, suc, ◌+◌, ◌-◌, ◌*◌, ◌%◌, ◌<◌, ◌≤◌, min, max, Bool, true, false, is_some, Some, None, length, refl, sym, ◌∙◌, ap, subst, inl, inr, arith, mod-eq_of_lt, mul-suc}
 use Rattle.std.proofs.Math.Nat.{add-mod_right, add-mul-mod_self_right, mod-add-mod, mod-lt}
 use Rattle.std.proofs.lemmas.Bool.{cases_lt}
@@ -76,7 +77,7 @@ module _ (limit : ℕ) (answer : ℕ → ℕ) (old new : Lane) (some_limit : 1 �
     slid : window d (suc p) limit + d p ≡ window d p limit + d (p + limit)
     slid = window_slides d p limit
 
-    -- where the place was taken
+    -- the place was taken
     was_taken : (car : ℕ × ℕ) (c : Cell) → 0 < length old → at old y ≡ Some car → at old (ahead (length old) y 1) ≡ c → Balance 1 (digit (is_some c)) (digit (is_taken new y))
     was_taken car None some here free =
         let ahead_free = gap_some old y car here free in
@@ -95,7 +96,7 @@ module _ (limit : ℕ) (answer : ℕ → ℕ) (old new : Lane) (some_limit : 1 �
         let taken = taken_by y 0 y car here (omega (arith, far, none)) (ahead_none (length old) y (inside old y car here)) in
         omega (arith, taken)
 
-    -- where it was empty and no car was near enough
+    -- the place was empty, and no car was near enough
     none_near : 0 < length old → at old y ≡ None → window d p limit ≡ 0 → digit (is_taken new y) ≡ 0
     none_near some free none = of_cell (at new y) refl
       where
@@ -125,7 +126,7 @@ module _ (limit : ℕ) (answer : ℕ → ℕ) (old new : Lane) (some_limit : 1 �
                   absurd cc
             ]
 
-    -- where it was empty, and the last car of those cells is near enough
+    -- the place was empty, and the last car of those cells is near enough
     was_empty : (i : ℕ) (c : Cell) → 0 < length old → at old y ≡ None → at old (ahead (length old) y 1) ≡ c → i < limit → 1 ≤ d (p + i) → ((j : ℕ) → i < j → j < limit → d (p + j) ≡ 0) → Balance 0 (digit (is_some c)) (digit (is_taken new y))
     was_empty i c some free there low near clear_behind =
         let n = length old in
@@ -287,7 +288,7 @@ module _ (limit : ℕ) (first lane : Lane) (t y : ℕ) (l : Leaps limit first la
       ap (digit_at lane) f ∙ ap (λ k. digit (is_taken lane k)) (add-mul-mod_self_right (y + i) q n)) in
       slopes limit first lane t seen_from (suc limit) l ∙ ap (λ k. height (digit_at first) (suc limit) t seen_from + k) same
 
-  -- where there is room for the limit behind each car, no two cars are nearer, once each car had a step
+  -- if there is room for the limit behind each car, no two cars are nearer, once each car had a step
   pub few_near : suc limit * lane_car_count first ≤ length first → lane_car_count first ≤ t + 1 → 1 ≤ lane_car_count first → window (digit_at lane) y (suc limit) ≤ 1
   few_near few round cars =
       let count = digits_total first in
@@ -296,7 +297,8 @@ module _ (limit : ℕ) (first lane : Lane) (t y : ℕ) (l : Leaps limit first la
       let here = cells_from in
       omega (arith, slowly, here)
 
-  -- and where there is no more room, none are further apart, once a car at the limit could have gone over all empty cells
+  -- and if there is no more room, no cars are further apart, once a car at the limit could have gone over
+  -- all empty cells
   pub some_near : length first ≤ suc limit * lane_car_count first → length first ≤ lane_car_count first + limit * (t + 1) → 1 ≤ window (digit_at lane) y (suc limit)
   some_near many soon =
       let size = l.same_length in

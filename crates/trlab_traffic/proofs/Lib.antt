@@ -42,10 +42,10 @@ pub mod LightCone
 pub mod Certainties
 pub mod Pigeonhole
 pub mod Periods
--- rules that go as others
+-- rules that act like others
 pub mod Reductions
 pub mod Wolfram
--- the stationary state with the limit 1
+-- the stationary state with v_max = 1
 pub mod RingSums
 pub mod Chains
 pub mod RingSteps

@@ -1,4 +1,4 @@
--- A cell after a step: the car that comes to it has seen no cells but those up to two cells ahead of it.
+-- A cell after a step: the car that comes to it has seen only the cells up to two cells ahead of it.
 use Rattle.std.proofs.Common.{◌≡◌, ◌⊎◌, ℕ, zero, suc, ◌+◌, ◌-◌, ◌*◌, ◌<◌, ◌≤◌, Bool, true, false, is_some, Some, None, length, refl, sym, ◌∙◌, ap, subst, inl, inr, arith}
 use Rattle.std.specs.Prelude.{slice_index}
 use Rattle.std.proofs.lemmas.Bool.{cases_lt}
@@ -28,7 +28,7 @@ use Rattle.trlab_traffic.proofs.LanesApart.{any_lane}
 use Rattle.trlab_traffic.proofs.NaschMoves.{answered, motion_alone}
 use Rattle.trlab_traffic.proofs.Places.{ahead_below, ahead_more, ahead_none, ahead_once, clear_is_gap, gap_below}
 
--- two gaps over m cells that are the same: they are the same, or both at least m
+-- two gaps over m equal cells: they are equal, or both at least m
 gap_seen : (lane other : Lane) (x m : ℕ) (car : ℕ × ℕ) → length other ≡ length lane → at lane x ≡ Some car
     → ((j : ℕ) → j ≤ m → at other (ahead (length lane) x j) ≡ at lane (ahead (length lane) x j)) → (gap other x ≡ gap lane x) ⊎ ((m ≤ gap lane x) × (m ≤ gap other x))
 gap_seen lane other x m car size here same =
@@ -49,7 +49,7 @@ gap_seen lane other x m car size here same =
           inr (goes_on, clear_is_gap other x m (omega (arith, goes_on, short, size)) (record { clear = clear }))
     ]
 
--- a car that has moved s cells with a gap of at least s + 2 does so with each such gap
+-- a car that has moved s cells with a gap of at least s + 2 does so with every such gap
 same_speed : (c : Bool) (u limit g h s : ℕ) → s ≡ brake c (safe_speed u limit g) → s + 2 ≤ g → s + 2 ≤ h → brake c (safe_speed u limit h) ≡ s
 same_speed true u limit g h s is far other = omega (arith, is, far, other)
 same_speed false u limit g h s is far other = omega (arith, is, far, other)

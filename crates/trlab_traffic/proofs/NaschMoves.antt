@@ -23,11 +23,11 @@ use Rattle.trlab_step.proofs.AnswersExist.{motion_view_is_view}
 use Rattle.trlab_step.proofs.PartLaws.{one_answer_each}
 use Rattle.trlab_traffic.proofs.AnyRule.{answers_fit}
 
--- a chance of 0 never happens
+-- an event of probability 0 never happens
 pub never : (word : ℕ) → happens_on 0 word ≡ false
 never word = le-ltb (word / 2) 0 (omega arith)
 
--- a step under a rule without a change program is a motion from the road itself
+-- a step under a rule without a change program is a motion of the road itself
 pub motion_alone : (rule : Programs) (dice : Dice) (old new : Cells) (tally : StepTally) → rule.change ≡ None → IsNext rule dice old new tally → IsMotionPhase rule.motion dice old new
 motion_alone rule dice old new tally none is =
     let P : Option CheckedProgram → Type 0 = λ change. IsLaneChangePhase change dice old is.0 tally.changes in

@@ -1,4 +1,5 @@
--- The minimum principle: how far each car has gone is the smallest of the bounds that the cars ahead of it set.
+-- The minimum principle: the distance of each car is the smallest of the bounds that the cars ahead of it
+-- set.
 use Rattle.std.proofs.Common.{◌≡◌, ℕ, zero, suc, ◌+◌, ◌-◌, ◌*◌, ◌<◌, ◌≤◌, min, Some, length, refl, sym, ◌∙◌, ap, subst, inl, inr, arith, mul-suc, mul-zero}
 use Rattle.std.specs.Prelude.{slice_index}
 use Rattle.std.proofs.lemmas.Bool.{cases_lt}
@@ -32,7 +33,7 @@ use Rattle.trlab_traffic.proofs.NaschMoves.{motion_alone, never}
 use Rattle.trlab_traffic.proofs.Numbering.{choose, sum_of_standing}
 use Rattle.trlab_traffic.proofs.Readiness.{cells_suffice, lane_of_run}
 
--- the smallest of some numbers is no greater than any of them
+-- the minimum of some numbers is at most each of them
 pub smallest_least : (f : ℕ → ℕ) (n j : ℕ) → j ≤ n → smallest_to n f ≤ f j
 smallest_least f zero j low = let none : 0 ≡ j = omega (arith, low) in let e = ap f none in omega (arith, e)
 smallest_least f (suc n) j low =
@@ -41,7 +42,7 @@ smallest_least f (suc n) j low =
       | inr before ↦ let rest = smallest_least f n j before in omega (arith, rest)
     ]
 
--- and one of them
+-- and equals one of them
 record Attains (f : ℕ → ℕ) (n j : ℕ) : Type 0 where
   low : j ≤ n
   is : smallest_to n f ≡ f j
@@ -65,7 +66,7 @@ later_bound v t j low =
     let more = mul-suc v (t - j) in
     ap (λ k. v * k) e ∙ (let k : v * suc (t - j) ≡ v * (t - j) + v = omega (arith, more) in k)
 
--- a car goes as far as it can at the limit, or up to where the next car was
+-- a car goes as far as it can at the limit, or up to the next car's former cell
 pub newell_on : (limit : ℕ) (lane : Lane) (x t : ℕ) → newell_distance limit lane x (suc t) ≡ min (newell_distance limit lane x t + limit) (gap lane x + newell_distance limit lane (next_place lane x) t)
 newell_on limit lane x t =
     let p = next_place lane x in
@@ -110,8 +111,8 @@ newell_none limit lane x =
     let e = ap (λ k. limit * k) none ∙ mul-zero limit in
     omega (arith, e)
 
--- the cars of a run from some step on: none has gone further, and where cars take the limit or their gaps none has gone
--- less far
+-- the cars of a run from some step on: no car has gone further, and if cars move by the limit or their
+-- gaps, none has gone less far
 module _ (seed : Seed) (legal : IsLegal seed.road) (start : Start seed.road) (sheet : Sheet) (stays : EachRule StaysInLane sheet)
     (begin : ℕ) (first : Cells) (first_is : IsRoadAt seed sheet begin first) (car : ℕ → Car) (far : ℕ → ℕ)
     (course : Course seed sheet start.next (λ i. gap_of seed.road (start.car i)) begin first car far) (Quick : Type 0)
@@ -215,7 +216,7 @@ cars_at seed legal start sheet stays step road is =
     (λ none. absurd none) step road (subst (λ j. IsRoadAt seed sheet j road) (sym e) is) in
     record { car = a.now; far = a.gone; course = subst (λ j. Course seed sheet start.next (λ i. gap_of seed.road (start.car i)) j road a.now a.gone) e a.on_course }
 
--- how far a car goes in k steps from some step on
+-- the distance of a car in k steps from some step on
 module _ (seed : Seed) (legal : IsLegal seed.road) (sheet : Sheet) (stays : EachRule StaysInLane sheet) (begin : ℕ) (Quick : Type 0)
     (quick : Quick → (step : ℕ) (road : Cells) (rule : Programs) (c : Car) (v : ℕ) → begin ≤ step → IsRoadAt seed sheet step road → in_force sheet step ≡ Some rule
     → IsLegalLike seed.road road → IsAt road c → AnswersSpeed rule.motion (dice_at seed step) road c v → min seed.road.limit (gap_of road c) ≤ v) where
@@ -272,7 +273,7 @@ pub nobody_beats_minimum : NobodyBeatsMinimumPrinciple
 nobody_beats_minimum sheet seed step car far stays legal here gone =
     (from_start seed legal sheet stays ⊥ (λ none. absurd none) step car far here gone).most
 
--- a car under a rule that answers the limit or the gap
+-- a car under a rule that allows the limit or the gap
 gap_answers : (rule : Programs) (seed : Seed) → ReachesSpeedAtOnce rule → (step : ℕ) (road : Cells) (other : Programs) (c : Car) (v : ℕ) → in_force (always rule) step ≡ Some other
     → IsLegalLike seed.road road → IsAt road c → AnswersSpeed other.motion (dice_at seed step) road c v → min seed.road.limit (gap_of road c) ≤ v
 gap_answers rule seed is t road other c v under like there answers =

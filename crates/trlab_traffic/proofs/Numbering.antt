@@ -11,7 +11,7 @@ use Rattle.trlab_road.proofs.Numbers.{all_present, no_one}
 use Rattle.trlab_road.proofs.StandingOrder.{car_of, length-standing_from_lane, rank_below_cars, standing_cell, standing_rank}
 use Rattle.trlab_traffic.proofs.Sums.{total, total_last}
 
--- a list without the car of an index
+-- a list without the car at an index
 cut : ℕ → List Car → List Car
 cut k [] = []
 cut zero (x ∷ xs) = xs
@@ -56,7 +56,7 @@ record Has (xs : List Car) (i : ℕ) (d : Car) : Type 0 where
   low : index < length xs
   numbered : (get_or xs index d).number ≡ i
 
--- where n cars have the first n numbers, a sum over them is one over the numbers
+-- if n cars have the first n numbers, a sum over the cars is a sum over these numbers
 by_numbers : (f : ℕ → ℕ) (n : ℕ) (xs : List Car) (d : Car) → length xs ≡ n → ((i : ℕ) → i < n → Has xs i d) → sum_by (λ (car : Car). f car.number) xs ≡ total f n
 by_numbers f zero [] d size has = refl
 by_numbers f zero (x ∷ xs) d size has = absurd (omega (arith, size))
@@ -74,7 +74,7 @@ by_numbers f (suc n) xs d size has =
     let end = total_last f n in
     omega (arith, rest, split, first, end)
 
--- a sum over the cars of a legal road is one over their numbers
+-- a sum over the cars of a legal road is a sum over their numbers
 numbers_total : (f : ℕ → ℕ) (road : Cells) → IsLegal road → sum_by (λ (car : Car). f car.number) (standing road) ≡ total f (cars road)
 unfolding car_of
 numbers_total f road legal =
@@ -105,7 +105,7 @@ choose R n each = record { value = λ i. (one i).0; is = λ i low. (one i).1 low
           | inr past ↦ (0, λ h. absurd (omega (arith, h, past)))
         ]
 
--- sums of values that are no greater
+-- sums of values that are not larger
 pub total_le : (f g : ℕ → ℕ) (n : ℕ) → ((i : ℕ) → i < n → f i ≤ g i) → total f n ≤ total g n
 total_le f g zero each = omega arith
 total_le f g (suc n) each =

@@ -1,4 +1,4 @@
--- A detector counts one car in a step at most.
+-- A detector counts at most one car per step.
 use Rattle.std.proofs.Common.{◌≡◌, ℕ, ◌+◌, ◌-◌, ◌<◌, ◌≤◌, ◌⊎◌, cond, Some, None, length, refl, sym, ◌∙◌, ap, subst, inl, inr, arith}
 use Rattle.std.specs.Prelude.{count_by}
 use Rattle.std.proofs.lemmas.Bool.{cases_lt}
@@ -16,7 +16,7 @@ use Rattle.trlab_traffic.proofs.Places.{ahead_below, ahead_more, ahead_once}
 use Rattle.trlab_traffic.proofs.Sums.{below_cases, below_is, cell_sum, in_cell, single, total, weight}
 
 module _ (answer : ℕ → ℕ) (old new : Lane) (m : LaneMoves answer old new) (fits : LaneFits answer old) (x : ℕ) (x_low : x < length old) where
-  -- of two cars that pass a detector none is behind the other
+  -- of two cars that pass a detector, neither is behind the other
   not_behind : (p q v u : ℕ) (car other : ℕ × ℕ) → at old p ≡ Some car → at old q ≡ Some other → v ≤ gap old p → cells_ahead_to (length old) p x < v → cells_ahead_to (length old) q x < cells_ahead_to (length old) p x → ⊥
   not_behind p q v u car other here there room far behind =
       let k = cells_ahead_to (length old) p x - cells_ahead_to (length old) q x in

@@ -113,7 +113,7 @@ module _ (p p0 : ℕ) (rule : Programs) (seed : Seed) (car next : Car) (s : ℕ)
     here : at (lane_of road l) x ≡ Some (next.number, 0)
     room : 1 ≤ gap (lane_of road l) x
 
-  -- the gap of a car that stays grows by the distance of the next car ahead
+  -- the gap of a car that stays increases by the distance of the next car ahead
   gap_grows : (old new : Cells) (a : ℕ → ℕ) → LaneMoves a (lane_of old l) (lane_of new l) → LaneFits a (lane_of old l) → (speed : ℕ) → at (lane_of old l) x ≡ Some (next.number, speed) → a x ≡ 0
       → gap (lane_of new l) x ≡ gap (lane_of old l) x + a (next_place (lane_of old l) x)
   gap_grows old new a moves fits speed here stays =

@@ -1,4 +1,4 @@
--- Under rules that leave nothing to chance runs become periodic, since a road has only so many states.
+-- Runs under deterministic rules become periodic, because a road has only finitely many states.
 use Rattle.std.proofs.Common.{◌≡◌, ℕ, zero, suc, ◌+◌, ◌-◌, ◌*◌, ◌^◌, ◌<◌, Some, None, List, [], ◌∷◌, length, get_or, refl, sym, ◌∙◌, ap, subst, arith}
 use Rattle.std.specs.Prelude.{sum_by}
 use Rattle.std.proofs.lemmas.List.{ext_get_or}
@@ -27,7 +27,7 @@ use Rattle.trlab_traffic.proofs.Freely.{one_rule}
 use Rattle.trlab_traffic.proofs.Pigeonhole.{number, number_below, pigeonhole, same_digits}
 use Rattle.trlab_traffic.proofs.RunLanes.{run_lanes}
 
--- two cells with the same cars are one
+-- two cells with the same cars are equal
 same_cell : (c d : Cell) → ((number speed : ℕ) → c ≡ Some (number, speed) → d ≡ Some (number, speed)) → ((number speed : ℕ) → d ≡ Some (number, speed) → c ≡ Some (number, speed)) → c ≡ d
 same_cell None None f g = refl
 same_cell None (Some car) f g = g car.0 car.1 refl
@@ -80,7 +80,7 @@ module _ (lanes cells limit n : ℕ) where
       let e : (limit + 1) * (cells * lanes) ≡ base = omega arith in
       subst (λ k. state car < k) e all
 
-  -- cars of one state are in one cell, at one speed
+  -- cars with the same state are in the same cell, at the same speed
   record SamePlace (car other : Car) : Type 0 where
     lane : car.lane ≡ other.lane
     place : car.place ≡ other.place
@@ -106,7 +106,7 @@ module _ (lanes cells limit n : ℕ) where
   state_low road is = number_below base n (λ i. state ((started road is.legal).car i)) (λ i low. state_below ((started road is.legal).car i) (car_range road is i low))
 
   module _ (road other : Cells) (a : IsOf lanes cells limit n road) (b : IsOf lanes cells limit n other) (same : state_of road a.legal ≡ state_of other b.legal) where
-    -- of two roads of one state the second has each car of the first
+    -- the second of two roads with the same state has each car of the first
     kept : (l x number speed : ℕ) → at (lane_of road l) x ≡ Some (number, speed) → at (lane_of other l) x ≡ Some (number, speed)
     kept l x number speed here =
         let mine = started road a.legal in
@@ -131,7 +131,7 @@ module _ (lanes cells limit n : ℕ) where
         let same_speed : two.speed ≡ speed = sym (pair.1 ∙ place.speed) in
         at_two ∙ is_two ∙ one_car named same_speed
 
-  -- roads of one state are one road
+  -- roads with the same state are equal
   same_road : (road other : Cells) (a : IsOf lanes cells limit n road) (b : IsOf lanes cells limit n other) → state_of road a.legal ≡ state_of other b.legal → road ≡ other
   same_road road other a b same =
       let cells_same : road.lanes ≡ other.lanes = ext_get_or [] road.lanes other.lanes (a.count ∙ sym b.count) (λ l low.
@@ -176,7 +176,7 @@ module _ (rule : Programs) (seed : Seed) (certain : IsDeterministic rule) (is : 
         };
       }
 
-  -- if a road comes again, so do all later ones
+  -- if a road occurs again, so do all later roads
   module _ (early late : ℕ) (same : (road_of early).road ≡ (road_of late).road) where
     again : (k step last : ℕ) (road later : Cells) → step ≡ k + early → last ≡ k + late → IsRoadAt seed (always rule) step road → IsRoadAt seed (always rule) last later → later ≡ road
     again zero step last road later e f a b =

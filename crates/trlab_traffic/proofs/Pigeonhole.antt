@@ -1,10 +1,11 @@
--- The pigeonhole principle: among more numbers than values two have one value. And numbers made of digits.
+-- The pigeonhole principle: among more numbers than values two have the same value. Also: numbers made of
+-- digits.
 use Rattle.std.proofs.Common.{◌≡◌, ◌≢◌, ℕ, zero, suc, ◌+◌, ◌-◌, ◌*◌, ◌^◌, ◌<◌, ◌≤◌, ◌⊎◌, cond, ltb, sym, ◌∙◌, ap, subst, inl, inr, arith}
 use Rattle.std.proofs.Math.Nat.{pow-succ', pow-zero}
 use Rattle.std.proofs.lemmas.Bool.{cases_eq, cases_lt, cond-false, cond-true, le-ltb, lt-ltb}
 use Rattle.std.proofs.lemmas.Nat.{mul-add-lt, same_from_place}
 
--- two numbers up to a bound at which a function has one value
+-- two numbers up to a bound at which a function has the same value
 pub record Twice (f : ℕ → ℕ) (bound : ℕ) : Type 0 where
   pub early : ℕ
   pub late : ℕ
@@ -18,7 +19,7 @@ record Found (f : ℕ → ℕ) (bound value : ℕ) : Type 0 where
   low : index < bound
   is : f index ≡ value
 
--- there is one, or none
+-- there is such a number, or there is none
 look : (f : ℕ → ℕ) (bound value : ℕ) → Found f bound value ⊎ ((i : ℕ) → i < bound → f i ≢ value)
 look f zero value = inr (λ i low. absurd (omega (arith, low)))
 look f (suc n) value =
@@ -33,7 +34,7 @@ look f (suc n) value =
       ]
     ]
 
--- values without one of them: those above it are one less
+-- the values without one of them: those above it decrease by one
 abbrev closed : ℕ → ℕ → ℕ
 closed gone v = cond (ltb v gone) v (v - 1)
 

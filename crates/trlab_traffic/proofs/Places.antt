@@ -1,4 +1,4 @@
--- Places on the ring: ways ahead, one after another, and back.
+-- Places on the ring: distances ahead, one after another, and back.
 use Rattle.std.proofs.Common.{◌≡◌, ℕ, zero, suc, ◌+◌, ◌-◌, ◌*◌, ◌/◌, ◌%◌, ◌<◌, ◌≤◌, Bool, true, Some, length, sym, ◌∙◌, ap, inl, inr, arith, mod-eq_of_lt, mod-lt}
 use Rattle.std.proofs.Math.Nat.{add-mod_right, add-mul-mod_self_left, div-add-mod, mod-add-mod}
 use Rattle.std.proofs.lemmas.Bool.{cases_Bool, cases_eq, cond-true, cond-false, true≢false}
@@ -24,7 +24,7 @@ ahead_more n x i j = let e : x + i + j ≡ x + (i + j) = omega arith in mod-add-
 pub ahead_swap : (n x i j : ℕ) → ahead n (ahead n x i) j ≡ ahead n (ahead n x j) i
 ahead_swap n x i j = let e : i + j ≡ j + i = omega arith in ahead_more n x i j ∙ ap (ahead n x) e ∙ sym (ahead_more n x j i)
 
--- ahead, and then on to the end of the round
+-- ahead, and then on to the end of the lap
 pub ahead_back : (n x r : ℕ) → x < n → ahead n (ahead n x r) (n - r % n) ≡ x
 ahead_back n x r low =
     let whole = div-add-mod r n in
@@ -35,7 +35,7 @@ ahead_back n x r low =
 pub back_ahead : (n x r : ℕ) → x < n → ahead n (ahead n x (n - r % n)) r ≡ x
 back_ahead n x r low = ahead_swap n x (n - r % n) r ∙ ahead_back n x r low
 
--- two places from which as far ahead is one place are one
+-- two places from which the same distance ahead leads to the same place are equal
 pub ahead_once : (n x y r : ℕ) → x < n → y < n → ahead n x r ≡ ahead n y r → x ≡ y
 ahead_once n x y r low high same = sym (ahead_back n x r low) ∙ ap (λ k. ahead n k (n - r % n)) same ∙ ahead_back n y r high
 

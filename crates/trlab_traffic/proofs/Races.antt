@@ -1,4 +1,4 @@
--- Two runs from one start without lane changes, car by car.
+-- Two runs from the same initial state without lane changes, car by car.
 use Rattle.std.proofs.Common.{◌≡◌, ℕ, zero, suc, ◌+◌, ◌<◌, ◌≤◌, Some, sym, ◌∙◌, subst, arith}
 use Rattle.trlab_road.specs.declared.car.Car.{Car}
 use Rattle.trlab_road.specs.Cells.{Cells, IsAt, cars}
@@ -18,7 +18,7 @@ use Rattle.trlab_traffic.proofs.Going.{go_distance, gone_is_one, run_like}
 use Rattle.trlab_traffic.proofs.NaschMoves.{motion_alone}
 use Rattle.trlab_traffic.proofs.Numbering.{total_le}
 
--- the answers of two cars of one number, one in each run, at one step
+-- the answers of two cars with the same number, one in each run, at one step
 pub record Pair (seed : Seed) (slow fast : Sheet) (step : ℕ) (road other : Cells) (a b : Car) (v w : ℕ) : Type 0 where
   pub rule : Programs
   pub other_rule : Programs
@@ -35,8 +35,9 @@ pub record Pair (seed : Seed) (slow fast : Sheet) (step : ℕ) (road other : Cel
   pub within_gap : v ≤ gap_of road a
   pub other_within_gap : w ≤ gap_of other b
 
--- a relation of the answers of two such cars, by their speeds and gaps; and one that steps keep: of the slow car's speed
--- and distance, and of the fast car's speed, gap and distance, with the speed of its next car
+-- a relation of the answers of two such cars, by their speeds and gaps; and one that steps preserve: of the
+-- slow car's speed and distance, and of the fast car's speed, gap and distance, with the speed of its next
+-- car
 module _ (seed : Seed) (legal : IsLegal seed.road) (start : Start seed.road) (slow fast : Sheet) (stays : EachRule StaysInLane slow) (others_stay : EachRule StaysInLane fast)
     (Goes : ℕ → ℕ → ℕ → ℕ → ℕ → ℕ → Type 0)
     (answered : (step : ℕ) (road other : Cells) (a b : Car) (v w : ℕ) → Pair seed slow fast step road other a b v w → Goes a.speed (gap_of road a) v b.speed (gap_of other b) w)

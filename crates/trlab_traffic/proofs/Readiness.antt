@@ -1,5 +1,5 @@
--- Without randomization acceleration holds cars back only in the first steps; from then on each moves by the
--- limit or its gap, whichever is smaller, and the lane reaches its triangle.
+-- Without randomization acceleration holds cars back only in the first steps; from then on each car moves
+-- by the limit or its gap, whichever is smaller, and the lane reaches its triangle.
 use Rattle.std.proofs.Common.{◌≡◌, ℕ, zero, suc, ◌+◌, ◌-◌, ◌*◌, ◌%◌, ◌<◌, ◌≤◌, ◌⊎◌, min, is_some, Some, [], ◌∷◌, length, refl, sym, ◌∙◌, ap, subst, inl, inr, arith, mod-eq_of_lt, mul-add, mul-suc, mul-zero, mul_comm, suc-mul}
 use Rattle.std.specs.Prelude.{sum_by}
 use Rattle.std.proofs.Math.Nat.{mod-lt}
@@ -58,7 +58,7 @@ quick_on limit t speed g a b ahead_speed after goes slow room is (inr gained) =
 
 module _ (limit : ℕ) (answer : ℕ → ℕ) (old new : Lane) (m : LaneMoves answer old new) (fits : LaneFits answer old)
     (goes : (x number speed : ℕ) → at old x ≡ Some (number, speed) → answer x ≡ min (min (speed + 1) limit) (gap old x)) where
-  -- a car, by where it came from, and the next one
+  -- a car, by the cell that it came from, and the next car
   record From (y speed : ℕ) : Type 0 where
     x : ℕ
     number : ℕ
@@ -152,7 +152,7 @@ ready limit t lane answer some late are goes x number speed here =
       | inr gained ↦ omega (arith, far, gained, late)
     ]
 
--- the gaps of a lane on which no two cars are near, and of one on which none are far apart
+-- the gaps of a lane on which no two cars are near, and of a lane on which no two are far apart
 wide_gap : (limit : ℕ) (lane : Lane) (x : ℕ) (car : ℕ × ℕ) → limit < length lane → at lane x ≡ Some car → window (digit_at lane) x (suc limit) ≤ 1 → limit ≤ gap lane x
 wide_gap limit lane x car short here few =
     let d = digit_at lane in
@@ -246,7 +246,7 @@ module _ (limit cells count k : ℕ) (lane : Lane) (answer : ℕ → ℕ) (some_
         one_fits limit zero size length_now some few same = absurd (omega (arith, some))
         one_fits limit (suc n) size length_now some few same = let e = suc-mul limit (suc n) in omega (arith, few, same, e)
 
-    -- and how far they go, all together
+    -- and the sum of the distances they go
     leapt_far : (l : ℕ) → sum_by (λ (car : Car). answer car.place) (standing_from l 0 lane) ≡ min (limit * count) (cells - count)
     leapt_far l =
         let product = suc-mul limit count in
@@ -271,7 +271,7 @@ module _ (limit cells count k : ℕ) (lane : Lane) (answer : ℕ → ℕ) (some_
         none_full limit zero size many = absurd (let e : suc limit * 0 ≡ 0 = omega arith in omega (arith, many, e))
         none_full limit (suc n) size many = omega arith
 
--- a lane that has leapt leaps once more where its cars take the limit or their gaps
+-- a lane that has leapt leaps once more if its cars move by the limit or their gaps
 leap_on : (limit cells count k : ℕ) (answer : ℕ → ℕ) (old new : Lane) → 1 ≤ limit → 1 ≤ cells → LaneMoves answer old new → LaneFits answer old
     → ((x number speed : ℕ) → at old x ≡ Some (number, speed) → answer x ≡ min limit (gap old x)) → (lane_car_count old ≡ count → Leaping limit cells count k old)
     → lane_car_count new ≡ count → Leaping limit cells count (suc k) new
@@ -334,7 +334,7 @@ capacities road legal =
     ap (min (road.limit * count l)) e)
     ∙ sym (by_lane (lane_max_distance road.limit) road.lanes)
 
--- that of the lane is that of the road where it has one
+-- on a road of one lane, the capacity of the lane is the capacity of the road
 one_capacity : (road : Cells) → length road.lanes ≡ 1 → sum_by (lane_max_distance road.limit) road.lanes ≡ max_distance road
 one_capacity road one =
     let lane = lane_of road 0 in
@@ -352,7 +352,7 @@ cells_suffice seed legal l =
     let f = ap (λ j. j * cells) e ∙ suc-mul (v - 1) cells in
     omega (arith, f)
 
--- the capacity of a lane of a legal road, and of one that it does not have
+-- the capacity of a lane of a legal road, and of a lane that it does not have
 lane_suffices : (road : Cells) (steps l : ℕ) → IsLegal road → ((l : ℕ) → l < length road.lanes → lane_max_distance road.limit (lane_of road l) ≤ road.limit * steps)
     → Suffices road.limit (length (lane_of road 0)) (lane_car_count (lane_of road l)) steps
 lane_suffices road steps l legal soon =
@@ -433,7 +433,7 @@ nasch_reaches_triangle rule seed step road sum is legal one relaxed comes =
     (λ l on. subst (λ most. HasRelaxed seed.road.limit seed.road.limit most seed.warm) (sym (one_lane_capacity seed.road one l on)) relaxed) comes
     ∙ ap (λ k. (step - seed.warm) * k) (one_capacity seed.road one)
 
--- where cars reach their speed at once, a lane leaps from the start
+-- if cars reach their speed at once, a lane leaps from the start
 pub record OnWayAtOnce (limit cells count wait t : ℕ) (lane : Lane) : Type 0 where
   pub size : length lane ≡ cells
   pub soon : Suffices limit cells count wait

@@ -1,4 +1,5 @@
--- Rules that go alike: slow starts with the chance of all others, and lane changes with the chance 0.
+-- Rules that act alike: slow starts with the same probability as other cars, and lane changes with
+-- probability 0.
 use Rattle.std.proofs.Common.{◌≡◌, ℕ, zero, suc, ◌+◌, ◌<◌, ◌&&◌, Bool, true, false, cond, Option, Some, None, List, [], ◌∷◌, length, get_or, refl, sym, ◌∙◌, ap, subst, arith, if◌then◌else◌}
 use Rattle.std.specs.Prelude.{MatchOption, count_by, nat_eq, nat_lt, slice_index}
 use Rattle.std.proofs.lemmas.List.Sums.{sum_by-cons}
@@ -34,7 +35,7 @@ use Rattle.trlab_traffic.proofs.AnyRule.{middle_like, next_legal_like}
 use Rattle.trlab_traffic.proofs.Freely.{in_force_one, one_rule}
 use Rattle.trlab_traffic.proofs.NaschMoves.{never}
 
--- motion programs that answer one speed move the cars alike
+-- motion programs with the same speeds move the cars alike
 module _ (f g : View → List ℕ → ℕ) (motion other : CheckedProgram) (by_f : ComputesSpeed f motion.program) (by_g : ComputesSpeed g other.program)
     (same : (view : View) (words : List ℕ) → f view words ≡ g view words) where
   speeds_alike : (dice : Dice) (road : Cells) (speeds : ℕ → ℕ → ℕ) → IsLegal road → AnswersSpeeds motion dice road speeds → AnswersSpeeds other dice road speeds
@@ -50,7 +51,8 @@ module _ (f g : View → List ℕ → ℕ) (motion other : CheckedProgram) (by_f
   pub motion_alike : (dice : Dice) (road next : Cells) → IsLegal road → IsMotionPhase motion dice road next → IsMotionPhase other dice road next
   motion_alike dice road next legal phase = (phase.0, speeds_alike dice road phase.0 legal phase.1, phase.2)
 
--- where the changes lead to one middle road, and the motions from there on to one road, so do the steps
+-- if the lane changes lead to the same middle road, and the motions from there to the same road, so do the
+-- steps
 step_alike : (rule other : Programs) (dice : Dice) (road next : Cells) (tally : StepTally) → IsLegal road
     → ((middle : Cells) → IsLaneChangePhase rule.change dice road middle tally.changes → IsLaneChangePhase other.change dice road middle tally.changes)
     → ((middle : Cells) → IsLegal middle → IsMotionPhase rule.motion dice middle next → IsMotionPhase other.motion dice middle next)
@@ -67,7 +69,7 @@ step_alike rule other dice road next tally legal change motion is =
       },
     )
 
--- one chance for all speeds
+-- one probability for all speeds
 one_chance : (b : Bool) (p : ℕ) → (if b then p else p) ≡ p
 one_chance true p = refl
 one_chance false p = refl
@@ -89,7 +91,7 @@ vdr_of_one_chance p lanes rule other vdr nasch dice road next tally legal count 
       (λ middle is phase. motion_alike (nasch_speed p) (vdr_speed p p) other.motion rule.motion nasch.motion.moves vdr.motion.moves (λ view words. sym (slow_starts p view words)) dice middle next is phase),
 )
 
--- nobody crosses
+-- no car changes lanes
 abbrev nobody : ℕ → ℕ → Bool
 nobody l x = false
 
@@ -112,7 +114,7 @@ kept : (own beside : Cell) → own ≡ cell_after_change false false own beside
 kept None beside = refl
 kept (Some car) beside = refl
 
--- where nobody crosses, the road stays as it is
+-- if no car changes lanes, the road does not change
 pub nobody_crosses : (road : Cells) → ChangesLanes nobody road road
 nobody_crosses road = record {
   same_limit = refl;
@@ -120,7 +122,7 @@ nobody_crosses road = record {
   each_lane = λ l on. record { same_length = refl; each_cell = λ x low. kept (cell road l x) (cell road (other_lane l) x) };
 }
 
--- a car that passes counts one
+-- a car that passes counts as one
 abbrev one_if : Bool → ℕ
 one_if b = cond b 1 0
 
@@ -163,7 +165,7 @@ module _ (change : CheckedProgram) (by : ComputesCrossing (rickert_crosses 0) ch
     phase.1 ∙ sym (none_counted nobody road (λ car here. refl)),
   )
 
--- the lane change of the rule of 1996 with the chance 0 is none
+-- with probability 0 the rule of 1996 changes no lanes
 record AsNone (change : Option CheckedProgram) (dice : Dice) (road middle : Cells) (changes : ℕ) : Type 0 where
   to : IsLaneChangePhase change dice road middle changes → IsLaneChangePhase None dice road middle changes
   from : IsLaneChangePhase None dice road middle changes → IsLaneChangePhase change dice road middle changes
@@ -190,7 +192,7 @@ rickert_without_change p rule other rickert nasch dice road next tally legal two
       (λ middle is phase. motion_alike (nasch_speed p) (nasch_speed p) other.motion rule.motion nasch.motion.moves rickert.motion.moves (λ view words. refl) dice middle next is phase),
 )
 
--- a run under one of two rules that go alike
+-- a run under one of two rules that act alike
 record RunAlike (other : Programs) (seed : Seed) (step : ℕ) (road : Cells) (sum : StepTally) : Type 0 where
   like : IsLegalLike seed.road road
   comes : ComesTo seed ((0, other) ∷ []) step road sum

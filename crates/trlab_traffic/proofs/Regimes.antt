@@ -1,5 +1,5 @@
--- Runs without lane changes and without randomization, lane by lane: a property of each lane at a step, and the distance
--- of its cars.
+-- Runs without lane changes and without randomization, lane by lane: a property of each lane at a step, and
+-- the distance of its cars.
 use Rattle.std.proofs.Common.{◌≡◌, ℕ, zero, suc, ◌+◌, ◌-◌, ◌*◌, ◌<◌, ◌≤◌, min, Some, [], ◌∷◌, length, refl, sym, ◌∙◌, ap, subst, inl, inr, arith}
 use Rattle.std.specs.Prelude.{nat_le, sum_by}
 use Rattle.std.proofs.lemmas.Bool.{cases_lt, le-leb, lt-leb}
@@ -26,8 +26,8 @@ use Rattle.trlab_traffic.proofs.LaneGaps.{motion_keeps_lane_cars}
 use Rattle.trlab_traffic.proofs.NaschMoves.{answered, motion_alone, safe_motion}
 use Rattle.trlab_traffic.proofs.Sums.{sum_at_cars, sum_of_lanes, total}
 
--- a regime of a lane of a run in which each car's new speed follows from its speed and its gap: a property of the lane at
--- a step, and the distance of all its cars from some step on
+-- a regime of a lane of a run in which each car's new speed follows from its speed and its gap: a property
+-- of the lane at a step, and the distance of all its cars from some step on
 pub record RegimeBy (speed_by : ℕ → ℕ → ℕ) (each count begin : ℕ) : Type 1 where
   pub Holds : ℕ → Lane → Type 0
   pub goes_on : (t : ℕ) (old new : Lane) (answer : ℕ → ℕ) → LaneMoves answer old new → LaneFits answer old

@@ -1,4 +1,5 @@
--- With the limit 1 a step of the rule of 1992 is a step of the ring of each lane, in which those cars brake that do so on their words.
+-- With v_max = 1 a step of the rule of 1992 is a step of the ring of each lane, in which a car brakes if it
+-- does so on its words.
 use Rattle.std.proofs.Common.{◌≡◌, ℕ, zero, suc, ◌+◌, ◌-◌, ◌<◌, min, Bool, true, false, not, ◌&&◌, ◌||◌, cond, Some, None, [], ◌∷◌, length, is_some, refl, sym, ◌∙◌, ap, subst, arith}
 use Rattle.std.proofs.lemmas.List.FromFn.{fill_by_all}
 use Rattle.trlab_words.specs.Chances.{happens_on}
@@ -46,7 +47,7 @@ going braking lane x = is_some (at lane x) && not (is_some (at lane (ahead (leng
 
 module _ (braking : ℕ → Bool) (answer : ℕ → ℕ) (old new : Lane) (m : LaneMoves answer old new)
     (goes : (x number speed : ℕ) → at old x ≡ Some (number, speed) → answer x ≡ brake (braking x) (min 1 (gap old x))) where
-  -- the answer of a car
+  -- the speed of a car
   answers : (x : ℕ) (car : ℕ × ℕ) (next : Cell) (b : Bool) → at old x ≡ Some car → at old (ahead (length old) x 1) ≡ next → braking x ≡ b
       → answer x ≡ cond (not (is_some next) && not b) 1 0
   answers x car None false here there is =
@@ -70,7 +71,7 @@ module _ (braking : ℕ → Bool) (answer : ℕ → ℕ) (old new : Lane) (m : L
       answers x car next (braking x) here refl refl
       ∙ ap (λ (b : Bool). cond (b && not (is_some next) && not (braking x)) 1 0) (sym (ap is_some here))
 
-  -- who goes is a car
+  -- a cell from which a car goes has a car
   car_goes : (x : ℕ) (c : Cell) → at old x ≡ c → going braking old x ≡ true → (car : ℕ × ℕ) × (at old x ≡ Some car)
   car_goes x None is moving = let e = sym moving ∙ ap (λ (c : Cell). is_some c && not (is_some (at old (ahead (length old) x 1))) && not (braking x)) is in absurd cc
   car_goes x (Some car) is moving = (car, is)
@@ -178,7 +179,7 @@ module _ (p : ℕ) (rule : Programs) (dice : Dice) (old new : Cells) (tally : St
       by_ring (braking_on l) (phase.0 l) (lane_of old l) (lane_of new l) (phase.2.each_lane l on) (goes_by l) y low
       ∙ sym (taken_is p dice (lane_of old l) y)
 
-  -- how far the cars of a lane go
+  -- the total distance of the cars of a lane
   in_each_cell : (l x : ℕ) (on : l < length old.lanes) (c : Cell) → cell old l x ≡ c
       → weight (λ (car : Car). phase.0 car.lane car.place) l x c ≡ cond (going (braking_on l) (lane_of old l) x) 1 0
   in_each_cell l x on None is_empty =

@@ -9,7 +9,8 @@ use Rattle.trlab_traffic.specs.Stationary.{is_same}
 use Rattle.trlab_traffic.proofs.Chains.{bit, kept, leaves}
 use Rattle.trlab_traffic.proofs.RingSums.{size_is, trues}
 
--- the cells after a step of a chain, before which `came` says whether a car comes, and after which `first` is the cell ahead
+-- the cells after a step of a chain: `came` is whether a car comes before it, and `first` is the cell ahead
+-- of it
 abbrev pub cells : Bool → Bool → Ring → Ring → Ring
 cells first came [] _ = []
 cells first came (own ∷ old) [] = []
@@ -117,7 +118,7 @@ ring_after_is ring braking long =
     ∙ ap (λ m. kept (get_or ring x false) m (coming first came ring braking x)) (sym (moves_is ring braking x low))
     ∙ ap (kept (get_or ring x false) (moves ring braking x)) (sym (comes_is ring braking x long low))))
 
--- cars are kept
+-- the number of cars is preserved
 bit_first : (b : Bool) (r : Ring) → trues (b ∷ r) ≡ bit b + trues r
 bit_first false r = omega arith
 bit_first true r = omega arith

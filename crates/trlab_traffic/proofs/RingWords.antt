@@ -42,7 +42,7 @@ word_is p x =
       | inr high ↦ ap bit (le-ltb (x / 2) p (omega (arith, high))) ∙ sym (ap (λ b. cond b 1 0) (le-ltb x (2 * p) high))
     ]
 
--- of 2 n words, on 2 p an event of the chance p happens
+-- of 2 n words, an event of probability p happens on 2 p
 pub words_match : (p n : ℕ) → p ≤ n → total (λ x. bit (happens_on p x)) (2 * n) ≡ 2 * p
 words_match p n low =
     let least : min (2 * p) (2 * n) ≡ 2 * p = omega (arith, low) in
@@ -81,7 +81,7 @@ by_test : (h : Bool) (F : Bool → ℕ) → F h ≡ cond h (F true) (F false)
 by_test false F = refl
 by_test true F = refl
 
--- a sum over all words of all cars is one over all sets of braking cars
+-- a sum over all words of all cars is a sum over all sets of braking cars
 draws_sum : (p q : ℕ) (ring : Ring) (F : Ring → ℕ) → sum_by (λ (draws : CarWords). F (braking_set p draws)) (all_draws (2 * (p + q)) ring) ≡ sets ring (λ (s : Ring). set_weight (2 * p) (2 * q) ring s * F s)
 draws_sum p q [] F = let e : 0 + F [] ≡ 1 * F [] = omega arith in e
 draws_sum p q (false ∷ ring) F =
@@ -146,7 +146,7 @@ step_weights_count_words p words old new low size_of =
     if_weight : Ring → ℕ
     if_weight s = cond (is_same (ring_after old s) new) (braking_weight p old s) 0
 
--- if a step leads to a ring, both rings have as many cars
+-- if a step leads to a ring, both rings have the same number of cars
 as_many : (factor : ℕ → ℕ) (b : Bool) (m n w : ℕ) → (b ≡ true → m ≡ n) → factor m * (w * bit b) ≡ factor n * (w * bit b)
 as_many factor false m n w so = none (factor m) (factor n) w
   where

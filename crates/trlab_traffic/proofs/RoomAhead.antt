@@ -1,4 +1,4 @@
--- Cars that go over empty cells alone go, all together, over no more cells than are empty.
+-- Cars that go only over empty cells cover, all together, no more cells than are empty.
 use Rattle.std.proofs.Common.{◌≡◌, ℕ, zero, suc, ◌+◌, ◌-◌, ◌%◌, ◌<◌, ◌≤◌, ◌⊎◌, cond, Some, None, List, [], ◌∷◌, length, get_or, drop, refl, sym, ◌∙◌, ap, subst, inl, inr, arith, length-drop, get_or-drop, mod-eq_of_lt}
 use Rattle.std.specs.Prelude.{is_none, is_some, sum_by}
 use Rattle.std.proofs.Math.Nat.{add-mod_left}
@@ -49,13 +49,13 @@ lanes_taken_or_empty (lane ∷ lanes) =
 pub taken_or_empty : CellsAreTakenOrEmpty
 taken_or_empty road = lanes_taken_or_empty road.lanes
 
--- the empty cells up to the first car, and so many more where there is none
+-- the empty cells up to the first car, plus `more` if there is none
 abbrev run : ℕ → Lane → ℕ
 run more [] = more
 run more (None ∷ cells) = suc (run more cells)
 run more (Some car ∷ cells) = 0
 
--- what cars go, each no further than the run behind its cell, they go over the empty cells
+-- if each car goes no further than the run after its cell, all together go over at most the empty cells
 over_runs : (f : Car → ℕ) (l s more : ℕ) (cells : Lane)
     → ((x number speed : ℕ) → at cells x ≡ Some (number, speed) → f (car_in l (s + x) number speed) ≤ run more (drop (suc x) cells))
     → sum_by f (standing_from l s cells) + run more cells ≤ lane_empty_cells cells + more
@@ -96,7 +96,8 @@ least_run more [] = omega arith
 least_run more (None ∷ cells) = let rest = least_run more cells in omega (arith, rest)
 least_run more (Some car ∷ cells) = omega arith
 
--- a car that goes over empty cells alone goes no further than the run behind its cell, which goes on round the end
+-- a car that goes only over empty cells goes no further than the run after its cell, which continues past
+-- the end of the lane
 within_run : (lane : Lane) (x v : ℕ) (car : ℕ × ℕ) → at lane x ≡ Some car → IsClearAhead lane x v → v ≤ run (run 0 lane) (drop (suc x) lane)
 within_run lane x v car here clear =
     let n = length lane in
@@ -125,7 +126,7 @@ within_run lane x v car here clear =
       ]
     ]
 
--- what cars go, each no less far than the run behind its cell, they go over the empty cells
+-- if each car goes at least as far as the run after its cell, all together go over at least the empty cells
 under_runs : (f : Car → ℕ) (l s more : ℕ) (cells : Lane)
     → ((x number speed : ℕ) → at cells x ≡ Some (number, speed) → run more (drop (suc x) cells) ≤ f (car_in l (s + x) number speed))
     → lane_empty_cells cells + more ≤ sum_by f (standing_from l s cells) + run more cells
@@ -158,13 +159,13 @@ run_within more [] = omega arith
 run_within more (None ∷ cells) = let rest = run_within more cells in omega (arith, rest)
 run_within more (Some car ∷ cells) = omega arith
 
--- a lane with a car has one first run, whatever is behind it
+-- on a lane with a car, the first run does not depend on the cells after it
 one_run : (more : ℕ) (cells : Lane) → 0 < lane_car_count cells → run more cells ≡ run 0 cells
 one_run more [] some = absurd (omega (arith, some))
 one_run more (None ∷ cells) some = let e = cars-none cells in ap suc (one_run more cells (omega (arith, e, some)))
 one_run more (Some car ∷ cells) some = refl
 
--- the run behind the cell of a car is its gap
+-- the run after the cell of a car is its gap
 run_is_clear : (lane : Lane) (x : ℕ) (car : ℕ × ℕ) → at lane x ≡ Some car → run (run 0 lane) (drop (suc x) lane) < length lane × IsClearAhead lane x (run (run 0 lane) (drop (suc x) lane))
 run_is_clear lane x car here =
     let n = length lane in
@@ -195,7 +196,7 @@ run_is_clear lane x car here =
       },
     )
 
--- cars that go no less far than they can, on a lane that has one, go over all empty cells
+-- cars that go at least as far as they can, on a lane with a car, go over all empty cells
 pub lane_filled : (f : Car → ℕ) (l : ℕ) (lane : Lane) → 0 < lane_car_count lane
     → ((x number speed g : ℕ) → at lane x ≡ Some (number, speed) → g < length lane → IsClearAhead lane x g → g ≤ f (car_in l x number speed))
     → lane_empty_cells lane ≤ sum_by f (standing_from l 0 lane)
@@ -208,7 +209,7 @@ lane_filled f l lane some far =
     let one = one_run first lane some in
     omega (arith, all, one)
 
--- the cars of a lane that go over empty cells alone
+-- the cars of a lane that go only over empty cells
 pub lane_room : (f : Car → ℕ) (l : ℕ) (lane : Lane)
     → ((x number speed : ℕ) → at lane x ≡ Some (number, speed) → IsClearAhead lane x (f (car_in l x number speed)))
     → sum_by f (standing_from l 0 lane) ≤ lane_empty_cells lane

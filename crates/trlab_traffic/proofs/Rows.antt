@@ -33,7 +33,7 @@ use Rattle.trlab_traffic.specs.Rows.{RowMeasuresFlow, RowsAgree, RunSatisfiesCon
 use Rattle.trlab_traffic.specs.Rule184.{digit, is_taken}
 use Rattle.trlab_verify.specs.CheckedProgram.{CheckedProgram}
 
--- a place has as many cars on two lanes after the lane change
+-- a place has the same number of cars on both lanes, together, after the lane change
 cell_balance : (c d : Bool) (own beside : Cell) → (c ≡ true → is_some own ≡ true → beside ≡ None) → (d ≡ true → is_some beside ≡ true → own ≡ None)
     → digit (is_some (cell_after_change c d own beside)) + digit (is_some (cell_after_change d c beside own)) ≡ digit (is_some own) + digit (is_some beside)
 cell_balance true true None None one other = refl
@@ -317,7 +317,7 @@ rows_agree seed sheet step road sum x k first second legal comes low round first
     let more = all.no_more in
     record { no_less = omega (arith, less, a, b); no_more = omega (arith, more, a, b) }
 
--- sums of numbers that are within so much of one number
+-- sums of numbers that are close to one number
 total_near : (f : ℕ → ℕ) (c d n : ℕ) → ((y : ℕ) → y < n → DifferByAtMost d c (f y)) → DifferByAtMost (n * d) (n * c) (total f n)
 total_near f c d zero near = record { no_less = omega arith; no_more = omega arith }
 total_near f c d (suc n) near =

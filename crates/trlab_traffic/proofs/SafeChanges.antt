@@ -184,7 +184,7 @@ room_left (Some change) dice road middle changes safe legal phase car here =
 same_limit : (change : Option CheckedProgram) (dice : Dice) (road middle : Cells) (changes : ℕ) → IsLegal road → IsLaneChangePhase change dice road middle changes → middle.limit ≡ road.limit
 same_limit change dice road middle changes legal phase = (middle_like change dice road middle changes legal phase).same_limit
 
--- who brakes after more goes on with more
+-- a car that brakes after a larger speed continues with a larger one
 brake_more : (b : Bool) (s t : ℕ) → s ≤ t → brake b s ≤ brake b t
 brake_more true s t h = omega (arith, h)
 brake_more false s t h = h
@@ -196,7 +196,7 @@ record Gone (road : Cells) (i s : ℕ) : Type 0 where
   numbered : car.number ≡ i
   speed : car.speed ≡ s
 
--- the speed with a chance of braking that depends on the speed before
+-- the speed with a braking probability that depends on the previous speed
 abbrev speed_by : (ℕ → ℕ) → View → List ℕ → ℕ
 speed_by chance view words = nasch_speed (chance view.speed) view words
 
@@ -301,7 +301,7 @@ pub safe_changes_cost_nobody_in_vdr : SafeChangesCostNobodyInVdr
 safe_changes_cost_nobody_in_vdr p p0 rule other dice road slow fast slow_tally fast_tally vdr is legal slow_step fast_step =
     as_fast (vdr_braking_chance p p0) rule other dice road slow fast slow_tally fast_tally vdr.motion.moves vdr.change is legal slow_step fast_step
 
--- who crosses by the rule of 1996 does so safely
+-- the cars that change lanes by the rule of 1996 do so safely
 crossed : (b : Bool) → EndsAcross ≡ (if b then EndsAcross else Stays) → b ≡ true
 crossed true e = refl
 crossed false e = absurd cc

@@ -30,7 +30,7 @@ use Rattle.trlab_traffic.proofs.Freely.{FreeMotion, FreelyOn, free_speed, one_ru
 use Rattle.trlab_traffic.proofs.NaschMoves.{answered, motion_alone, never}
 use Rattle.trlab_traffic.proofs.Places.{ahead_none}
 
--- the chance by which a car that moves brakes
+-- the braking probability of a moving car
 moving_chance : (p p0 speed limit : ℕ) → 1 ≤ limit → speed ≡ limit → vdr_braking_chance p p0 speed ≡ p
 moving_chance p p0 speed limit some fast = ap (λ (b : Bool). if b then p0 else p) (ne_eqb speed 0 (λ e. omega (arith, e, some, fast)))
 
@@ -61,11 +61,11 @@ slow_starts_keep_free_flow p0 rule seed step road sum is legal free comes =
 pub slow_starts_turn_free_flow : SlowStartsMoveFreeFlowAsOne
 slow_starts_turn_free_flow p0 rule seed step road sum is legal free comes = (vdr_freely p0 rule seed step road sum is legal free comes).as_one
 
--- certainty happens on each word
+-- an event of probability 1 happens on each word
 always : (word : ℕ) → word < 2 ^ 32 → happens_on CERTAIN word ≡ true
 always word small = lt-ltb (word / 2) CERTAIN (omega (arith, small))
 
--- a car that is stopped and brakes stays so
+-- a car that is stopped and brakes remains stopped
 stays_stopped : (limit gap : ℕ) → min (min (0 + 1) limit) gap - 1 ≡ 0
 stays_stopped limit gap = omega arith
 

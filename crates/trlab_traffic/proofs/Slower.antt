@@ -1,4 +1,4 @@
--- Where cars brake by a greater chance they go no further.
+-- Cars that brake with a larger probability go no further.
 use Rattle.trlab_step.proofs.SumsOverCars.{stopped_cars-moved}
 use Rattle.trlab_step.specs.Next.{IsNext, stopped_cars}
 use Rattle.trlab_step.specs.declared.tally.StepTally.{StepTally}
@@ -46,7 +46,7 @@ sums_below f g (x ∷ xs) all =
     let b = sum_by-cons g x xs in
     record { least = omega (arith, least, rest_least, a, b); most = omega (arith, most, rest_most, a, b) }
 
--- a car that brakes by a chance does so by a greater one
+-- a car that brakes with a probability also brakes with a larger one
 record Brakes (p q word speed : ℕ) : Type 0 where
   least : brake (happens_on q word) speed ≤ brake (happens_on p word) speed
   most : brake (happens_on p word) speed ≤ brake (happens_on q word) speed + 1
@@ -69,7 +69,7 @@ brakes p q word speed more =
     let both = brakes_by (happens_on p word) (happens_on q word) speed (more_happens p q word more) in
     record { least = both.0; most = both.1 }
 
--- a sum over a list that was made of another
+-- a sum over a mapped list
 mapped : (g : ℕ → ℕ) (f : Car → ℕ) (xs : List Car) → sum_by g (map f xs) ≡ sum_by (λ (car : Car). g (f car)) xs
 mapped g f [] = refl
 mapped g f (x ∷ xs) =
@@ -78,7 +78,7 @@ mapped g f (x ∷ xs) =
     let b = sum_by-cons (λ (car : Car). g (f car)) x xs in
     omega (arith, rest, a, b)
 
--- how many cars are stopped after a motion, by the answers before it
+-- the number of stopped cars after a motion, by the answers before it
 stopped_total : (speeds : ℕ → ℕ → ℕ) (road next : Cells) → Fits speeds road → Moves speeds road next → stopped_cars next ≡ sum_by (λ (car : Car). cond (nat_eq (speeds car.lane car.place) 0) 1 0) (standing road)
 stopped_total speeds road next fits moves =
     let answers = in_order speeds road in
@@ -95,7 +95,7 @@ sums_le f g (x ∷ xs) all =
     let b = sum_by-cons g x xs in
     omega (arith, first, rest, a, b)
 
--- who stops stops where he is slower
+-- a car that stops also stops if it is slower
 pub stops_too : (slow fast : ℕ) → slow ≤ fast → cond (nat_eq fast 0) 1 0 ≤ cond (nat_eq slow 0) 1 0
 stops_too slow fast less =
     let count : Bool → ℕ = λ b. cond b 1 0 in
@@ -107,7 +107,7 @@ stops_too slow fast less =
       | inr moving ↦ let a = ap count (ne_eqb fast 0 moving) in omega (arith, a)
     ]
 
--- of two steps of a road, the one in which each car is slower, by a cell at most
+-- of two steps of a road, the one in which each car is slower, by at most one cell
 slower : (light heavy : Programs) (dice : Dice) (road next other : Cells) (fast slow : StepTally) → light.change ≡ None → heavy.change ≡ None
     → IsNext light dice road next fast → IsNext heavy dice road other slow
     → ((speeds others : ℕ → ℕ → ℕ) → AnswersSpeeds light.motion dice road speeds → AnswersSpeeds heavy.motion dice road others

@@ -1,5 +1,5 @@
--- A queue of all cars: no rules without lane changes reach the triangle before its last car can start, and before the gap
--- of its head can be closed in one step.
+-- A queue of all cars: no rules without lane changes reach the triangle before its last car can start, and
+-- before the gap of its head can be closed in one step.
 use Rattle.std.proofs.Common.{◌≡◌, ℕ, zero, suc, ◌+◌, ◌-◌, ◌*◌, ◌<◌, ◌≤◌, sym, ◌∙◌, ap, subst, inl, inr, arith, mul-add, mul-suc, mul_comm}
 use Rattle.std.specs.Prelude.{nat_le, sum_by}
 use Rattle.std.proofs.lemmas.Bool.{cases_lt, le-leb}
@@ -30,7 +30,7 @@ use Rattle.trlab_traffic.proofs.Queues.{queue_waits}
 use Rattle.trlab_traffic.proofs.RoomAhead.{lanes_room}
 use Rattle.trlab_traffic.proofs.Sums.{total}
 
--- sums of which one value is less, and none greater
+-- sums of which one value is smaller, and none larger
 total_less : (f g : ℕ → ℕ) (n k : ℕ) → ((i : ℕ) → i < n → f i ≤ g i) → k < n → f k < g k → total f n < total g n
 total_less f g zero k each low less = absurd (omega (arith, low))
 total_less f g (suc n) zero each low less =

@@ -1,4 +1,4 @@
--- The stationary state with the limit 1, counted over all roads and all sets of braking cars.
+-- The stationary state with v_max = 1, counted over all roads and all sets of braking cars.
 use Rattle.std.proofs.Common.{◌≡◌, ℕ, zero, suc, ◌+◌, ◌-◌, ◌*◌, ◌^◌, Bool, true, false, not, ◌&&◌, cond, if◌then◌else◌, [], ◌∷◌, length, get_or, refl, sym, ◌∙◌, ap, arith}
 use Rattle.std.specs.Bool.{beq}
 use Rattle.std.proofs.Math.Nat.{pow-succ', pow-zero}
@@ -93,7 +93,7 @@ module _ (t q : ℕ) where
           ap (λ x. t * x) rest ∙ sym (more_blocked (blocked first old) (free first old))
           ∙ ap (λ k. power k (free first old)) a ∙ ap (power (1 + blocked first old)) b
 
-  -- the weight of a chain's step is the product of the weights of its cells, where it leads to the chain
+  -- if a step leads to a chain, its weight is the product of the weights of the chain's cells
   chain_is : (first last came : Bool) (old braking new : Ring) → length braking ≡ length old → length new ≡ length old
       → chain t q first last came old braking new
       ≡ old_weight first old * (set_weight t q old braking * (bit (is_same (cells first came old braking) new) * bit (beq (leaving first came old braking) last)))
@@ -197,7 +197,7 @@ module _ (t q : ℕ) where
   behind_each false (true ∷ ring) = let rest = behind_each true ring in omega (arith, rest)
   behind_each true (true ∷ ring) = let rest = behind_each true ring in omega (arith, rest)
 
-  -- who is blocked has a car behind the next one
+  -- a blocked car is behind the next car, which therefore has a taken cell behind it
   blocked_behind : (first own : Bool) (ring : Ring) → blocked first (own ∷ ring) ≡ taken_behind own ring + bit (last_of own ring && first)
   blocked_behind first own [] = omega arith
   blocked_behind first false (false ∷ ring) = let rest = blocked_behind first false ring in omega (arith, rest)
@@ -317,7 +317,7 @@ module _ (t q : ℕ) where
   all_steps (false ∷ new) = from_all false new ∙ closed_empty t q new ∙ end_empty new
   all_steps (true ∷ new) = from_all true new ∙ closed_taken t q new ∙ end_taken new
 
--- in the words of the law
+-- as the law states it
 pub chosen : (b : Bool) (n : ℕ) → (if b then n else 0) ≡ n * bit b
 chosen false n = omega arith
 chosen true n = omega arith

@@ -75,7 +75,7 @@ total_next w (suc m) =
     (λ x low. let e : x + 1 ≡ suc x = omega arith in ap w (ap (λ k. k % n) e ∙ mod-eq_of_lt (let k : suc x < n = omega arith in k))) in
     omega (arith, last, first, rest)
 
--- and anywhere
+-- and at any cell
 pub total_turned : (w : ℕ → ℕ) (n r : ℕ) → total (λ x. w (ahead n x r)) n ≡ total w n
 total_turned w n zero = total_same (λ x. w (ahead n x 0)) w n (λ x low. ap w (ahead_none n x low))
 total_turned w n (suc r) =
@@ -124,7 +124,7 @@ total_swap f m (suc n) =
     let rest = total_swap (λ x y. f x (suc y)) m n in
     omega (arith, split, rest)
 
--- how many numbers are below another
+-- the number of numbers below another
 pub total_below : (v n : ℕ) → total (λ z. below z v) n ≡ min v n
 total_below v zero = omega arith
 total_below v (suc n) =
@@ -167,7 +167,7 @@ sum_of_lanes f each base (lane ∷ lanes) same =
     let split = sum_by-append f (standing_from base 0 lane) (standing_from_lane (suc base) lanes) in
     omega (arith, first, rest, split)
 
--- a sum of ones and zeros of which one is 1 at most
+-- a sum of ones and zeros of which at most one is 1
 pub single : (w : ℕ → ℕ) (n : ℕ) → ((y : ℕ) → y < n → (w y ≡ 0) ⊎ (w y ≡ 1)) → ((y z : ℕ) → y < n → z < n → w y ≡ 1 → w z ≡ 1 → y ≡ z) → total w n ≤ 1
 single w zero each one = omega arith
 single w (suc n) each one =
@@ -184,7 +184,7 @@ single w (suc n) each one =
           omega (arith, here, rest)
     ]
 
--- sums over the cars of a lane by what agrees at them
+-- sums over the cars of a lane of functions that agree at the cars
 pub sum_at_cars : (f g : Car → ℕ) (l s : ℕ) (lane : Lane) → ((x number speed : ℕ) → at lane x ≡ Some (number, speed) → f (car_in l (s + x) number speed) ≡ g (car_in l (s + x) number speed))
     → sum_by f (standing_from l s lane) ≡ sum_by g (standing_from l s lane)
 sum_at_cars f g l s [] same = refl
@@ -205,7 +205,7 @@ abbrev pub weight : (Car → ℕ) → ℕ → ℕ → Cell → ℕ
 weight f l x None = 0
 weight f l x (Some car) = f (car_in l x car.0 car.1)
 
--- a sum over the cars of a lane is one over its cells
+-- a sum over the cars of a lane is a sum over its cells
 pub sum_of_cells : (f : Car → ℕ) (l s : ℕ) (lane : Lane) → sum_by f (standing_from l s lane) ≡ total (λ x. weight f l (s + x) (at lane x)) (length lane)
 sum_of_cells f l s [] = refl
 sum_of_cells f l s (None ∷ cells) =

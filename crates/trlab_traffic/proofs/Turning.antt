@@ -17,7 +17,7 @@ greatest_same test other zero same = refl
 greatest_same test other (suc n) same =
     ap (λ (b : Bool). cond b (suc n) (largest test n)) (same (suc n)) ∙ ap (λ k. cond (other (suc n)) (suc n) k) (greatest_same test other n same)
 
--- ways over the same cells are as clear
+-- distances over equal cells are equally clear
 clear_same : (lane other : Lane) (way there : ℕ → ℕ) (g : ℕ) → ((j : ℕ) → at lane (way j) ≡ at other (there j)) → is_clear lane way g ≡ is_clear other there g
 clear_same lane other way there zero same = refl
 clear_same lane other way there (suc g) same =
@@ -44,7 +44,7 @@ length-turned r lane = length-map-range_with_len (λ x. at lane (ahead (length l
 pub turned_at : (r : ℕ) (lane : Lane) (x : ℕ) → x < length lane → at (rotate_lane r lane) x ≡ at lane (ahead (length lane) x r)
 turned_at r lane x low = get_or-map-range_with_len (λ y. at lane (ahead (length lane) y r)) 0 (length lane) x x None low (let e : 0 + x ≡ x = omega arith in e)
 
--- what stood where a car is seen
+-- the cell that a car of the rotated lane has on the original lane
 pub turned_car : (r : ℕ) (lane : Lane) (x : ℕ) (car : ℕ × ℕ) → at (rotate_lane r lane) x ≡ Some car → x < length lane
 turned_car r lane x car here = subst (λ n. x < n) (length-turned r lane) (inside (rotate_lane r lane) x car here)
 
@@ -71,7 +71,7 @@ lane_turned_more a b lane =
 abbrev made : ℕ → List Lane → Cells
 made limit lanes = record { limit = limit; lanes = lanes }
 
--- roads of one limit with the same lanes are one
+-- roads with the same limit and the same lanes are equal
 pub same_road : (road other : Cells) → road.limit ≡ other.limit → length road.lanes ≡ length other.lanes
     → ((l : ℕ) → l < length road.lanes → lane_of road l ≡ lane_of other l) → road ≡ other
 same_road road other limit count same =
@@ -117,7 +117,7 @@ module _ (r : ℕ) (lane : Lane) (x : ℕ) (some : 0 < length lane) where
       ap (λ g. speed_in (at (rotate_lane r lane) (ahead (length (rotate_lane r lane)) x (g + 1)))) gap_turned
       ∙ ap speed_in (way_ahead (gap lane y + 1))
 
-  -- what is beside a car
+  -- the view of a car to the side
   module _ (low : x < length lane) where
     pub side_turned : side (rotate_lane r lane) x ≡ side lane y
     side_turned = ap is_none (turned_at r lane x low)

@@ -1,6 +1,7 @@
--- For a braking probability above 0 and below 1 the stationary weights are the only ones. The largest ratio of other
--- weights to them is kept by each step backwards, and so is the smallest; and steps backwards lead from every ring to the
--- one on which all cars are in the first cells, where both ratios are the same.
+-- For a braking probability above 0 and below 1 the stationary weights are the only ones. The largest ratio
+-- of other weights to them does not change under a step backwards, nor does the smallest; and steps
+-- backwards lead from every ring to the one with all cars in the first cells, for which both ratios are
+-- equal.
 use Rattle.std.proofs.Common.{◌≡◌, ◌≢◌, ◌⊎◌, ℕ, zero, suc, ◌+◌, ◌-◌, ◌*◌, ◌^◌, ◌<◌, ◌≤◌, Bool, true, false, if◌then◌else◌, [], ◌∷◌, ◌++◌, length, get_or, refl, sym, ◌∙◌, ap, subst, inl, inr, arith}
 use Rattle.std.proofs.Math.Nat.{pow-succ', pow-zero}
 use Rattle.std.proofs.lemmas.Bool.{cases_eq, cases_lt}
@@ -51,7 +52,7 @@ cancel k a b some same_product =
     let more = cancel_le k b a some (omega (arith, same_product)) in
     omega (arith, less, more)
 
--- sums of which no term is greater, and which are the same, have the same terms
+-- sums of equal value, each term of one at most that of the other, have equal terms
 rings_le : (n : ℕ) (f g : Ring → ℕ) → ((r : Ring) → length r ≡ n → f r ≤ g r) → rings n f ≤ rings n g
 rings_le zero f g less = less [] refl
 rings_le (suc n) f g less =
@@ -79,7 +80,7 @@ each_same (suc n) f g less equal (own ∷ r) long =
     pick false empty taken = empty
     pick true empty taken = taken
 
--- the greatest of all rings with m cars by a total order
+-- the largest of all rings with m cars in a total order
 module _ (Le : Ring → Ring → Type 0) (total : (a b : Ring) → Le a b ⊎ Le b a) (chain : (a b c : Ring) → Le a b → Le b c → Le a c) (whole m : ℕ) where
   record Greatest (n : ℕ) (embed : Ring → Ring) (start : Ring) : Type 0 where
     best : Ring
@@ -216,7 +217,7 @@ abbrev blank : ℕ → Ring
 blank zero = []
 blank (suc e) = false ∷ blank e
 
--- a property that each hop backwards keeps holds of the ring with all cars in the first cells
+-- a property that each hop backwards preserves holds of the ring with all cars in the first cells
 sift : (Q : Ring → Type 0) → ((a b : Ring) → Q (after_hop a b) → Q (before_hop a b)) → (m : ℕ) (rest : Ring) → Q (false ∷ row m rest) → Q (row m (false ∷ rest))
 sift Q back zero rest holds = holds
 sift Q back (suc m) rest holds = sift (λ (r : Ring). Q (true ∷ r)) (λ a b. back (true ∷ a) b) m rest (back [] (row m rest) holds)
@@ -245,7 +246,7 @@ module _ (p : ℕ) (some : 0 < p) (not_all : p < CERTAIN) where
   some_weight : (r : Ring) → 0 < stationary_weight p r
   some_weight r = some_product (p ^ (size r - free_cars r)) (CERTAIN ^ free_cars r) (some_power p (size r - free_cars r) some) (some_power CERTAIN (free_cars r) (omega (arith, not_all)))
 
-  -- a step between rings with other numbers of cars has no weight
+  -- a step between rings with different numbers of cars has no weight
   apart : (old new : Ring) → trues old ≢ trues new → step_weight p old new ≡ 0
   apart old new other =
       let e = by_new (λ k. same k (trues new)) p old new in
@@ -253,7 +254,7 @@ module _ (p : ℕ) (some : 0 < p) (not_all : p < CERTAIN) where
       let one = ap (λ k. k * step_weight p old new) (same_self (trues new)) in
       omega (arith, e, none, one)
 
-  -- a ring at which the ratio of two stationary weights is the greatest has it in common with the rings before it
+  -- if the ratio of two stationary weights is largest at a ring, it is the same at the rings before it
   module _ (u v : Ring → ℕ) (u_stays : IsStationary p u) (v_stays : IsStationary p v) where
     abbrev Top : Ring → Type 0
     Top new = (r : Ring) → length r ≡ length new → trues r ≡ trues new → u r * v new ≤ u new * v r
@@ -318,7 +319,7 @@ module _ (p : ℕ) (some : 0 < p) (not_all : p < CERTAIN) where
         shuffle : (fa wa fb wb fc wc : ℕ) → fa * wb * wc ≤ fb * wa * wc → fb * wc * wa ≤ fc * wb * wa → fa * wc * wb ≤ fc * wa * wb
         shuffle fa wa fb wb fc wc x y = omega (arith, x, y)
 
-    -- no ring with the same numbers of cells and cars has a greater ratio, or a smaller one
+    -- no ring with the same numbers of cells and cars has a larger ratio, or a smaller one
     IsHighest : Ring → Type 0
     IsHighest new = (r : Ring) → length r ≡ length new → trues r ≡ trues new → weight r * own new ≤ weight new * own r
 
@@ -351,7 +352,7 @@ module _ (p : ℕ) (some : 0 < p) (not_all : p < CERTAIN) where
         shuffle : (fr wr fo wo fn wn : ℕ) → wr * fn * wo ≤ wn * fr * wo → wo * fn * wr ≡ wn * fo * wr → wr * fo * wn ≤ wo * fr * wn
         shuffle fr wr fo wo fn wn x y = omega (arith, x, y)
 
-    -- the ring with all cars in the first cells has the highest ratio and the lowest
+    -- the ring with all cars in the first cells has the largest ratio and the smallest
     first_cells : Ring → Ring
     first_cells r = row (trues r) (blank (falses r))
 
@@ -382,7 +383,7 @@ module _ (p : ℕ) (some : 0 < p) (not_all : p < CERTAIN) where
         turn : (a b c d : ℕ) → a * b ≤ c * d → b * a ≤ d * c
         turn a b c d h = omega (arith, h)
 
-    -- so each ring has the ratio of this one
+    -- so each ring has the ratio of this ring
     ratio : (r : Ring) → length r ≡ length (first_cells r) → trues r ≡ trues (first_cells r) → weight r * own (first_cells r) ≡ weight (first_cells r) * own r
     unfolding IsHighest IsLowest
     ratio r long few =

@@ -1,4 +1,4 @@
--- Kinematic waves: each car of a lane that has relaxed moves at the limit, or each closes its gap.
+-- Kinematic waves: on a relaxed lane every car moves at the limit, or every car closes its gap.
 use Rattle.std.proofs.Common.{◌≡◌, ℕ, zero, suc, ◌+◌, ◌-◌, ◌*◌, ◌<◌, ◌≤◌, min, Bool, true, false, is_some, Some, None, length, refl, sym, ◌∙◌, ap, subst, inl, inr, arith, mod-eq_of_lt, mul-suc, mul_comm}
 use Rattle.std.proofs.Math.Nat.{add-mod_right, add-mul-mod_self_right}
 use Rattle.std.proofs.lemmas.Bool.{cases_lt}
@@ -30,7 +30,7 @@ use Rattle.trlab_traffic.proofs.RoomAhead.{lane_taken_or_empty}
 use Rattle.trlab_traffic.proofs.RunLanes.{run_lanes}
 use Rattle.trlab_traffic.proofs.Sums.{total, total_turned}
 
--- numbers of which none is greater than its partner, and as great all together, are the same
+-- numbers, each at most its partner, whose sum is that of their partners, are equal to them
 same_values : (f g : ℕ → ℕ) (n : ℕ) → ((x : ℕ) → x < n → f x ≤ g x) → total f n ≡ total g n → (x : ℕ) → x < n → f x ≡ g x
 same_values f g zero less all x low = absurd (omega (arith, low))
 same_values f g (suc n) less all zero low =
@@ -64,7 +64,7 @@ module _ (answer : ℕ → ℕ) (old new : Lane) (m : LaneMoves answer old new) 
       ∙ ap (total (λ y. digit (is_taken new y))) (sym m.same_length)
       ∙ taken_total new ∙ count
 
-  -- where each car goes as far
+  -- every car goes equally far
   pub all_ahead : (v : ℕ) → ((x number speed : ℕ) → at old x ≡ Some (number, speed) → answer x ≡ v) → PatternMovesAhead v old new
   all_ahead v goes = record {
     same_cells = m.same_length;
@@ -81,7 +81,7 @@ module _ (answer : ℕ → ℕ) (old new : Lane) (m : LaneMoves answer old new) 
           let most = digit_low (is_taken old x) in
           omega (arith, there, e, most)
 
-  -- where each car closes its gap
+  -- every car closes its gap
   pub all_back : ((x number speed : ℕ) → at old x ≡ Some (number, speed) → answer x ≡ gap old x) → PatternMovesBack 1 old new
   all_back goes = record {
     same_cells = m.same_length;
@@ -195,7 +195,7 @@ module _ (seed : Seed) (legal : IsLegal seed.road) (l : ℕ) (on : l < length se
   steps_of rule delay (inr (inl slow)) = subst (LaneSteps rule) (sym slow.2) (at_once_steps rule (slow_moves_by rule seed slow.0 slow.1))
   steps_of rule delay (inr (inr quick)) = subst (LaneSteps rule) (sym quick.1) (at_once_steps rule (gap_moves_by rule seed quick.0))
 
-  -- that has relaxed
+  -- after it has relaxed
   relaxed_suffices : (delay step : ℕ) → LaneHasRelaxed seed delay l step → Suffices v cells count (step - delay + 1)
   relaxed_suffices delay step relaxed =
       let whole = lane_taken_or_empty (lane_of seed.road l) in
@@ -228,7 +228,7 @@ module _ (seed : Seed) (legal : IsLegal seed.road) (l : ℕ) (on : l < length se
       let f = mul_comm (suc v) count ∙ ap (λ k. count * k) (sym e) in
       omega (arith, congested, same_size, f)
 
-  -- how its cars go
+  -- the distances of its cars
   go_by_limit : (delay step : ℕ) (old new : Cells) (s : LaneStep delay step old new) → LaneHasRelaxed seed delay l step → IsDilute v (lane_of seed.road l)
       → (x number speed : ℕ) → at (lane_of old l) x ≡ Some (number, speed) → s.answer x ≡ v
   go_by_limit delay step old new s relaxed dilute =
@@ -332,7 +332,7 @@ pattern_is_periodic rule seed delay step old new l x is legal on relaxed roads l
           sym (ap (is_taken (lane_of new l)) (ap (λ j. ahead j x (v * n)) same ∙ add-mul-mod_self_right x v n ∙ mod-eq_of_lt low)) ∙ on_ahead.moved x here
     ]
 
--- one step on a road by itself
+-- one step of a single road
 next_step : (seed : Seed) (rule : Programs) (step : ℕ) (new : Cells) → IsRoadAt seed (always rule) (step + 1) new → IsRoadAt seed (always rule) (suc step) new
 next_step seed rule step new there = let e : step + 1 ≡ suc step = omega arith in subst (λ k. IsRoadAt seed (always rule) k new) e there
 

@@ -1,4 +1,4 @@
--- With the limit 1 and without randomization cells are taken by rule 184.
+-- With v_max = 1 and without randomization the taken cells follow rule 184.
 use Rattle.std.proofs.Common.{◌≡◌, ℕ, zero, suc, ◌+◌, ◌-◌, ◌%◌, ◌<◌, ◌≤◌, not, min, true, false, Some, None, length, is_some, refl, sym, ◌∙◌, ap, subst, inl, inr, arith}
 use Rattle.std.proofs.Math.Nat.{add-mod_right, mod-eq_of_lt, mod_self}
 use Rattle.std.proofs.lemmas.Bool.{cases_lt}
@@ -61,7 +61,7 @@ gap_none lane x next there =
       | inr none ↦ omega (arith, none)
     ]
 
--- and one in front of an empty cell has one
+-- and a car in front of an empty cell has one
 pub gap_some : (lane : Lane) (x : ℕ) (car : ℕ × ℕ) → at lane x ≡ Some car → at lane (ahead (length lane) x 1) ≡ None → 1 ≤ gap lane x
 gap_some lane x car here free =
     let low = inside lane x car here in
@@ -113,7 +113,7 @@ module _ (answer : ℕ → ℕ) (old new : Lane) (m : LaneMoves answer old new)
           let came = m.nothing_else y car.0 car.1 is in
           absurd (none came.0 car.0 came.1.0 came.1.1.was (sym came.1.1.reaches))
 
-  -- a car leaves its cell where the next one is empty, and no other comes
+  -- a car leaves its cell if the next one is empty, and no other car comes
   leaves : (y : ℕ) (car : ℕ × ℕ) → at old y ≡ Some car → at old (ahead (length old) y 1) ≡ None → is_some (at new y) ≡ false
   leaves y car here free = left_empty y (λ x number speed there reach.
       elim (cases_lt 0 (gap old x)) [
@@ -165,11 +165,11 @@ module _ (answer : ℕ → ℕ) (old new : Lane) (m : LaneMoves answer old new)
   pub by_184 : IsElementaryStep 184 old new
   by_184 y low = by_cells y (at old (behind (length old) y 1)) (at old y) (at old (ahead (length old) y 1)) low refl refl refl
 
--- the speed by the limit 1
+-- the speed if v_max is 1
 slow : (speed gap : ℕ) → min (min (speed + 1) 1) gap ≡ min 1 gap
 slow speed gap = omega arith
 
--- the speeds of a safe motion with the limit 1
+-- the speeds of a safe motion if v_max is 1
 slow_speeds : (old new : Cells) (motion : SafeMotion old new) → old.limit ≡ 1
     → (l x number speed : ℕ) → cell old l x ≡ Some (number, speed) → motion.speeds l x ≡ min 1 (gap (lane_of old l) x)
 slow_speeds old new motion one l x number speed here =

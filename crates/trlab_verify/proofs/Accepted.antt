@@ -1,4 +1,4 @@
--- What is accepted is of its kind, and its control goes forward.
+-- An accepted program is of its kind, and its control only goes forward.
 use Rattle.std.proofs.Common.{◌≡◌, ℕ, zero, suc, ◌<◌, ◌&&◌, refl, arith, inl, inr, List, length, Bool, true, false, IsTrue, Option, Some, None, nat_eq, nat_le}
 use Rattle.std.specs.Prelude.{slice_get}
 use Rattle.std.proofs.lemmas.Bool.{eqb-true, leb-false}
@@ -26,7 +26,7 @@ all_clear kind program accepted pc i e =
     let (m, em, h) = noted kind program pc i e (accepted pc (slice_get_within program.instrs pc i e)) in
     (m, clear kind program.kind (length program.instrs) pc m i h)
 
--- an end is allowed in programs of one kind alone
+-- an end is allowed only in programs of one kind
 end_kind : (kind own : Kind) (i : Instr) → is_end i ≡ true → is_of_kind kind own i ≡ true → own ≡ kind
 end_kind Motion Motion i e h = refl
 end_kind Change Change i e h = refl
@@ -68,7 +68,7 @@ next_ahead true len pc q h b e =
     let below : suc pc < len = leb-false len (suc pc) h in
     (omega arith, omega arith)
 
--- control goes forward in an accepted program
+-- control only goes forward in an accepted program
 pub forward : (kind : Kind) (program : Program) → IsAccepted kind program → IsForward program.instrs
 forward kind program accepted pc q (i, e, h) =
     let (m, c) = all_clear kind program accepted pc i e in
@@ -77,7 +77,7 @@ forward kind program accepted pc q (i, e, h) =
       | inr jumps ↦ target_ahead (target i) (length program.instrs) pc q c.forward c.within jumps
     ]
 
--- an accepted program with its longest way is a checked program
+-- an accepted program with its longest path is a checked program
 pub checked : (kind : Kind) (program : Program) (budget : ℕ) → IsValidProgram program → IsAccepted kind program →
     IsLongest program.instrs 0 budget → IsChecked kind (record { program = program; budget = budget })
 checked kind program budget is accepted longest = record {

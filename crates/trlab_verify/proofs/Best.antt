@@ -1,4 +1,4 @@
--- Where some table of notes checks, the notes of the verdict are at least as strong, and the program is
+-- If some table of notes checks, the notes of the verdict are at least as strong, and the program is
 -- accepted.
 use Rattle.std.proofs.Common.{◌≡◌, ℕ, zero, suc, ◌<◌, ◌≤◌, ◌&&◌, refl, sym, subst, arith, inl, inr, List, length, Bool, true, false, Option, Some, None, nat_eq}
 use Rattle.std.specs.Prelude.{slice_get, IfSome}
@@ -27,7 +27,7 @@ use Rattle.trlab_verify.proofs.Verdicts.{tested}
 use Rattle.trlab_verify.proofs.Ways.{either_of, both_of}
 
 module _ (V : Variable → Type 0) (closed : Closed V) where
-  -- what has come in is no weaker than t
+  -- the incoming note is no weaker than t
   abbrev Keeps : Note → Option Note → Type 0
   Keeps t o = IfSome o (On V t)
 
@@ -57,7 +57,7 @@ module _ (V : Variable → Type 0) (closed : Closed V) where
   abbrev pub Best : Kind → List Instr → (ℕ → Note) → ℕ → Type 0
   Best kind code note pc = (n : Note) × (note_at kind code pc ≡ Some n) × On V (note pc) n
 
--- something has come in
+-- there is an incoming note
 abbrev IsThere : Option Note → Type 0
 IsThere o = (n : Note) × (o ≡ Some n)
 
@@ -121,7 +121,7 @@ module _ (V : Variable → Type 0) (closed : Closed V) (kind : Kind) (code : Lis
         (keeps_edge V closed (note q) (incoming kind code k q) (next_note_to k n i q) (keeps k (omega arith)) (keeps_here V closed (note q) (nat_eq q (suc k)) (next_note (note k) i) (next_note n i) (fall_up V closed (note k) n f i (checks.sees k i (omega arith) e) (checks.set k i (omega arith) e) (checks.kinds k i (omega arith) e)) (fall_kept k i e (nat_eq q (suc k)) refl)))
         (keeps_here V closed (note q) (is_target (target i) q) (Some (jump_note (note k) i)) (Some (jump_note n i)) (jump_up V closed (note k) n f i) (jump_kept k i (omega arith) e (target i) refl (is_target (target i) q) refl)))
 
-    -- what has come in stays
+    -- an incoming note remains
     stays : (p k : ℕ) → p ≤ k → IsThere (incoming kind code p q) → IsThere (incoming kind code k q)
     stays p zero le h = let e : p ≡ zero = omega arith in subst (λ z. IsThere (incoming kind code z q)) e h
     stays p (suc k) le h =
@@ -165,7 +165,7 @@ module _ (kind : Kind) (program : Program) (note : ℕ → Note) (checks : Check
   pub no_fault : (pc : ℕ) (i : Instr) → slice_get code pc ≡ Some i → IsClear kind program.kind (length code) pc (note pc) i
   no_fault pc i e = clear kind program.kind (length code) pc (note pc) i (checks.each pc i e).clear
 
-  -- control goes forward
+  -- control only goes forward
   pub ahead : (pc q : ℕ) → Follows code pc q → (pc < q) × (q < length code)
   ahead pc q (i, e, h) =
       let c = no_fault pc i e in

@@ -1,4 +1,4 @@
--- Tables that check, told by the note at each pc.
+-- Tables that check, as functions from a pc to its note.
 use Rattle.std.proofs.Common.{◌≡◌, ℕ, suc, ◌<◌, subst, List, length, Some, None}
 use Rattle.std.specs.Prelude.{slice_get, IfSome}
 use Rattle.std.proofs.lemmas.Option.{slice_get_within}

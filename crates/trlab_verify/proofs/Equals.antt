@@ -1,4 +1,4 @@
--- Programs are one where their kinds and instructions are.
+-- Programs are equal if their kinds and instructions are equal.
 use Rattle.std.proofs.Common.{◌≡◌}
 use Rattle.trlab_code.specs.Program.{Program}
 

@@ -1,4 +1,4 @@
--- The notes of a refused program, up to where the verdict ends.
+-- The notes of a rejected program, up to the instruction at which the verdict rejects it.
 use Rattle.std.proofs.Common.{◌≡◌, ◌≢◌, ◌∙◌, ℕ, zero, suc, ◌<◌, ◌≤◌, ◌+◌, ap, arith, sym, subst, refl, length, true, false, Bool, List, Option, Some, None, nat_eq, inl, inr}
 use Rattle.std.specs.Prelude.{IfSome}
 use Rattle.std.proofs.lemmas.Bool.{eqb-false, cases_lt}
@@ -16,7 +16,7 @@ use Rattle.trlab_verify.proofs.Reasons.{noted}
 use Rattle.trlab_verify.proofs.Runs.{fetch}
 use Rattle.trlab_verify.proofs.Verdicts.{incoming_settled, unreached}
 
--- an instruction that is refused for another reason than the first has a note
+-- an instruction that is rejected for a reason other than the first has a note
 module _ (kind : Kind) (program : Program) (at reason : ℕ) (refused : IsRefused kind program at reason) where
   reached : (o : Option Note) → note_at kind program.instrs at ≡ o → reason ≢ 1 → (n : Note) × (note_at kind program.instrs at ≡ Some n)
   reached None e other =
@@ -49,7 +49,7 @@ module _ (kind : Kind) (program : Program) (at reason : ℕ) (refused : IsRefuse
   pub has_note : (pc : ℕ) → pc < noted_count at reason → (pc ≤ at) × ((n : Note) × (note_at kind program.instrs pc ≡ Some n))
   has_note pc lt = has_note_by (nat_eq reason 1) refl pc lt
 
-  -- what is stored for it, and what that says of the inputs
+  -- the note that is stored for it, and its ranges of the inputs
   pub stored_note : (stored : ℕ → Option Note) → ((q : ℕ) → q ≤ at → stored q ≡ maybe_closure (note_at kind program.instrs q))
       → (pc : ℕ) → pc < noted_count at reason → (n : Note) × (stored pc ≡ Some n) × HasInputRanges kind n
   stored_note stored h pc lt =
@@ -57,7 +57,7 @@ module _ (kind : Kind) (program : Program) (at reason : ℕ) (refused : IsRefuse
       let (n, en) = there in
       (closure n, h pc le ∙ ap maybe_closure en, closure_shows kind n (subst (λ z. IfSome z (HasInputRanges kind)) en (incoming_shows kind program.instrs pc pc)))
 
-  -- the notes that are handed out are the first ones
+  -- the notes that are returned are the first ones
   pub first_notes : (stored : ℕ → Option Note) (notes : List Form) → ((q : ℕ) → q ≤ at → stored q ≡ maybe_closure (note_at kind program.instrs q))
       → length notes ≡ noted_count at reason → (0 < noted_count at reason → meaning_at kind notes 0 ≡ entry kind)
       → ((pc : ℕ) → 0 < pc → pc < noted_count at reason → stored pc ≡ Some (meaning_at kind notes pc))

@@ -1,4 +1,4 @@
--- What the tests of a table in its form show.
+-- The tests of a table in its form, and their consequences.
 use Rattle.std.proofs.Common.{◌≡◌, ℕ, suc, ◌<◌, ◌≤◌, ap, refl, sym, subst, List, length, Option, Some, None, ◌∙◌, get_or}
 use Rattle.std.specs.Prelude.{slice_get, IfSome}
 use Rattle.trlab_code.specs.declared.program.Kind.{Kind}
@@ -34,7 +34,7 @@ pub record Shown (kind : Kind) (code : List Instr) (len : ℕ) (note : ℕ → N
   pub falls : suc pc < len → IfSome (next_note m i) (IsNoStronger (note (suc pc)))
   pub jumps : (t : ℕ) → target i ≡ Some t → t < len → IsNoStronger (note t) (jump_note m i)
 
--- the levels of the note that a form means are those that its variables and its table give
+-- the levels of the note that a form means are those of its variables and its table
 module _ (kind : Kind) (form : Form) (values : List AbstractValue) (h : (x : Variable) → value_in values x ≡ form_value kind form x) where
   form_known : (x y : Variable) → known_level (meaning kind form) x y ≡ known_level_from values (variable_number x) (variable_number y) (level_at form.levels (variable_number x) (variable_number y))
   form_known x y =
@@ -49,11 +49,11 @@ module _ (kind : Kind) (form : Form) (values : List AbstractValue) (h : (x : Var
   pub levels_above : AreValidLevels values form.levels → HasValidLevels (meaning kind form)
   levels_above f x y = subst (λ k. k ≤ 2) (sym (form_known x y)) (f (variable_number x) (variable_number y) (below x) (below y))
 
-  -- the note that is stored is the closure of what the form means
+  -- the note that is stored is the closure of the note that the form means
   pub read_is : closure (record { values = value_in values; level = levels_in form.levels; side = form.side }) ≡ closure (meaning kind form)
   read_is = ap closure (note_same (record { values = value_in values; level = levels_in form.levels; side = form.side }) (meaning kind form) (fun_ext h) refl refl)
 
--- what a form says, by the numbers of the variables
+-- the abstract values of a form, by the numbers of the variables
 pub form_says : (kind : Kind) (form : Form) (values : List AbstractValue) → ((x : ℕ) → x < 8 → mark_value (get_or form.regs x Unset) ≡ get_or values x Nothing) →
     ((k : Input) → value_in values (variable.Input k) ≡ entry_values kind (variable.Input k)) → (x : Variable) → form_value kind form x ≡ value_in values x
 form_says kind form values h k (variable.Register r) = h (register_number r) (register_below r)
@@ -79,7 +79,7 @@ over_settled m n h = through m (closure m) n (settled_more m) h
 pub over_note : (m n : Note) → IsNoStronger m n → IsNoStronger (closure m) n
 over_note m n h = through (closure m) m n (settled_less m) h
 
--- the same for what may be sent
+-- the same for a note that may be missing
 pub sent_same : (l : Note) (d e : Option Note) → maybe_closure d ≡ maybe_closure e → IfSome d (IsNoStronger l) → IfSome e (IsNoStronger l)
 sent_same l None None h f = tt
 sent_same l None (Some n) h f = absurd (cc h)
@@ -90,7 +90,7 @@ sent_same l (Some m) (Some n) h f =
     some_is : (a b : Note) → Some a ≡ Some b → a ≡ b
     some_is a b e = cc e
 
--- what is kept of what is sent
+-- if a form's note is no stronger than the closure of a sent note, it is no stronger than the note
 pub sent_in : (l : Note) (o : Option Note) (n : Note) → Some n ≡ maybe_closure o → IsNoStronger l n → IfSome o (IsNoStronger l)
 sent_in l None n h f = absurd (cc h)
 sent_in l (Some m) n h f = under_settled l m (subst (IsNoStronger l) (some_noted n (closure m) h) f)

@@ -1,4 +1,4 @@
--- The notes say of the inputs what the start says.
+-- The notes have the same ranges of the inputs as the entry note.
 use Rattle.std.proofs.Common.{◌≡◌, ℕ, zero, suc, ◌+◌, ◌<◌, min, max, refl, sym, subst, arith, List, Bool, true, false, Option, Some, None, nat_eq}
 use Rattle.std.specs.Prelude.{slice_get, IfSome}
 use Rattle.trlab_code.specs.declared.program.Kind.{Kind}

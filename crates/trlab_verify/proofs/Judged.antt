@@ -1,4 +1,4 @@
--- Each program is refused, or it is accepted and has a longest way, with which it is a checked program.
+-- Each program is rejected, or it is accepted and has a longest path, and with it is a checked program.
 use Rattle.std.proofs.Common.{◌≡◌, ℕ, zero, suc, ◌+◌, ◌<◌, ◌≤◌, ◌⊎◌, inl, inr, refl, arith, max, cond, length, List, Option, Some, None, subst}
 use Rattle.std.specs.Prelude.{slice_get}
 use Rattle.std.proofs.lemmas.Bool.{cases_lt}
@@ -18,7 +18,7 @@ module _ (kind : Kind) (program : Program) where
   abbrev Refused : Type 0
   Refused = (at : ℕ) × (reason : ℕ) × IsRefused kind program at reason
 
-  -- as far as n no instruction has a fault, or the program is refused
+  -- no instruction up to n has a fault, or the program is rejected
   judged : (n : ℕ) → n ≤ length program.instrs → ((pc : ℕ) → pc < n → reason_number_at kind program pc ≡ None) ⊎ Refused
   judged zero le = inl (λ pc lt. absurd (omega arith))
   judged (suc n) le = elim (judged n (omega arith)) [
@@ -37,18 +37,18 @@ module _ (kind : Kind) (program : Program) where
   pub accepted_or_refused : IsAccepted kind program ⊎ ((at : ℕ) × (reason : ℕ) × IsRefused kind program at reason)
   accepted_or_refused = judged (length program.instrs) (omega arith)
 
--- an instruction stands at each place of the code
+-- each place of the code has an instruction
 none_within : (code : List Instr) (pc : ℕ) → pc < length code → slice_get code pc ≡ None → ⊥
 none_within code pc within e = let stands = slice_get-get_or code pc Stay within in cc
 
--- the longest way from pc, where an instruction stands there, by those from the instructions after it
+-- the longest path from pc, if an instruction is there, from the longest paths of the instructions after it
 longest_here : (code : List Instr) (pc : ℕ) (longest : ℕ → ℕ) (o : Option Instr) → slice_get code pc ≡ o
     → (n : ℕ) × (pc < length code → ((q : ℕ) → Follows code pc q → IsLongest code q (longest q)) → IsLongest code pc n)
 longest_here code pc longest None e = (0, λ within later. absurd (none_within code pc within e))
 longest_here code pc longest (Some i) e =
     (suc (max (cond (falls i) (longest (suc pc)) 0) (of_target longest (target i))), λ within later. longest_is code pc i longest e later)
 
--- the longest way from pc, where pc is one of the last k places of a code whose control goes forward
+-- the longest path from pc, for one of the last k places of a code whose control only goes forward
 longest_of_last : (code : List Instr) → IsForward code → (k pc : ℕ)
     → (n : ℕ) × (pc < length code → length code ≤ pc + k → IsLongest code pc n)
 longest_of_last code forward zero pc = (0, λ within last. absurd (omega arith))
@@ -57,7 +57,7 @@ longest_of_last code forward (suc k) pc =
     let here = longest_here code pc (λ q. (behind q).0) (slice_get code pc) refl in
     (here.0, λ within last. here.1 within (λ q follows. let ahead = forward pc q follows in (behind q).1 ahead.1 (omega (arith, ahead.0))))
 
--- a program that is accepted has a longest way, with which it is a checked program
+-- an accepted program has a longest path, and with it is a checked program
 pub some_budget : (kind : Kind) (program : Program) → IsValidProgram program → IsAccepted kind program
     → (budget : ℕ) × IsChecked kind (record { program = program; budget = budget })
 some_budget kind program is accepted =

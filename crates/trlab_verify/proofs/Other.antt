@@ -1,4 +1,4 @@
--- A program with a table that checks is refused, called as one of the other kind, for its kind alone.
+-- A program with a table that checks is rejected as a program of the other kind only because of its kind.
 use Rattle.std.proofs.Common.{◌≡◌, ℕ, suc, ◌<◌, ◌≤◌, refl, cond, ◌∙◌, ap, sym, subst, arith, List, length, Bool, true, false, Option, Some, None}
 use Rattle.std.specs.Prelude.{slice_get, IfSome}
 use Rattle.trlab_code.specs.declared.program.Kind.{Kind}
@@ -29,7 +29,7 @@ use Rattle.trlab_verify.proofs.Reasons.{noted}
 use Rattle.trlab_verify.proofs.Runs.{fetch}
 use Rattle.trlab_verify.proofs.Best.{Below, all_best, no_fault, ahead}
 
--- the variables that programs of both kinds see
+-- the variables that programs of both kinds may read
 abbrev Both : Variable → Type 0
 Both (variable.Register r) = Unit {0}
 Both (variable.Input k) = allows_input Motion k ≡ true
@@ -37,7 +37,7 @@ Both (variable.Input k) = allows_input Motion k ≡ true
 both_closed : Closed Both
 both_closed = record { regs = λ r. tt; limit = refl; gap = refl }
 
--- what may stand in programs of both kinds reads what both see
+-- an instruction that may appear in programs of both kinds reads variables that both may read
 reaches : (kind own : Kind) (i : Instr) → (kind ≡ own → ⊥) → is_of_kind kind own i ≡ true → Reaches Both both_closed i
 reaches Motion own (Get d Speed) ne h = refl
 reaches Motion own (Get d Limit) ne h = refl
@@ -82,7 +82,7 @@ if_both : (t : Note) (o : Option Note) → IfSome o (IsNoStronger t) → IfSome 
 if_both t None h = h
 if_both t (Some n) h = on_both t n h
 
--- the first reason that holds is the kind, where all others fail
+-- if all other reasons fail, the first reason that holds is the kind
 kind_first : (b : Bool) (rest : Option Reason) (r : Reason) → cond b (Some WrongProgram) rest ≡ Some r →
     (b ≡ false → cond b (Some WrongProgram) rest ≡ None) → r ≡ WrongProgram
 kind_first true rest r h f = sym (some_is WrongProgram r h)

@@ -1,4 +1,4 @@
--- The reasons for which programs are refused are numbered from 1 on.
+-- The reasons to reject a program are numbered from 1 on.
 use Rattle.std.proofs.Common.{◌≡◌, ℕ, ◌≤◌, subst, arith}
 use Rattle.std.specs.Prelude.{Option, None, Some}
 use Rattle.std.specs.Option.{option_map}

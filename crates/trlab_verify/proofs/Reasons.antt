@@ -1,4 +1,4 @@
--- Where an instruction has no fault, its note has no reason against it.
+-- No reason holds against the note of an instruction without a fault.
 use Rattle.std.proofs.Common.{◌≡◌, ℕ, refl, subst, length, Option, Some, None}
 use Rattle.std.specs.Prelude.{slice_get}
 use Rattle.std.specs.Option.{option_map}

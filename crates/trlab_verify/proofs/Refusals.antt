@@ -1,4 +1,4 @@
--- Where a program is refused no table of notes checks.
+-- No table of notes checks for a rejected program.
 use Rattle.std.proofs.Common.{◌≡◌, ◌≢◌, ◌∙◌, ◌⊎◌, ℕ, refl, sym, subst, inl, inr, Option, Some, None}
 use Rattle.trlab_code.specs.declared.program.Kind.{Kind}
 use Rattle.trlab_code.specs.declared.program.Kind.TheVariants.{Motion, Change}
@@ -12,7 +12,7 @@ use Rattle.trlab_verify.proofs.Other.{other_kind}
 none_and_some : (o : Option ℕ) (r : ℕ) → o ≡ None → o ≡ Some r → ⊥
 none_and_some o r e f = cc (sym e ∙ f)
 
--- none for the kind that it was called as
+-- none for the kind as which it was verified
 pub called : (kind : Kind) (program : Program) (at reason : ℕ) → IsRefused kind program at reason → ¬ (HasCertificate kind program)
 called kind program at reason refused (table, h) =
     none_and_some _ reason (accepted kind program (note_in table) (by_notes kind program table h) at refused.within) refused.here

@@ -1,4 +1,4 @@
--- A program with no fault ends on each view and all words, within its longest way.
+-- A program without a fault ends for each view and all random words, within its longest path.
 use Rattle.std.proofs.Common.{◌≡◌, ℕ, zero, suc, ◌+◌, ◌<◌, ◌≤◌, ◌&&◌, refl, sym, subst, arith, ◌∙◌, inl, inr, List, [], ◌∷◌, length, Bool, true, false, Option, Some, None, nat_eq, nat_le, cond}
 use Rattle.std.specs.Prelude.{slice_get}
 use Rattle.std.proofs.lemmas.Bool.{eq-eqb, leb-false, cases_lt}
@@ -33,7 +33,7 @@ use Rattle.trlab_notes.proofs.Fits.{number_is, Fits, FitsSaid, Ahead, joined_lef
 use Rattle.trlab_notes.proofs.Steps.{Leads, IsClear, clear, leads, not_false, kind_allows}
 use Rattle.trlab_verify.proofs.Ways.{either_left, either_right}
 
--- some note has come in that the values fit
+-- there is an incoming note that fits the values
 abbrev pub Covers : Bool → Store → Option Note → Type 0
 Covers side s note = (n : Note) × (note ≡ Some n) × Fits side n s
 
@@ -56,7 +56,7 @@ covers_edges side s pc None i q old h = h
 covers_edges side s pc (Some m) None q old h = h
 
 module _ (kind : Kind) (code : List Instr) where
-  -- what has come in stays as further notes come in
+  -- an incoming note still fits after further notes have joined it
   later : (side : Bool) (s : Store) (q n k : ℕ) → n ≤ k → Covers side s (incoming kind code n q) →
       Covers side s (incoming kind code k q)
   later side s q n zero le h = let e : n ≡ zero = omega arith in subst (λ z. Covers side s (incoming kind code z q)) e h
@@ -66,7 +66,7 @@ module _ (kind : Kind) (code : List Instr) where
         | inr ge ↦ covers_edges side s k (incoming kind code k k) (slice_get code k) q (incoming kind code k q) (later side s q n k ge h)
       ]
 
-  -- the notes on the ways of an instruction come to where they lead
+  -- the notes that an instruction sends on are part of the incoming notes of their targets
   fall_covers : (side : Bool) (s : Store) (pc : ℕ) (m : Note) (i : Instr) (next : Note) →
       note_at kind code pc ≡ Some m → slice_get code pc ≡ Some i → next_note m i ≡ Some next → Fits side next s →
       Covers side s (note_at kind code (suc pc))
@@ -101,7 +101,7 @@ fetch (i ∷ code) zero h = (i, refl)
 fetch (i ∷ code) (suc pc) h = fetch code pc (omega arith)
 
 module _ (kind own : Kind) (code : List Instr) (accepted : IsAccepted kind (record { kind = own; instrs = code })) (view : View) (words : List ℕ) where
-  -- the run from pc with the values s ends after as many steps as some way from pc has
+  -- the run from pc with the values s ends after the number of steps of some path from pc
   abbrev RunsFrom : ℕ → Store → Type 0
   RunsFrom pc s = (answer : Answer) × (n : ℕ) × EndsFrom kind code view words (At pc s) answer (suc n) × HasPath code pc (suc n)
 
@@ -156,7 +156,7 @@ module _ (kind own : Kind) (code : List Instr) (accepted : IsAccepted kind (reco
       some_note : (a b : Note) → Some a ≡ Some b → a ≡ b
       some_note a b e = cc e
 
--- what a car sees by an input is in its range
+-- an input of a car's view is in its range
 input_fits : (view : View) → IsViewInRange view → (k : Input) → FitsSaid view.side (input_range k) (Number (seen view k))
 input_fits view h Speed = (omega arith, omega (arith, h.speed, h.limit))
 input_fits view h Limit = (h.some_limit, h.limit)
@@ -179,7 +179,7 @@ variable_fits kind view h (variable.Input k) = allowed_fits view.side (allows_in
 at_limit : (v limit m n : ℕ) → v ≤ limit → Number v ≡ Number m → Number limit ≡ Number n → Ahead 1 m n
 at_limit v limit m n h vx vy = let e = number_is v m vx in let f = number_is limit n vy in λ _. omega (arith, e, f, h)
 
--- the speed and that of the car ahead are at most the limit
+-- the speed and the speed of the car ahead are at most the limit
 level_fits : (kind : Kind) (view : View) → IsViewInRange view → (x y : Variable) (m n : ℕ) → start kind view x ≡ Number m → start kind view y ≡ Number n →
     Ahead (entry_level x y) m n
 unfolding start
@@ -194,14 +194,14 @@ entry_fits : (kind : Kind) (view : View) → IsViewInRange view → Fits view.si
 unfolding entry
 entry_fits kind view h = fits_from view.side (entry kind) (start kind view) (variable_fits kind view h) (level_fits kind view h) (λ e. absurd (cc e))
 
--- a way begins inside the code
+-- a path begins inside the code
 way_inside : (code : List Instr) (n : ℕ) → HasPath code 0 n → 1 ≤ length code
 way_inside [] zero w = absurd w
 way_inside [] (suc zero) (i, e, end) = absurd (cc e)
 way_inside [] (suc (suc n)) (q, (i, e, follows), rest) = absurd (cc e)
 way_inside (i ∷ code) n w = omega arith
 
--- what is accepted is safe within its longest way
+-- an accepted program is safe within its longest path
 pub sound : (kind : Kind) (program : Program) (budget : ℕ) → IsAccepted kind program →
     IsLongest program.instrs 0 budget → IsSafe kind program.instrs budget
 sound kind program budget accepted longest view words legal sixteen =

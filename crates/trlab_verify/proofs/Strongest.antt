@@ -11,7 +11,7 @@ use Rattle.trlab_verify.specs.Incoming.{add_note, add_notes, if_here, next_note_
 use Rattle.trlab_verify.proofs.VerdictChecks.{Under, under_old, under_new, under_edges}
 
 module _ (kind : Kind) (code : List Instr) (q : ℕ) where
-  -- what has come in is no stronger than what was sent
+  -- the incoming note is no stronger than each note that was sent
   start_under : (b : Bool) → nat_eq q 0 ≡ b → q ≡ 0 → Under (entry kind) (if_here b (Some (entry kind)))
   start_under true e z = (entry kind, refl, same_note (entry kind))
   start_under false e z = absurd (cc (sym (eq-eqb q 0 z), e))
@@ -34,7 +34,7 @@ module _ (kind : Kind) (code : List Instr) (q : ℕ) where
         | inr jumps ↦ rw jumps (under_new n (add_note (incoming kind code k q) (next_note_to k s.before s.instr q)))
       ])
 
-  -- and no weaker than a note that is no stronger than all that was sent
+  -- and no weaker than a note that is no stronger than any note that was sent
   over_edge : (l : Note) (old new : Option Note) → IfSome old (IsNoStronger l) → IfSome new (IsNoStronger l) → IfSome (add_note old new) (IsNoStronger l)
   over_edge l old None h k = h
   over_edge l None (Some n) h k = join_most l n n k k

@@ -25,7 +25,7 @@ use Rattle.trlab_verify.proofs.Reasons.{noted as noted_at}
 use Rattle.trlab_verify.proofs.Runs.{falls_where, fetch}
 use Rattle.trlab_verify.proofs.Ways.{either_left, either_right}
 
--- a note, or the other where there is none
+-- a note that may be missing, or another one in that case
 abbrev note_or : Note → Option Note → Note
 note_or other None = other
 note_or other (Some note) = note
@@ -34,7 +34,7 @@ note_or other (Some note) = note
 abbrev pub verdict_note : Kind → Program → ℕ → Note
 verdict_note kind program pc = note_or (entry kind) (note_at kind program.instrs pc)
 
--- some note has come in that is no stronger than n
+-- there is an incoming note that is no stronger than n
 abbrev pub Under : Note → Option Note → Type 0
 Under n o = (m : Note) × (o ≡ Some m) × IsNoStronger m n
 
@@ -55,7 +55,7 @@ under_edges n pc (Some m) (Some i) q old h = under_old n (add_note old (next_not
 under_edges n pc None i q old h = h
 under_edges n pc (Some m) None q old h = h
 
--- what comes in from pc to q
+-- the note that is sent from pc to q
 abbrev Sent : List Instr → ℕ → ℕ → Type 0
 Sent code n q = (pc : ℕ) × Follows code pc q
 
@@ -104,7 +104,7 @@ module _ (kind : Kind) (program : Program) (accepted : IsAccepted kind program) 
         ahead (Some t) f e = let same : q ≡ t = eqb-true q t e in let l : pc < t = leb-false t pc f in omega arith
         ahead None f e = absurd (cc e)
 
-  -- what has come to q was sent there
+  -- each incoming note of q was sent there
   sent_edges : (k q : ℕ) (note : Option Note) (i : Option Instr) (old : Option Note) (m : Note) → slice_get code k ≡ i →
       add_notes k note i q old ≡ Some m → ((n : Note) → old ≡ Some n → Sent code k q) → Sent code (suc k) q
   sent_edges k q None i old m ei e h = h m e

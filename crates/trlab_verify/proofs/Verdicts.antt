@@ -1,4 +1,4 @@
--- What one turn of the verdict shows.
+-- The facts that one pass of the verdict's loop establishes.
 use Rattle.std.proofs.Common.{◌≡◌, ℕ, zero, suc, ◌<◌, ◌≤◌, refl, sym, ap, subst, arith, nat_le, List, length, Bool, true, false, Option, Some, None, nat_eq, cond, get_or, ◌∙◌, get_or-set_other, get_or-set_same}
 use Rattle.std.specs.Prelude.{slice_get, slice_set}
 use Rattle.std.proofs.lemmas.Bool.{eqb-true, eqb-false, leb-false}
@@ -26,7 +26,7 @@ set_is table q o h x = at x (nat_eq x q) refl
     at x true e = let p : x ≡ q = eqb-true x q e in subst (λ z. stored_note_at (slice_set table q o) z ≡ maybe_note o) (sym p) (ap maybe_note (get_or-set_same table q o None h))
     at x false e = ap maybe_note (get_or-set_other table q x o None (eqb-false x q e))
 
--- nothing comes to pc
+-- pc has no incoming note
 pub unreached : (kind own : Kind) (code : List Instr) (pc : ℕ) → note_at kind code pc ≡ None →
     reason_number_at kind (record { kind = own; instrs = code }) pc ≡ Some 1
 unfolding reason_number_at
@@ -43,7 +43,7 @@ tested kind own code pc m i o em ei h =
     let h2 : least (Some m) (slice_get code pc) ≡ option_map reason_number o = subst (λ z. least (Some m) z ≡ option_map reason_number o) (sym ei) here in
     subst (λ z. least z (slice_get code pc) ≡ option_map reason_number o) (sym em) h2
 
--- the notes that have come in from one more instruction
+-- the incoming notes with those of one more instruction
 pub one_more : (kind : Kind) (code : List Instr) (pc q : ℕ) (m : Note) (i : Instr) (old : Option Note) →
     note_at kind code pc ≡ Some m → slice_get code pc ≡ Some i → old ≡ incoming kind code pc q →
     add_notes pc (Some m) (Some i) q old ≡ incoming kind code (suc pc) q
@@ -69,7 +69,7 @@ is_none (Some n) h = absurd (h n refl)
 some_is : (m n : Note) → Some m ≡ Some n → m ≡ n
 some_is m n e = cc e
 
--- a note with all that it knows in its levels joins as the note does
+-- a note that has all its known levels as levels joins as the note does
 comes : (old edge : Option Note) (n : Note) → maybe_closure edge ≡ Some n → add_note old (Some n) ≡ add_note old edge
 comes old None n h = absurd (cc h)
 comes None (Some k) n h =
@@ -79,7 +79,7 @@ comes (Some m) (Some k) n h =
     let e : n ≡ closure k = sym (some_is (closure k) n h) in
     ap Some (ap (join m) e ∙ joined_settled m k)
 
--- a note that comes to p is sent to q where q is p
+-- a note that is sent to p is sent to q if q is p
 pub edge_comes : (f g : ℕ → Option Note) (p q : ℕ) (n : Note) (edge : Option Note) →
     g q ≡ cond (nat_eq q p) (add_note (f p) (Some n)) (f q) → maybe_closure edge ≡ Some n → g q ≡ add_note (f q) (if_here (nat_eq q p) edge)
 edge_comes f g p q n edge e h = e ∙ at (nat_eq q p) refl
@@ -103,7 +103,7 @@ pub reason_same : (kind own : Kind) (len pc : ℕ) (m n : Note) (i : Instr) → 
 reason_same kind own len pc m n i e =
     sym (reason_settled m kind own len pc i) ∙ ap (λ z. reason_against kind own len pc z i) (sym e)
 
--- and what it sends joins as what the note sends
+-- and the notes that it sends join as the notes of the original do
 step : (old e d : Option Note) → maybe_closure d ≡ maybe_closure e → add_note (maybe_closure old) d ≡ maybe_closure (add_note old e)
 step old None None h = refl
 step old None (Some d) h = absurd (cc h)
@@ -131,7 +131,7 @@ pub one_more_kept : (kind : Kind) (code : List Instr) (pc q : ℕ) (m n : Note) 
 one_more_kept kind code pc q m n i kept em ei e h =
     (λ z. add_notes pc (Some (e z)) (Some i) q (h z)) ∙ edges_settled pc q m i (incoming kind code pc q) ∙ ap maybe_closure (one_more kind code pc q m i (incoming kind code pc q) em ei refl)
 
--- what comes to a later instruction is a join, and has all that it knows in its levels
+-- the incoming note of a later instruction is a join, and has all its known levels as levels
 join_settled : (old e : Option Note) → maybe_closure old ≡ old → maybe_closure (add_note old e) ≡ add_note old e
 join_settled old None h = h
 join_settled None (Some n) h = ap Some (join_is_settled n n)
@@ -151,7 +151,7 @@ incoming_settled kind code zero q above = at (nat_eq q 0) refl
     at false e = refl
 incoming_settled kind code (suc n) q above = edges_joined n q (incoming kind code n n) (slice_get code n) (incoming kind code n q) (incoming_settled kind code n q above)
 
--- an instruction that does not jump back sends nothing back
+-- an instruction that does not jump back sends no note back
 pub none_back : (pc q : ℕ) (m : Note) (i : Instr) (old : Option Note) → q ≤ pc → on_target (λ t. nat_le t pc) (target i) ≡ false →
     add_notes pc (Some m) (Some i) q old ≡ old
 none_back pc q m i old le f = rw (next (nat_eq q (suc pc)) refl, aimed (target i) f (is_target (target i) q) refl) refl

@@ -1,4 +1,4 @@
--- The longest way from an instruction, from the longest ways of those that may follow it.
+-- The longest path from an instruction, by the longest paths from the instructions that may follow it.
 use Rattle.std.proofs.Common.{◌≡◌, ℕ, zero, suc, ◌+◌, ◌<◌, ◌≤◌, ◌&&◌, ◌||◌, max, cond, refl, sym, ap, subst, arith, ◌⊎◌, inl, inr, List, length, Bool, true, false, IsTrue, Option, Some, None, IfSome, nat_eq, add-one, ◌∙◌}
 use Rattle.std.specs.Prelude.{slice_get}
 use Rattle.std.specs.Option.{option_map_or}
@@ -35,7 +35,7 @@ longest_step code pc (suc n) i e f q g w h = record { way = (q, g, w); most = mo
     most (suc zero) (j, d, k) = absurd (not_both i j (sym e ∙ d) f k)
     most (suc (suc m)) (r, k, v) = let l : suc m ≤ suc n = h r (suc m) k v in omega arith
 
--- the longest way from where a jump goes
+-- the longest path from the target of a jump
 abbrev pub of_target : (ℕ → ℕ) → Option ℕ → ℕ
 of_target longest t = option_map_or longest t 0
 
@@ -50,7 +50,7 @@ pub either_right : (p q : Bool) → q ≡ true → (p || q) ≡ true
 either_right true q e = refl
 either_right false q e = e
 
--- the longer of two ways is one of the two
+-- the longer of two paths is one of the two
 longer : (longest : ℕ → ℕ) (pc : ℕ) (b : Bool) (t : Option ℕ) → (b ≡ false → t ≡ None → ⊥) →
     (q : ℕ) × IsTrue (comes_after b t pc q) × (max (cond b (longest (suc pc)) 0) (of_target longest t) ≡ longest q)
 longer longest pc false None h = absurd (h refl refl)
@@ -70,7 +70,7 @@ pub both_of : (p q : Bool) → IsTrue (p && q) → (p ≡ true) × (q ≡ true)
 both_of true q h = (refl, h)
 both_of false q h = absurd (cc h)
 
--- what may follow is not longer than the longer of the two
+-- the longest path from a following instruction is at most the longer of the two
 next_at_most : (longest : ℕ → ℕ) (pc q k : ℕ) (b : Bool) → b ≡ true → q ≡ suc pc → longest q ≤ max (cond b (longest (suc pc)) 0) k
 next_at_most longest pc q k true e same = let f : longest q ≡ longest (suc pc) = ap longest same in omega arith
 next_at_most longest pc q k false e same = absurd (cc e)
@@ -88,7 +88,7 @@ at_most longest pc q b t h =
       | inr jumps ↦ target_at_most longest q (cond b (longest (suc pc)) 0) t jumps
     ]
 
--- nothing follows an end, and something follows any other instruction
+-- no instruction follows an end, and at least one follows any other instruction
 end_alone : (i : Instr) → is_end i ≡ true → (falls i ≡ false) × (target i ≡ None)
 end_alone (Go a) e = (refl, refl)
 end_alone Cross e = (refl, refl)
@@ -111,7 +111,7 @@ none_comes pc q true t e f h = cc e
 none_comes pc q false (Some t) e f h = cc f
 none_comes pc q false None e f h = cc h
 
--- the longest way from an instruction is one more than the longer one of those from what may follow
+-- the longest path from an instruction has one more instruction than the longest of those from its successors
 longest_at : (code : List Instr) (pc : ℕ) (i : Instr) (longest : ℕ → ℕ) (ends : Bool) → is_end i ≡ ends →
     slice_get code pc ≡ Some i → ((q : ℕ) → Follows code pc q → IsLongest code q (longest q)) →
     IsLongest code pc (suc (max (cond (falls i) (longest (suc pc)) 0) (of_target longest (target i))))
@@ -130,7 +130,7 @@ pub longest_is : (code : List Instr) (pc : ℕ) (i : Instr) (longest : ℕ → �
     IsLongest code pc (suc (max (cond (falls i) (longest (suc pc)) 0) (of_target longest (target i))))
 longest_is code pc i longest e later = longest_at code pc i longest (is_end i) refl e later
 
--- what may follow an instruction stands in the code
+-- the successors of an instruction are in the code
 pub next_inside : (code : List Instr) (pc : ℕ) (i : Instr) → IsForward code → slice_get code pc ≡ Some i →
     falls i ≡ true → suc pc < length code
 next_inside code pc i forward e falls_on =
@@ -145,7 +145,7 @@ pub each_some : (o : Option ℕ) (n : ℕ) → ((t : ℕ) → o ≡ Some t → t
 each_some None n h = tt
 each_some (Some t) n h = h t refl
 
--- the longest way from an instruction, as the code finds it
+-- the longest path from an instruction, as the code computes it
 pub longest_found : (code : List Instr) (pc : ℕ) (i : Instr) (longest : ℕ → ℕ) (next jump longer : ℕ) → IsForward code →
     slice_get code pc ≡ Some i → ((q : ℕ) → pc < q → q < length code → IsLongest code q (longest q)) →
     next ≡ cond (falls i) (longest (pc + 1)) 0 → jump ≡ of_target longest (target i) → longer ≡ max next jump →
@@ -156,7 +156,7 @@ longest_found code pc i longest next jump longer forward e later en ej em =
     let same : longer + 1 ≡ suc (max (cond (falls i) (longest (suc pc)) 0) (of_target longest (target i))) = rw (em, en', ej) (omega arith) in
     rw same l
 
--- a way forward from an instruction has no more instructions than stand from there on
+-- a forward path from an instruction has no more instructions than remain from there on
 pub way_short : (code : List Instr) → IsForward code → (n pc : ℕ) → HasPath code pc n → n + pc ≤ length code
 way_short code forward zero pc w = absurd w
 way_short code forward (suc zero) pc (i, e, end) = let lt : pc < length code = slice_get_within code pc i e in omega arith

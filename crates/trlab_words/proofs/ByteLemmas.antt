@@ -1,4 +1,5 @@
--- Words as their four bytes: exclusive or, rotations by whole bytes, and eight words as the lanes of a vector.
+-- Words as their four bytes: exclusive or, rotations by whole bytes, and eight words as the lanes of a
+-- vector.
 use Rattle.std.proofs.Common.{◌≡◌, ℕ, ◌<◌, ◌+◌, ◌*◌, ◌/◌, ◌%◌, ◌^◌, List, [], ◌∷◌, ◌++◌, length, get_or, bit_or, bit_xor, Fits, w8, w32, arith, refl, sym, ap, ap₂, subst, div-one, ◌∙◌}
 use Rattle.std.specs.Int.{rotate_left}
 use Rattle.std.specs.Simd.Lanes.{Each1, zip2, chunk, pick_l, number_l, digits_l}
@@ -62,7 +63,7 @@ xor_at a b all_a all_b fits_a fits_b j h =
     (small_a (4 * j) (omega arith)) (small_a (4 * j + 1) (omega arith)) (small_a (4 * j + 2) (omega arith))
     (small_b (4 * j) (omega arith)) (small_b (4 * j + 1) (omega arith)) (small_b (4 * j + 2) (omega arith)))
 
--- where the bytes of eight words come from when the words are rotated by two bytes
+-- the indices of the bytes of eight words after the words are rotated by two bytes
 abbrev pub two_bytes_on : List ℕ
 two_bytes_on =
     2 ∷ 3 ∷ 0 ∷ 1 ∷ 6 ∷ 7 ∷ 4 ∷ 5 ∷ 10 ∷ 11 ∷ 8 ∷ 9 ∷ 14 ∷ 15 ∷ 12 ∷ 13

@@ -4,7 +4,7 @@ use Rattle.rand_chacha.specs.Block.{column_round, initial_state}
 use Rattle.trlab_words.specs.FirstRound.{with_car, step_state, shared_columns, car_column}
 use Rattle.trlab_words.proofs.LaneLemmas.{below_sixteen}
 
--- the words but that of the car stay
+-- the words other than that of the car do not change
 pub slice_index-with_car : (x : List ℕ) (car k : ℕ) → k < 16 → k ≢ 14
     → slice_index x k ≡ slice_index (with_car x car) k
 slice_index-with_car x car =

@@ -6,12 +6,12 @@ use Rattle.rand_core.specs.Steps.{u32_at}
 use Rattle.rand_chacha.specs.ChaCha.{key_of, seed_of}
 use Rattle.trlab_words.proofs.LaneLemmas.{below_four, below_eight}
 
--- a word is what its four bytes make
+-- a word is composed of its four bytes
 word_from_bytes : (n : ℕ) → n < 2 ^ 32
     → n % 256 + n / 256 % 256 * 2 ^ 8 + n / 65536 % 256 * 2 ^ 16 + n / 16777216 % 256 * 2 ^ 24 ≡ n
 word_from_bytes n h = omega arith
 
--- the four bytes of a word are those that it is made of
+-- the four bytes of a word are those from which it is composed
 bytes_from_word : (a b c d : ℕ) → a < 256 → b < 256 → c < 256 → d < 256
     → let n = a + b * 2 ^ 8 + c * 2 ^ 16 + d * 2 ^ 24 in
     (n % 256 ≡ a) × (n / 256 % 256 ≡ b) × (n / 65536 % 256 ≡ c) × (n / 16777216 % 256 ≡ d)

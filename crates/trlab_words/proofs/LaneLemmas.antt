@@ -6,7 +6,7 @@ use Rattle.std.proofs.lemmas.Simd.{length-zip2, get_or-zip2, length-replicate, g
 use Rattle.rand_chacha.specs.Block.{xor_rotate}
 use Rattle.rand_chacha.specs.Lanes.{lane, lane_at}
 
--- what holds of each of four numbers
+-- a property of each of four numbers
 pub below_four : (P : ℕ → Type 0) → P 0 → P 1 → P 2 → P 3 → (j : ℕ) → j < 4 → P j
 below_four P p0 p1 p2 p3 zero h = p0
 below_four P p0 p1 p2 p3 (suc zero) h = p1
@@ -14,7 +14,7 @@ below_four P p0 p1 p2 p3 (suc (suc zero)) h = p2
 below_four P p0 p1 p2 p3 (suc (suc (suc zero))) h = p3
 below_four P p0 p1 p2 p3 (suc (suc (suc (suc n)))) h = absurd (omega arith)
 
--- what holds of each of the sixteen words
+-- a property of each of the sixteen words
 pub below_sixteen : (P : ℕ → Type 0) → P 0 → P 1 → P 2 → P 3 → P 4 → P 5 → P 6 → P 7
     → P 8 → P 9 → P 10 → P 11 → P 12 → P 13 → P 14 → P 15 → (k : ℕ) → k < 16 → P k
 below_sixteen P a0 a1 a2 a3 b0 b1 b2 b3 c0 c1 c2 c3 d0 d1 d2 d3 k h =
@@ -23,7 +23,7 @@ below_sixteen P a0 a1 a2 a3 b0 b1 b2 b3 c0 c1 c2 c3 d0 d1 d2 d3 k h =
     (below_four _ a0 a1 a2 a3) (below_four _ b0 b1 b2 b3) (below_four _ c0 c1 c2 c3) (below_four _ d0 d1 d2 d3)
     (k / 4) (omega arith) (k % 4) (omega arith))
 
--- what holds of each of eight lanes, or words
+-- a property of each of eight lanes, or words
 pub below_eight : (P : ℕ → Type 0) → P 0 → P 1 → P 2 → P 3 → P 4 → P 5 → P 6 → P 7 → (k : ℕ) → k < 8 → P k
 below_eight P p0 p1 p2 p3 p4 p5 p6 p7 zero h = p0
 below_eight P p0 p1 p2 p3 p4 p5 p6 p7 (suc zero) h = p1
@@ -49,7 +49,7 @@ up x s = x * 2 ^ s % 2 ^ 32
 abbrev down : ℕ → ℕ → ℕ
 down x s = x / 2 ^ s
 
--- so it is in each of n lanes
+-- the same in each of n lanes
 pub shifts_rotate : (n k : ℕ) → 0 < k → k < 32 → (a : List ℕ) → length a ≡ n → (b : List ℕ) → length b ≡ n → (j : ℕ) → j < n
     → slice_index (zip2 bit_or (zip2 up (zip2 bit_xor a b) (replicate n k)) (zip2 down (zip2 bit_xor a b) (replicate n (32 - k)))) j
     ≡ xor_rotate (slice_index a j) (slice_index b j) k

@@ -7,7 +7,7 @@ use Rattle.trlab_asm.specs.declared.fault.Why.{Why}
 use Rattle.trlab_asm.proofs.Shapes.{first_known, rest_known}
 use Rattle.trlab_asm.proofs.operands.word_chance.Goals as goal
 
--- both numbers, where their digits are known
+-- both numbers, from their digits
 numbers : (text word chance : List ℕ) (a b : Result ℕ Why) (r : Result (ℕ × ℕ) Why) → Ok (word, chance) ≡ two_numerals text
     → a ≡ value_within 0 (WORDS - 1) word → b ≡ value_within 0 CERTAIN chance → r ≡ (a >>= λ p. b >>= λ q. Ok (p, q)) → r ≡ word_chance text
 numbers text word chance a b r digits k t e = rw (e, k, t, ← digits) refl

@@ -13,11 +13,11 @@ use Rattle.trlab_asm.proofs.reading.instruction.Goals as goal
 abbrev drafted : Result InstrDraft Why → Result (Option InstrDraft) Why
 drafted draft = draft >>= λ draft. Ok (Some draft)
 
--- an instruction whose name is known, where it is judged whether there is room for it
+-- an instruction whose name is known, if there is room for it
 abbrev with_room : Mnemonic → List ℕ → Bool → Result (Option InstrDraft) Why
 with_room name text room = if room then drafted (draft_of name text) else Err TooLong
 
--- a word, judged for what name it is
+-- a word, by the instruction whose name it is
 abbrev of_name : ℕ → List ℕ → Option Mnemonic → Result (Option InstrDraft) Why
 of_name pc text found = ok_or found Word >>= λ name. with_room name text (nat_lt pc MAX_INSTRUCTIONS)
 

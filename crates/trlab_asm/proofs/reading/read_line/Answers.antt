@@ -12,11 +12,11 @@ use Rattle.trlab_asm.proofs.reading.read_line.Goals as goal
 abbrev of_draft : Option (List ℕ) → Result (Option InstrDraft) Why → Result Line Why
 of_draft label draft = draft >>= λ draft. Ok (record { label = label; draft = draft })
 
--- a line whose label is judged
+-- a line whose label is checked
 abbrev of_label : ℕ → List ℕ → Result (Option (List ℕ)) Why → Result Line Why
 of_label pc rest label = label >>= λ label. of_draft label (body pc (without_indent rest))
 
--- what is said of the parts of a line is said of the line
+-- the result for the parts of a line is the result for the line
 of_line : (labels : Labels) (pc : ℕ) (line before : List ℕ) (parts : Option (List ℕ) × List ℕ)
     → before ≡ without_comment line → parts ≡ label_and_rest before → content_of_parts labels pc parts ≡ line_content labels pc line
 of_line labels pc line before parts e f = ap (λ p. content_of_parts labels pc p) (f ∙ ap label_and_rest e)

@@ -8,7 +8,7 @@ use Rattle.trlab_campaign.proofs.Endings.{if_told}
 use Rattle.trlab_campaign.proofs.WrittenBytes.{kept}
 use Rattle.trlab_campaign.proofs.engine.run_engine.Goals as goal
 
--- what is not true is false
+-- a test that is not true is false
 not_true : (b : Bool) → (b ≡ true → ⊥) → b ≡ false
 not_true true never = absurd (never refl)
 not_true false never = refl

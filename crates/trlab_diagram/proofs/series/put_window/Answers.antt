@@ -5,7 +5,7 @@ use Rattle.trlab_diagram.specs.Series.{window_columns}
 use Rattle.trlab_diagram.proofs.Rows.{AreSmall, window_row}
 use Rattle.trlab_diagram.proofs.series.put_window.Goals as goal
 
--- a number of 64 bits is one of 128
+-- a number of 64 bits fits in 128 bits
 fits : (n : ℕ) → n < 2 ^ 64 → n < 2 ^ 128
 fits n small = omega (arith, small)
 

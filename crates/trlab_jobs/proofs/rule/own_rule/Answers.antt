@@ -11,7 +11,7 @@ use Rattle.trlab_jobs.proofs.HandedOn.{handed_on}
 use Rattle.trlab_jobs.proofs.RuleSteps.{on_two_lanes}
 use Rattle.trlab_jobs.proofs.rule.own_rule.Goals as goal
 
--- what is read after each part
+-- reading after each part
 abbrev after_change : CheckedProgram → Option CheckedProgram → Reading Programs
 after_change motion change = give (record { motion = motion; change = change })
 

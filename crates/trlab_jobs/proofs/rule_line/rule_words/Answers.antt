@@ -6,7 +6,7 @@ use Rattle.trlab_jobs.specs.declared.rule_line.RuleLine.TheVariants.{Nasch, Vdr,
 use Rattle.trlab_jobs.specs.RuleLines.{own_words, rickert_words, vdr_words, nasch_words, rule_words}
 use Rattle.trlab_jobs.proofs.rule_line.rule_words.Goals as goal
 
--- the words after the names that a line has not
+-- the words after the names, none of which the line begins with
 abbrev after_vdr : List ℕ → Option (RuleLine (List ℕ))
 after_vdr text = rickert_words (without_prefix (codes "rule rickert ") text) (own_words text)
 

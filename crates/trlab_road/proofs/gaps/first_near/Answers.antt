@@ -3,7 +3,7 @@ use Rattle.trlab_road.specs.Stored.{place_of}
 use Rattle.trlab_road.proofs.Lists.{rises_weakly}
 use Rattle.trlab_road.proofs.gaps.first_near.Goals as goal
 
--- the cars before the index stand before the place
+-- the cars before the index are at places before the given place
 pub pass_four-near-requires-clause-before : goal.pass_four-near-requires-clause-before
 pass_four-near-requires-clause-before c = λ k low on.
     let near : 0 < c.args.near = omega (arith, c.if-near-eq0.false) in

@@ -4,7 +4,7 @@ use Rattle.trlab_road.specs.Stored.{place_of}
 use Rattle.trlab_road.proofs.Lists.{rises_weakly}
 use Rattle.trlab_road.proofs.gaps.first_of_five.Goals as goal
 
--- the cars before the index stand before the place
+-- the cars before the index are at places before the given place
 pub pass_four-next-requires-clause-before : goal.pass_four-next-requires-clause-before
 pass_four-next-requires-clause-before c = λ k low on.
     let near : 0 < c.args.near = omega (arith, c.if-near-eq0.false) in
@@ -22,7 +22,7 @@ returns-then-place_at-place-2-clause-found c = record {
       omega (arith, order, c.if-place_at-place-2.true, c.place_at-then-next-cars.ensures);
 }
 
--- a car before the index stands before the place, so the first car does
+-- if the list has a car before the given place, its first car is before that place
 pub returns-then-place_at-place-2-clause-past : goal.returns-then-place_at-place-2-clause-past
 returns-then-place_at-place-2-clause-past c =
     let cars = c.args.cars.now in

@@ -8,7 +8,7 @@ use Rattle.trlab_road.proofs.ListMotion.{parted_kth}
 use Rattle.trlab_road.proofs.Lists.{rises_high, rises_order}
 use Rattle.trlab_road.proofs.gaps.look_ahead.Goals as goal
 
--- the next car of a list is past the car, and round the end the first is not
+-- the next car of a list is past the car; from the end on, the first car is not
 module _ (n : ℕ) (cars : List LaneCar) (r : IsSortedFrom 0 n cars) (i : ℕ) (low : i < length cars) where
   past : i + 1 < length cars → place_of cars i < place_of cars (i + 1)
   past more = rises_order 0 n cars i (i + 1) r (omega arith) more

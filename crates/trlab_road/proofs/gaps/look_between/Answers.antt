@@ -3,7 +3,7 @@ use Rattle.trlab_road.proofs.Lists.{rises_high}
 use Rattle.trlab_road.proofs.ListSides.{between_side, between_ahead, between_behind}
 use Rattle.trlab_road.proofs.gaps.look_between.Goals as goal
 
--- a number that is kept or set to 0 is not greater
+-- a number that is kept or set to 0 does not increase
 kept_low : (keeps : Bool) (m n limit : ℕ) → n ≡ cond keeps m 0 → m < limit → n < limit
 kept_low true m n limit is low = rw is low
 kept_low false m n limit is low = omega (arith, is, low)

@@ -10,7 +10,7 @@ use mir.Val.{bool_byte}
 not_lower : (p x : ℕ) → x ≤ p → nat_lt p x ≡ false
 not_lower p x high = grind (arith, nat_tests, high)
 
--- a car is passed exactly where it stands before the place
+-- a car is passed exactly if its place is before the given one
 passed : (p x n : ℕ) → n ≡ bool_byte (nat_lt p x) → ((n ≡ 1) × (p < x)) ⊎ ((n ≡ 0) × (x ≤ p))
 passed p x n is =
     elim (cases_lt p x) [
@@ -18,7 +18,8 @@ passed p x n is =
       | inr high ↦ inr (is ∙ ap bool_byte (not_lower p x high), high)
     ]
 
--- the cars before an index stand before the place, and where some were looked at behind them, those do not
+-- the cars before an index are before the given place, and if some cars after them were compared, those are
+-- not
 record ArePassed (cars : List LaneCar) (x next k : ℕ) : Type 0 where
   not_past : next ≤ k
   before : (j : ℕ) → j < next → j < length cars → place_of cars j < x

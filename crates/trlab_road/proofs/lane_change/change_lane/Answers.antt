@@ -21,7 +21,7 @@ loop-own_next-init c =
           c.place_or_end-own_next.ensures.here c.place_or_end-own_next.ensures.past c.place_or_end-due.ensures.here c.place_or_end-due.ensures.past refl);
     }
 
--- where none stays, who comes
+-- a car that leaves, and a car that comes if none stays
 left : (oc : Bool) (own : Cell) → oc ≡ true → cond oc None own ≡ None
 left oc own e = rw e refl
 

@@ -14,7 +14,7 @@ lane_0 lanes two = omega (arith, two)
 lane_1 : (lanes : ℕ) → lanes ≡ 2 → 1 < lanes
 lane_1 lanes two = omega (arith, two)
 
--- the lists of the two lanes, and as many answers as cars
+-- the lists of the two lanes, and one answer per car
 module _ (n : ℕ) (lists : List (Vec LaneCar Global)) (answers : List Bool) (own : List LaneCar) (two : length lists ≡ 2) (sorted : AreSorted n lists) (each : sum_by lane_car_count (lanes_from n lists) ≤ length answers) (is : own ≡ list_at lists 0) where
   each_0 : 0 + length own ≤ length answers
   each_0 =
@@ -75,7 +75,7 @@ change_lane-requires-clause-small c = c.requires.small
 pub change_lane-requires-2-clause-small : goal.change_lane-requires-2-clause-small
 change_lane-requires-2-clause-small c = c.requires.small
 
--- the answers of a lane stand from the count of the cars before it on
+-- the answers of a lane begin at the number of the cars before it
 at_ranks : (n : ℕ) (answers : List Bool) (own lane beside other next : List LaneCar) (f g h k : ℕ) → own ≡ lane → beside ≡ other → f ≡ h → g ≡ k
     → LaneCrosses (lane_crosses_at (cells_of n own) answers f) (lane_crosses_at (cells_of n beside) answers g) (cells_of n own) (cells_of n beside) (cells_of n next)
     → LaneCrosses (lane_crosses_at (cells_of n lane) answers h) (lane_crosses_at (cells_of n other) answers k) (cells_of n lane) (cells_of n other) (cells_of n next)

@@ -30,7 +30,7 @@ move_lane-requires-clause-within c =
     let here = list_here c.loop-l.lanes l c.index-lanes-l.result low ∙ c.loop-l.invariant.stand l (omega arith) in
     rw (here, c.loop-l.invariant.counted) (c.requires.within.each_lane l c.loop-l-test.true)
 
--- the motion of the list that stood there, whose answers stand from the count of the cars before it on
+-- the motion of the old list, whose answers begin at the number of the cars before it
 moved_here : (n : ℕ) (answers : List ℕ) (list lane next : List LaneCar) (from before : ℕ) → list ≡ lane → from ≡ before → LaneMoves (lane_answer (cells_of n list) answers from) (cells_of n list) (cells_of n next)
     → LaneMoves (lane_answer (cells_of n lane) answers before) (cells_of n lane) (cells_of n next)
 moved_here n answers list lane next from before e f m = subst (λ (k : ℕ). LaneMoves (lane_answer (cells_of n lane) answers k) (cells_of n lane) (cells_of n next)) f (subst (λ (xs : List LaneCar). LaneMoves (lane_answer (cells_of n xs) answers from) (cells_of n xs) (cells_of n next)) e m)
@@ -76,7 +76,7 @@ move_lane-requires-clause-small c = c.requires.small
 pub move_lane-requires-clause-slow : goal.move_lane-requires-clause-slow
 move_lane-requires-clause-slow c = c.requires.slow
 
--- after the loop every lane is behind it
+-- after the loop every lane has moved
 behind : (j l all : ℕ) → all ≤ l → j < all → j < l
 behind j l all end on = omega (arith, end, on)
 

@@ -5,7 +5,7 @@ use Rattle.trlab_road.specs.Motion.{LaneMoves}
 use Rattle.trlab_road.specs.Stored.{IsSortedFrom, lanes_from, cells_of, list_at, list_answer}
 use Rattle.trlab_road.proofs.motion.move_lanes.Given as goal
 
--- the cars of the first lanes have moved, and the others stand yet
+-- the cars of the first lanes have moved, and the others have not
 abbrev pub invariant-loop-l : goal.invariant-loop-l
 invariant-loop-l l = record {
   counted : l.from ≡ sum_by lane_car_count (take l.l (lanes_from l.cells l.fn.lanes));

@@ -37,7 +37,7 @@ loop-lane-preserved c =
     one_more c.args.limit (map (λ s. s.now) c.args.pictures.now) c.loop-lane.lane c.loop-lane.invariant
     (rw read (λ y h. c.first_invalid-place.ensures.before y (let k = c.if-place-picture.false in omega arith)))
 
--- pictures of this shape, of which all is well up to a character
+-- pictures of this shape, which are valid up to a character
 module _ (limit : ℕ) (held : List (Bor (List ℕ))) (some : 1 ≤ length held) (few : length held ≤ 2) (equal : HaveEqualLengths (pictures_of held)) (low : limit ≢ 0) (high : limit ≤ MAX_LIMIT) where
   shaped : HaveValidShape limit (pictures_of held)
   shaped =

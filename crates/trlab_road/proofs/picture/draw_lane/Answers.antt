@@ -7,7 +7,7 @@ use Rattle.trlab_road.proofs.ListDrawing.{drawn_none, drawn_all, drawn_skip, dra
 use Rattle.trlab_road.proofs.picture.draw_lane.Goals as goal
 use Rattle.trlab_road.proofs.picture.draw_lane.Goals.{in-Some+in_ok-push, in_default}
 
--- what shows a cell and no speed is a dot
+-- a character that shows a cell, but not a speed, is a dot
 only_point : (character : ℕ) → ShowsCell MAX_LIMIT character → ¬ (ShowsSpeed MAX_LIMIT character) → character ≡ dot
 only_point character (inl is) none = is
 only_point character (inr shows) none = absurd (none shows)

@@ -6,13 +6,13 @@ use Rattle.trlab_road.proofs.Lists.{length_cells, rises_high}
 use Rattle.trlab_road.proofs.ListPictures.{empty_picture, picture_more}
 use Rattle.trlab_road.proofs.picture.push_picture.Goals as goal
 
--- the picture of an empty lane behind what stood there
+-- the picture of an empty lane, after the old bytes
 filled : (old : List ℕ) (start n len : ℕ) → start ≡ len → len ≡ length old → take (start + n) old ++ replicate (start + n - len) dot ≡ old ++ picture (cells_of n [])
 filled old start n len e f =
     let count : start + n - len ≡ n = omega (arith, e) in
     rw (take_all (start + n) old (omega (arith, e, f)), count) (ap (λ bytes. old ++ bytes) (empty_picture 0 n))
 
--- a byte of the picture behind what stood there
+-- a byte of the picture after the old bytes
 set_behind : (old bytes : List ℕ) (start place b : ℕ) → start ≡ length old → set (old ++ bytes) (start + place) b ≡ old ++ set bytes place b
 set_behind old bytes start place b e =
     let here : start + place - length old ≡ place = omega (arith, e) in

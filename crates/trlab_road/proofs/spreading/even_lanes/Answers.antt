@@ -37,7 +37,7 @@ pub returns-clause-each_lane : goal.returns-clause-each_lane
 returns-clause-each_lane c = λ l h. even_all c.args.lanes c.args.cells c.args.count l c.loop-number.number _ c.loop-number-test.false c.loop-number.auto.number-end
     (c.loop-number.invariant.each_lane l (rw c.loop-number.invariant.same_lanes h)).even
 
--- each car stands on one of at most 200000 cells
+-- the cell of each car is one of at most 200000 cells
 pub overflow_mul-lanes : goal.overflow_mul-lanes
 overflow_mul-lanes c = let few = mul-le-mul_right c.args.cells c.requires.few in let small = c.requires.small in omega (arith, few, small)
 
@@ -71,7 +71,7 @@ overflow_cast-number c =
     let room = c.requires.room in
     omega (arith, few, small, low, room)
 
--- the place of a car is one of its lane
+-- the place of a car is a place of its lane
 module _ (lanes cells n i flat : ℕ) (is : flat ≡ i * (lanes * cells) / n) (some : 1 ≤ lanes) (room : n ≤ lanes * cells) (low : i < n) where
   place_inside : flat / lanes < cells
   place_inside = rw is (even_inside lanes cells n i some room low)

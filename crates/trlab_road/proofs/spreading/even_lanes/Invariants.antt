@@ -3,7 +3,7 @@ use Rattle.trlab_road.specs.Stored.{list_at}
 use Rattle.trlab_road.proofs.ListEven.{EvenList}
 use Rattle.trlab_road.proofs.spreading.even_lanes.Given as goal
 
--- the cars so far stand, on each lane
+-- the cars so far are on their lanes
 abbrev pub invariant-loop-number : goal.invariant-loop-number
 invariant-loop-number l = record {
   same_lanes : length l.next.items ≡ l.lanes;

@@ -16,7 +16,7 @@ differ b t f = cc
 two_of : (n : ℕ) → 1 ≤ n → n ≤ 2 → (n ≡ 1 → ⊥) → n ≡ 2
 two_of n some few other = omega (arith, some, few, other)
 
--- what is told, by cases
+-- the result, by cases
 module _ (rule : Programs) (dice : Dice) (road : Cells) where
   tells_mismatch : IsSome rule.change → length road.lanes ≡ 1 → IsStepResult rule dice road (Err LanesMismatch)
   tells_mismatch some one = record { mismatch = ((λ e. (some, one)), (λ h. refl)); next = tt; clean = tt; legal = tt }

@@ -17,7 +17,7 @@ use Rattle.trlab_verify.proofs.Bounded.{checked_two}
 use Rattle.trlab_verify.proofs.Forms.{under_settled, under_note}
 use Rattle.trlab_verify.proofs.check.check_notes.Goals as goal
 
--- the table is that of the notes that are handed in
+-- the table is that of the notes that the caller passes
 listed : (kind : Kind) (form : List Form) (pc : ℕ) → pc < length form → meaning_at kind form pc ≡ note_in (table_of kind form) pc
 listed kind form pc lt = sym (get_or-map (meaning kind) form pc form_without_marks empty_note lt)
 
@@ -27,7 +27,7 @@ ChecksFor form kind instrs = Checks kind (record { kind = kind; instrs = instrs 
 moved : (form : List Form) (k l : Kind) (is js : List Instr) → k ≡ l → is ≡ js → ChecksFor form k is → ChecksFor form l js
 moved form k l is js ek ei h = subst (λ z. ChecksFor form z js) ek (subst (λ z. ChecksFor form k z) ei h)
 
--- what the tests of the first note and of each instruction tell
+-- the facts that the tests of the first note and of each instruction establish
 whole : (form : List Form) (k : Kind) (is : List Instr) → length form ≡ length is → 0 < length is →
     IsNoStronger (meaning_at k form 0) (entry k) →
     ((pc : ℕ) → pc < length is → (i : Instr) → slice_get is pc ≡ Some i → ChecksAt k (record { kind = k; instrs = is }) (meaning_at k form) pc i) →
@@ -38,7 +38,7 @@ whole form k is len some first h =
     (length-map form (meaning k) ∙ len) (subst (λ z. IsNoStronger z (entry k)) (same 0 some) first)
     (record { first = first; each = λ pc i e. h pc (slice_get_within is pc i e) i e })
 
--- all is well with each note that is handed in, where the table checks
+-- no test fails at a note that the caller passes, if the table checks
 each_of : (form : List Form) (k : Kind) (is : List Instr) → ChecksFor form k is → (pc : ℕ) (i : Instr) → slice_get is pc ≡ Some i →
     ChecksAt k (record { kind = k; instrs = is }) (meaning_at k form) pc i
 each_of form k is h pc i e =
@@ -51,7 +51,7 @@ levels_of form k is h pc lt =
     subst HasValidLevels (sym (listed k form pc (omega (arith, lt, h.one_each, length-map form (meaning k)))))
     (checked_two k (record { kind = k; instrs = is }) (note_in (table_of k form)) (by_notes k (record { kind = k; instrs = is }) (table_of k form) h) pc lt)
 
--- so is the first
+-- the same for the first note
 first_of_all : (form : List Form) (k : Kind) (is : List Instr) → 0 < length is → ChecksFor form k is → IsNoStronger (meaning_at k form 0) (entry k)
 first_of_all form k is some h =
     subst (λ z. IsNoStronger z (entry k)) (sym (listed k form 0 (omega (arith, some, h.one_each, length-map form (meaning k))))) h.first
@@ -99,7 +99,7 @@ returns-then-not-checks_at-clause-safe c = λ e. absurd (both_ways false refl e)
 pub loop-pc-preserved : goal.loop-pc-preserved
 loop-pc-preserved c = below_more _ _ c.loop-pc.invariant (c.checks_at.ensures.0 c.if-not-checks_at.false).1
 
--- the table checks, where the tests of all notes have passed
+-- the table checks if the tests of all notes have passed
 passed : (form : List Form) (kind own : Kind) (is code : List Instr) → kind ≡ own → is ≡ code → 1 ≤ length code → length form ≡ length is →
     IsNoStronger (meaning_at kind form 0) (entry kind) →
     ((pc : ℕ) → pc < length is → (i : Instr) → slice_get is pc ≡ Some i → ChecksAt kind (record { kind = kind; instrs = is }) (meaning_at kind form) pc i) →

@@ -30,7 +30,7 @@ accepted_at : (kind : Kind) (code : List Instr) (o : Option Rejection) → false
 accepted_at kind code None e h = (refl, h)
 accepted_at kind code (Some r) e h = absurd (cc e)
 
--- the notes that are stored, and what they say of the inputs
+-- the notes that are stored, and their ranges of the inputs
 note_there : (kind : Kind) (code : List Instr) (stored : ℕ → Option Note) → IsAccepted kind (record { kind = kind; instrs = code }) →
     ((q : ℕ) → q < length code → stored q ≡ maybe_closure (note_at kind code q)) → (pc : ℕ) → pc < length code →
     (n : Note) × (stored pc ≡ Some n) × HasInputRanges kind n
@@ -39,7 +39,7 @@ note_there kind code stored accepted h pc lt =
     let (n, en, f) = noted kind (record { kind = kind; instrs = code }) accepted pc i e in
     (closure n, h pc lt ∙ ap maybe_closure en, closure_shows kind n (subst (λ z. IfSome z (HasInputRanges kind)) en (incoming_shows kind code pc pc)))
 
--- each note that is handed out is that of the verdict
+-- each note that is returned is the verdict's note
 each_best : (kind : Kind) (code : List Instr) (stored : ℕ → Option Note) (notes : List Form) →
     ((q : ℕ) → q < length code → stored q ≡ maybe_closure (note_at kind code q)) → length notes ≡ length code →
     (0 < length code → meaning_at kind notes 0 ≡ entry kind) →

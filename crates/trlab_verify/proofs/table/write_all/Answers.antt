@@ -22,7 +22,7 @@ unreachable-requires c =
 length_pushed : (notes : List Form) (note : Form) (n : ℕ) → length notes ≡ n → length (notes ++ note ∷ []) ≡ n + 1
 length_pushed notes note n e = omega (arith, length-append {A = Form}, e)
 
--- one more note is handed out
+-- one more note is appended
 module _ (kind : Kind) (stored : ℕ → Option Note) (old new : List Form) (note : Form) (pc : ℕ)
     (same : (k : ℕ) → k < pc → get_or new k form_without_marks ≡ get_or old k form_without_marks) (here : get_or new pc form_without_marks ≡ note) where
   first_by : (is_first : Bool) → nat_eq pc 0 ≡ is_first → (0 < pc → meaning_at kind old 0 ≡ entry kind) → (pc ≡ 0 → meaning kind note ≡ entry kind) →

@@ -13,7 +13,7 @@ use Rattle.trlab_verify.proofs.verdict.judge.Goals as goal
 below_same : {m n k : ℕ} (i : ℕ) → m ≡ n → n ≡ k → i < k → i < m
 below_same i e f lt = omega arith
 
--- what holds below pc and at pc holds up to it
+-- a property of each place below pc and of pc is one of each place up to pc
 judged_to : (P : ℕ → Type 0) (pc : ℕ) → ((q : ℕ) → q < pc → P q) → P pc → (q : ℕ) → q ≤ pc → P q
 judged_to P pc below here q le = below_more P pc below here q (omega arith)
 

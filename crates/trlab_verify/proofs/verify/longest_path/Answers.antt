@@ -5,7 +5,7 @@ use Rattle.trlab_code.specs.declared.instruction.Instr.{Instr}
 use Rattle.trlab_verify.specs.Longest.{IsLongest}
 use Rattle.trlab_verify.proofs.verify.longest_path.Goals as goal
 
--- the longest ways are right once the one at k is written
+-- the longest paths are right after the one at k is written
 one_more : (code : List Instr) (longest : List ℕ) (k n : ℕ) → k < length longest → IsLongest code k n → (q : ℕ) → k ≤ q → (k < q → IsLongest code q (get_or longest q 0)) → IsLongest code q (get_or (set longest k n) q 0)
 one_more code longest k n inside new q ge later =
     elim (cases_lt k q) [

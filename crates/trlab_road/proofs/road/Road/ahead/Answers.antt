@@ -15,7 +15,7 @@ find-lane-requires-clause-below c =
 pub look_ahead-requires-clause-small : goal.look_ahead-requires-clause-small
 look_ahead-requires-clause-small c = few_cells c.self.inside.cells c.self.inside.lanes.items c.self.inside.limit c.self.invariant
 
--- what was told of the list that was looked at is told of the lane
+-- the result for the list that was searched is the result for the lane
 told : (look : Lane → ℕ → ℕ) (n : ℕ) (lists given : List (Vec LaneCar Global)) (k l i v : ℕ) (cars : List LaneCar) → IsFoundAt lists k l i → given ≡ lists → cars ≡ list_at given l → v ≡ look (cells_of n cars) (place_of cars i)
     → v ≡ look (get_or (lanes_from n lists) l []) (place_of (list_at lists l) i)
 told look n lists given k l i v cars f e is value =

@@ -9,7 +9,7 @@ use Rattle.trlab_road.specs.Stored.{IsFoundAt, IsListedRoad, DescribesSideCell, 
 use Rattle.trlab_road.proofs.ListRoads.{below_counted, few_cells, few_lists, found_by, found_in_order, found_inside, found_later, lane_from, lanes_count, length_first}
 use Rattle.trlab_road.proofs.road.Road.beside.Goals as goal
 
--- what is told of the k-th car in standing order
+-- the correct result for the k-th car in standing order
 record IsTold (road : Cells) (k : ℕ) (beside : SideGaps) : Type 0 where
   value : beside.is_empty ≡ get_or (sides road) k false
   empty : IsValueOnOtherLane side road k beside.is_empty
@@ -17,7 +17,7 @@ record IsTold (road : Cells) (k : ℕ) (beside : SideGaps) : Type 0 where
   behind : IsGapOnOtherLane sideback road k beside.behind
   next : IsValueOnOtherLane cars_before road k beside.next
 
--- what stands beside its place in the list of the other lane is told of a car that was found
+-- the side gaps from the other lane's list are the correct result for the car that was found
 module _ (n : ℕ) (lists : List (Vec LaneCar Global)) (limit k l i x : ℕ) (own other : List LaneCar) (beside : SideGaps) where
   abbrev road : Cells
   road = record { limit = limit; lanes = lanes_from n lists }
@@ -56,7 +56,7 @@ look_beside-requires-clause-small c = few_cells c.self.inside.cells c.self.insid
 pub look_beside-requires-else-index-first-clause-small : goal.look_beside-requires-else-index-first-clause-small
 look_beside-requires-else-index-first-clause-small c = few_cells c.self.inside.cells c.self.inside.lanes.items c.self.inside.limit c.self.invariant
 
--- two lanes are two lists
+-- the lists of the two lanes
 two_lists : (lists : List (Vec LaneCar Global)) (road : ℕ) → road ≡ 2 → road ≡ length lists → (0 < length lists) × (1 < length lists)
 two_lists lists road two count = (omega (arith, two, count), omega (arith, two, count))
 
@@ -64,7 +64,7 @@ two_lists lists road two count = (omega (arith, two, count), omega (arith, two, 
 first_of : (lists : List (Vec LaneCar Global)) (k : ℕ) (first : List LaneCar) → 0 < length lists → first ≡ list_at lists 0 → k < length first → IsFoundAt lists k 0 k
 first_of lists k first some is low = found_first lists k some (rw is at low)
 
--- the car of any other index
+-- the car of another index
 second_of : (lists : List (Vec LaneCar Global)) (k : ℕ) (first : List LaneCar) → length lists ≤ MAX_LANES → k < sum_by length (lists_of lists) → first ≡ list_at lists 0 → length first ≤ k
     → IsFoundAt lists k 1 (k - length first)
 second_of lists k first few below is past = found_later lists k (length first) few below (ap length is) past
@@ -79,7 +79,7 @@ look_beside-requires-clause-inside c =
     let f = first_of lists c.args.k c.list_of-first.result.now both.0 first c.if-index-first.true in
     rw (c.place_at-place.ensures, first) (found_inside n lists c.self.inside.limit _ _ _ c.self.invariant.sorted f)
 
--- what is told of a car of the first list, and of one of the second
+-- the correct result for a car of the first list, and for one of the second
 module _ (n : ℕ) (lists given read : List (Vec LaneCar Global)) (limit k x : ℕ) (first second : List LaneCar) (beside : SideGaps) where
   abbrev cells : Cells
   cells = record { limit = limit; lanes = lanes_from n lists }

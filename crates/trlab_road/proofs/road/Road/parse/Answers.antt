@@ -10,7 +10,7 @@ use Rattle.trlab_road.proofs.PictureFaults.{no_fault_shown, told_fault, told_roa
 use Rattle.trlab_road.proofs.road.Road.parse.Goals as goal
 use Rattle.trlab_road.specs.Stored.{lanes_of_pictures}
 
--- what was drawn shows, and is legal
+-- the pictures show the road that was drawn, and it is legal
 shows : (limit : ℕ) (ps : List (List ℕ)) (lanes : List Lane) → AreValidPictures limit ps → lanes ≡ lanes_of_pictures 0 ps → PicturesShow limit ps (record { limit = limit; lanes = lanes })
 shows limit ps lanes good is = subst (λ (xs : List Lane). PicturesShow limit ps (record { limit = limit; lanes = xs })) (sym is) (draws limit ps good)
 
@@ -63,7 +63,7 @@ returns-in_err-lanes-clause-back c = let p = err_from_is_err_and c.from_residual
 pub returns-in_err-lanes-clause-told : goal.returns-in_err-lanes-clause-told
 returns-in_err-lanes-clause-told c = let p = err_from_is_err_and c.from_residual-in_err-lanes.result c.from_residual-in_err-lanes.ensures.1 in λ fault f other. inr (p.1 ∙ ap Err p.2)
 
--- good pictures are good under the largest limit too
+-- valid pictures are also valid for the largest limit
 shows_more : (limit character : ℕ) → limit ≤ MAX_LIMIT → ShowsCell limit character → ShowsCell MAX_LIMIT character
 shows_more limit character low (inl empty) = inl empty
 shows_more limit character low (inr shown) = inr (record { speed = shown.speed; within = (let within = shown.within in omega (arith, low, within)); shown = shown.shown })

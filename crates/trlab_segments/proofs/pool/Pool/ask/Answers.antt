@@ -5,7 +5,7 @@ use Rattle.trlab_segments.specs.Results.{AnswersAll, IsBriefOf}
 use Rattle.trlab_segments.specs.declared.pool.brief.Brief.{Brief}
 use Rattle.trlab_segments.proofs.pool.Pool.ask.Goals as goal
 
--- answers to a brief are answers to its program, dice and road
+-- the answers for a brief are those of its program, dice and road
 as_asked : {A B E P : Type 0} (answers : P → Dice → Cells → ℕ → ℕ → List A → Type 0)
     → (program : P) (dice : Dice) (road : Cells) (b : Brief P) (asked : Result B E) (found : List A)
     → IsBriefOf program dice road b → OnOk asked (AnswersAll answers b found)

@@ -6,7 +6,7 @@ use Rattle.trlab_sequential_book.specs.declared.lease.LeaseFault.{LeaseFault}
 use Rattle.trlab_sequential_book.specs.declared.lease.LeaseFault.TheVariants.{Memory, WrongOrder}
 use Rattle.trlab_sequential_book.proofs.lease.Lease.advance.Goals as goal
 
--- the answer if an allocation fails
+-- the result if an allocation fails
 no_step : (told : Result (Unit {0}) LeaseFault) (fault : LeaseFault) (P : Type 0) → told ≡ Err fault → OnOk told P
 no_step (Ok done) fault P is = absurd cc
 no_step (Err other) fault P is = tt

@@ -19,7 +19,7 @@ refused (Err fault) P p = p
 grown : (before reserved after : List ExecutedStep) (ran : ExecutedStep) → after ≡ reserved ++ ran ∷ [] → reserved ≡ before → after ≡ before ++ ran ∷ []
 grown before reserved after ran pushed same = pushed ∙ ap (λ (xs : List ExecutedStep). xs ++ ran ∷ []) same
 
--- where no step is added, what is known of the rules stays known
+-- if no step is added, the rules are still known to be steady
 still_steady : (is_steady : Bool) (before after : List ExecutedStep) → after ≡ before → (IsTrue is_steady → IsSteady before) → IsTrue is_steady → IsSteady after
 still_steady is_steady before after same known = subst (λ (xs : List ExecutedStep). IsTrue is_steady → IsSteady xs) (sym same) known
 

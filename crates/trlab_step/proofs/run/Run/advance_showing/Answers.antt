@@ -15,7 +15,7 @@ use Rattle.trlab_step.proofs.AskedCars.{same_dice}
 use Rattle.trlab_step.proofs.run.Run.advance_showing.Goals.{then-self, else-self}
 use Rattle.trlab_step.proofs.run.Run.advance_showing.Goals as goal
 
--- the step by the dice of the run
+-- the step with the dice of the run
 by_dice_of : (dice : Dice) (key : List ℕ) (number step : ℕ) (rule : Programs) (road next : Cells) (tally : StepTally) → dice.key ≡ key → dice.road ≡ number → dice.step ≡ step
     → IsNext rule dice road next tally → IsNext rule (dice_of key number step) road next tally
 by_dice_of dice key number step rule road next tally a b d is = subst (λ (one : Dice). IsNext rule one road next tally) (same_dice dice key number step a b d) is

@@ -18,7 +18,7 @@ begins_told None (entry ∷ later) told Told e h by = absurd cc
 begins_told (Some first) [] told Told e h by = absurd cc
 begins_told (Some first) (entry ∷ later) told Told e h by = let same : first.now ≡ entry = cc in by first h ∙ ap (λ (one : ℕ × Programs). nat_eq one.0 0) same
 
--- where it does, it takes the place of the first rule
+-- if it does, it replaces the first rule
 some_begun : (later : Vec (ℕ × Programs) Global) → begins later.items ≡ true → 0 < vec_len later
 some_begun later h = let size = later.ok.0 in let some = some_item later.items h in omega (arith, size, some) where
   some_item : (later : Sheet) → begins later ≡ true → 0 < length later
@@ -38,7 +38,7 @@ rises_begun : (later rest : Sheet) → StepsIncreaseFrom 0 later → begins late
 rises_begun [] rest rises h after = absurd (false≢true h)
 rises_begun (one ∷ later) rest rises h after = rw after (subst (λ step. StepsIncreaseFrom (step + 1) later) (eqb-true one.0 0 h) rises.1)
 
--- where it does not, it is later than step 0
+-- if it does not, it begins after step 0
 sheet_late : (first : Programs) (later : Sheet) → begins later ≡ false → ◌≡◌ {A = Sheet} ((0, first) ∷ later) (sheet_with first later)
 sheet_late first [] h = refl
 sheet_late first (one ∷ later) h = rw h refl

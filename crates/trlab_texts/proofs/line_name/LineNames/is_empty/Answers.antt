@@ -15,7 +15,7 @@ unmarked : (p : Bool → Bool) → p true ≡ true → (b : Bool) → p b ≡ fa
 unmarked p found true none = absurd (cc (found, none))
 unmarked p found false none = refl
 
--- where no entry is true, none is true at any index
+-- if no entry is true, none is true at any index
 none_at : (p : Bool → Bool) → p true ≡ true → (bits : List Bool) → list_any p bits ≡ false → (k : ℕ) → slice_index_or bits k false ≡ false
 none_at p found [] none k = refl
 none_at p found (b ∷ bits) none zero = unmarked p found b (neither (p b) (list_any p bits) none).0

@@ -1,5 +1,5 @@
--- `add` has an empty body: the borrow is opened, and closed at the ghost value with the bytes of the call. Assumes
--- `Logic`.
+-- `add` has an empty body: the borrow is opened, and closed at the ghost value with the bytes of the call.
+-- Assumes `Logic`.
 use Rattle.std.proofs.Common.{ℕ, ◌<◌, ◌^◌, List, [], ◌∷◌, ◌++◌, length, refl, MutBor}
 use seplogic.Ra.Ura.{Ura}
 use mir.Syntax.{named}

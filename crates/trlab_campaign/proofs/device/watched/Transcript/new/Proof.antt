@@ -30,7 +30,7 @@ use Rattle.trlab_campaign.specs.contracts.device.watched.Transcript.new.Key.{nam
 use Rattle.trlab_campaign.proofs.device.watched.Transcript.new.Statement as stated
 use Rattle.trlab_campaign.proofs.device.watched.Transcript.new.Code as code
 
--- the machine value of a struct of no fields, and its type by its fields alone
+-- the machine value of a struct without fields, and its type, which only its fields determine
 abbrev none : Val
 none = vstruct vnil
 
