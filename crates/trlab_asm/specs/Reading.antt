@@ -12,8 +12,8 @@ use Rattle.trlab_asm.specs.declared.fault.Why.TheVariants.{Word, LabelTwice, Too
 use Rattle.trlab_asm.specs.declared.names.Mnemonic.{Mnemonic}
 use Rattle.trlab_asm.specs.declared.names.Mnemonic.TheVariants as name
 
--- an instruction as it was read. If its target is written as a label, `label` is this label, and the target is
--- still 0
+-- an instruction as it was read. If its target is written as a label, `label` is this label, and the target
+-- is still 0
 pub record InstrDraft : Type 0 where
   pub instr : Instr
   pub label : Option (List ℕ)

@@ -158,10 +158,10 @@ finds_no_job made = is_lease made.call && is_no_lease made.reply
 abbrev pub no_job_count : List (Noted Event) → ℕ
 no_job_count events = count_by (λ made. finds_no_job made.event) events
 
--- the desk `old` is `new` after `runners` runners have called through it and have ended. If all succeeded, their
--- calls are `runners` logs, so that none of them kept a lease; and at least one call of `lease` per runner found
--- no free job. If one ended because the history was full, the desk has seen all of it; if an allocation failed,
--- nothing more is known
+-- the desk `old` is `new` after `runners` runners have called through it and have ended. If all succeeded,
+-- their calls are `runners` logs, so that none of them kept a lease; and at least one call of `lease` per
+-- runner found no free job. If one ended because the history was full, the desk has seen all of it; if an
+-- allocation failed, nothing more is known
 pub record HasEnded {L : Type 0} {ledger : Ghosts L} (runners : ℕ) (ended : Result (Unit {0}) RunFault)
     (old new : Desk L ledger) : Type 0 where
   pub on : AddsRunnerCalls old new
@@ -174,9 +174,9 @@ pub record Goes {L : Type 0} {ledger : Ghosts L} (from to : Stage) (old new : De
   pub on : AddsRunnerCalls old new
   pub stage : Leads (clock_of old) from to on.more
 
--- the desk `old` is `new` after calls of a runner, with this result. If it succeeded, they lead from the stage
--- `from` to the stage `to`, and `count` of them or more found no free job; if it ended because the history was
--- full, the desk has seen all of it
+-- the desk `old` is `new` after calls of a runner, with this result. If it succeeded, they lead from the
+-- stage `from` to the stage `to`, and `count` of them or more found no free job; if it ended because the
+-- history was full, the desk has seen all of it
 pub record EndsAt {L : Type 0} {ledger : Ghosts L} (from to : Stage) (count : ℕ)
     (ended : Result (Unit {0}) RunFault) (old new : Desk L ledger) : Type 0 where
   pub on : AddsRunnerCalls old new
@@ -189,9 +189,9 @@ abbrev pub EndsTurn : {L : Type 0} {ledger : Ghosts L}
     → LeaseState → Result (Unit {0}) RunFault → Desk L ledger → Desk L ledger → Type 0
 EndsTurn lease result old new = EndsAt (Has (turn_of lease)) Free 0 result old new
 
--- the desk `old` is `new` after a runner has ordered and run steps of a lease, which was `before` and is `after`.
--- If the book refused an order, the lease has ended; if an allocation failed or the history was full, only the
--- kinds of the calls are known
+-- the desk `old` is `new` after a runner has ordered and run steps of a lease, which was `before` and is
+-- `after`. If the book refused an order, the lease has ended; if an allocation failed or the history was
+-- full, only the kinds of the calls are known
 abbrev pub RunsSteps : {L : Type 0} {ledger : Ghosts L}
     → LeaseState → LeaseState → Result (Unit {0}) BookFault → Desk L ledger → Desk L ledger → Type 0
 RunsSteps before after (Ok done) old new = Goes (Has (turn_of before)) (Has (turn_of after)) old new

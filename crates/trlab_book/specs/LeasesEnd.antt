@@ -18,8 +18,8 @@ abbrev pub is_order_of : ℕ → ℕ → Call → Reply → Bool
 is_order_of job number (call.Order lease) (reply.Ordered of_job of_lease step from) = is_lease_of job number lease
 is_order_of job number _ _ = false
 
--- does this event end this lease? It does if the lease is given back, or if the book refuses it, in an order or when
--- it is given back
+-- does this event end this lease? It does if the lease is given back, or if the book refuses it, in an
+-- order or when it is given back
 abbrev pub ends_lease : ℕ → ℕ → Call → Reply → Bool
 ends_lease job number (call.GiveBack lease) reply.Done = is_lease_of job number lease
 ends_lease job number (call.GiveBack lease) (reply.Refused fault) = is_lease_of job number lease
@@ -35,8 +35,8 @@ pub record IsEndedIn (job number : ℕ) (events : List (Noted Event)) : Type 0 w
   pub ordered : All (λ made. is_order_of job number made.event.call made.event.reply ≡ true) orders
   pub ends : ends_lease job number last.event.call last.event.reply ≡ true
 
--- in the log of a runner, after each lease that went out come accepted orders of this lease, and then an event that
--- ends it
+-- in the log of a runner, after each lease that went out come accepted orders of this lease, and then an
+-- event that ends it
 abbrev pub LeasesEnd : Type 0
 LeasesEnd =
     (log before after : List (Noted Event)) (made : Noted Event) (job number step steps : ℕ) → IsLog log

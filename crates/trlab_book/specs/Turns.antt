@@ -1,5 +1,5 @@
--- The logs of runners. A runner runs jobs in turns: it takes a lease, orders the lease's steps one after another,
--- and ends the lease, before it takes another one. Its last call finds no free job.
+-- The logs of runners. A runner runs jobs in turns: it takes a lease, orders the lease's steps one after
+-- another, and ends the lease, before it takes another one. Its last call finds no free job.
 use Rattle.std.specs.Prelude.{◌≡◌, ℕ, zero, suc, ◌+◌, ◌==◌, ◌≤◌, ltb, Bool, ◌&&◌, List, [], ◌∷◌, ◌++◌, if◌then◌else◌}
 use Rattle.std.specs.List.{fold}
 use Rattle.trlab_sequential_book.specs.Leases.{LeaseState}
@@ -31,8 +31,8 @@ turn_of lease = record {
   steps = lease.steps;
 }
 
--- what a runner has after its calls so far: no lease, but it goes on (`Free`); the lease of this turn (`Has`); no
--- lease, and it has ended (`Through`); or its calls were not those of a runner (`Astray`)
+-- what a runner has after its calls so far: no lease, but it goes on (`Free`); the lease of this turn
+-- (`Has`); no lease, and it has ended (`Through`); or its calls were not those of a runner (`Astray`)
 pub data Stage : Type 0 where
   Free : Stage
   Has : (turn : Turn) → Stage
@@ -44,8 +44,8 @@ abbrev pub is_of_turn : Turn → Offered → Bool
 is_of_turn turn lease =
     (turn.job == lease.job) && ((turn.number == lease.number) && ((turn.base == lease.base) && (turn.step == lease.step)))
 
--- the stage after a call of `lease`: a turn begins with the lease that went out; if no job is free, the runner has
--- ended
+-- the stage after a call of `lease`: a turn begins with the lease that went out; if no job is free, the
+-- runner has ended
 abbrev pub after_leasing : Reply → Stage
 after_leasing (reply.Leased job number step steps) =
     Has (record { job = job; number = number; base = step; step = step; steps = steps })
@@ -69,8 +69,8 @@ after_giving_back reply.Done = Free
 after_giving_back (reply.Refused fault) = Free
 after_giving_back _ = Astray
 
--- the stage after a call of a runner that has the lease of this turn: it orders the next step, if there is one, or
--- gives the lease back
+-- the stage after a call of a runner that has the lease of this turn: it orders the next step, if there is
+-- one, or gives the lease back
 abbrev pub with_lease : Turn → Call → Reply → Stage
 with_lease turn (call.Order lease) told =
     if is_of_turn turn lease && ltb turn.step turn.steps then after_ordering turn told else Astray
@@ -97,9 +97,10 @@ pub record Leads (clock : ℕ) (from to : Stage) (events : List (Noted Event)) :
   pub rise : Rise clock events
   pub stage : last_stage from events ≡ to
 
--- these events are the log of one runner, from its first call to its last: each lease that went out ends before
--- the next call of `lease`, and the last call found no free job. For example, `lease`, `order`, `order`,
--- `give_back` and a `lease` that finds no free job are a log; without the `give_back` they are none
+-- these events are the log of one runner, from its first call to its last: each lease that went out ends
+-- before the next call of `lease`, and the last call found no free job. For example, `lease`, `order`,
+-- `order`, `give_back` and a `lease` that finds no free job are a log; without the `give_back` they are
+-- none
 abbrev pub IsLog : List (Noted Event) → Type 0
 IsLog events = Leads 0 Free Through events
 

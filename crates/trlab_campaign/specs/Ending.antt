@@ -95,8 +95,8 @@ pub record EngineEnds {S K : Type 0} (source : Source.Ghosts S) (sink : Sink.Gho
   pub read : ConsumesUpTo (TEXT_LIMIT + 1) (source.left before) (source.left after)
   -- the reader's calls gave at most one byte more than the size limit of an input
   pub stops : GaveBytes (λ bytes. length bytes ≤ TEXT_LIMIT + 1) (source.given before) (source.given after)
-  -- at `Done` and `Refused` the input was read to its end: the reader's last call reported the end, unless its
-  -- calls gave more bytes than the size limit of an input
+  -- at `Done` and `Refused` the input was read to its end: the reader's last call reported the end, unless
+  -- its calls gave more bytes than the size limit of an input
   pub whole : (end ≡ Done) ⊎ (end ≡ Refused)
       → GaveBytes (λ bytes. length bytes ≤ TEXT_LIMIT → source.at_end after ≡ true)
       (source.given before) (source.given after)

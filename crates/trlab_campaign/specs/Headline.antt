@@ -32,8 +32,9 @@ JobTextsAreDriven =
     (shown : ℕ → Bool) (text out : List ℕ)
     → IsShownOutput shown text false out → IsDrivenJob shown text out
 
--- `out` is the table of a series for the job text `text`, with windows of `every` steps from the step `from` on: one
--- worker drives the job's road, and the table has each window that the run completes, with the counts of this run
+-- `out` is the table of a series for the job text `text`, with windows of `every` steps from the step
+-- `from` on: one worker drives the job's road, and the table has each window that the run completes, with
+-- the counts of this run
 pub record IsDrivenSeries (every from : ℕ) (text out : List ℕ) : Type 0 where
   pub job : Job
   pub parsed_as : ParsesAsJob text (Ok job)
@@ -46,8 +47,8 @@ pub record IsDrivenSeries (every from : ℕ) (text out : List ℕ) : Type 0 wher
   pub whole : CompletesWindows every from job.steps count
   pub table : out ≡ series_text (first_windows roads tallies every from count)
 
--- for windows of any length, from any step on, every output of `series` for a job text that is not a refusal is the
--- table of a driven series
+-- for windows of any length, from any step on, every output of `series` for a job text that is not a
+-- refusal is the table of a driven series
 abbrev pub SeriesTextsAreDriven : Type 0
 SeriesTextsAreDriven =
     (every from : ℕ) (text out : List ℕ)

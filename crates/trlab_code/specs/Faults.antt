@@ -19,8 +19,8 @@ stated_version bytes = slice_index bytes 4
 abbrev pub stated_count : List ℕ → ℕ
 stated_count bytes = slice_index bytes 6 + 256 * slice_index bytes 7
 
--- row pc of the bytes, in which instruction pc is encoded: the INSTR_BYTES bytes after the header and pc rows;
--- fewer if the bytes end there
+-- row pc of the bytes, in which instruction pc is encoded: the INSTR_BYTES bytes after the header and pc
+-- rows; fewer if the bytes end there
 abbrev pub row_at : List ℕ → ℕ → List ℕ
 row_at bytes pc = take INSTR_BYTES (drop (HEADER_BYTES + INSTR_BYTES * pc) bytes)
 
@@ -82,8 +82,8 @@ PassesMagic bytes claim = HasHeader bytes × HasMagic bytes × claim
 abbrev pub PassesKind : List ℕ → Type 0 → Type 0
 PassesKind bytes claim = PassesMagic bytes (HasVersion bytes × HasKind bytes × claim)
 
--- instruction pc is one of the stated instructions, all bytes before it are valid, and its row has the property
--- `IsFaulty`
+-- instruction pc is one of the stated instructions, all bytes before it are valid, and its row has the
+-- property `IsFaulty`
 abbrev pub ReachesInstr : List ℕ → ℕ → (List ℕ → Type 0) → Type 0
 ReachesInstr bytes pc IsFaulty =
     (pc < stated_count bytes) × IsValidBefore bytes pc × IsFaulty (row_at bytes pc)

@@ -35,8 +35,9 @@ pub record EndsWithStatus {S K : Type 0} (source : Source.Ghosts S) (sink : Sink
   pub status_of : status ≡ status_of_end end
   pub ended : RequestEnds source sink request end before after old new
 
--- the end of a command line that gives no request, because `clap` has an error of this kind: either the kind
--- asks for help or the version, which is written to the writer, or the command line is rejected, and nothing is
+-- the end of a command line that gives no request, because `clap` has an error of this kind: either the
+-- kind asks for help or the version, which is written to the writer, or the command line is rejected, and
+-- nothing is
 pub record PrintEnds {K : Type 0} (sink : Sink.Ghosts K)
     (kind : ErrorKind) (status : ℕ) (old new : K) : Type 0 where
   -- the status of a rejected command line is 2, or 3 if an allocation failed while it was read

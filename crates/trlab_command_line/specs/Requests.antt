@@ -65,8 +65,8 @@ reads_input (Series workers every from progress) = true
 reads_input (Explain (OfText subject form)) = true
 reads_input (Explain (Number topic number)) = false
 
--- is the whole output of a request made before its first byte is written? Not that of `run` and `series`, which
--- is written as it is made
+-- is the whole output of a request made before its first byte is written? Not that of `run` and `series`,
+-- which is written as it is made
 abbrev pub writes_at_once : Request → Bool
 writes_at_once Check = true
 writes_at_once (Run workers every from progress) = false

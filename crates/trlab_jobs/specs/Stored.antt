@@ -33,9 +33,9 @@ pub record IsStoredJob (job : Job) : Type 0 where
 abbrev pub CanSpreadOn : Shape → ℕ → Type 0
 CanSpreadOn shape count = CanSpread shape.lanes shape.length shape.limit count
 
--- a sweep as the code keeps it: a rule for its number of lanes, cars that can be spread evenly at each point,
--- 1 to MAX_POINTS points, at least one counted step per point, and at most MAX_WORK steps per point and of all
--- points together
+-- a sweep as the code keeps it: a rule for its number of lanes, cars that can be spread evenly at each
+-- point, 1 to MAX_POINTS points, at least one counted step per point, and at most MAX_WORK steps per point
+-- and of all points together
 pub record IsStoredSweep (sweep : Sweep) : Type 0 where
   pub rule : IsRuleFor sweep.setup.shape.lanes sweep.setup.rule
   pub spreads : All (CanSpreadOn sweep.setup.shape) sweep.cars

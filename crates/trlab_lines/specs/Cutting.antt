@@ -67,8 +67,8 @@ abbrev pub split_label : List ℕ → Option (List ℕ × List ℕ) → Option (
 split_label text None = (None, text)
 split_label text (Some parts) = (Some parts.0, parts.1)
 
--- the label of a line, which is all bytes before its first `:` (58), and the bytes after the `:`; no label and
--- the whole line if it has no `:`. For example, `a: go r0` gives `a` and ` go r0`
+-- the label of a line, which is all bytes before its first `:` (58), and the bytes after the `:`; no label
+-- and the whole line if it has no `:`. For example, `a: go r0` gives `a` and ` go r0`
 abbrev pub label_and_rest : List ℕ → Option (List ℕ) × List ℕ
 label_and_rest line = split_label line (cut 58 line)
 

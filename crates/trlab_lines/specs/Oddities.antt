@@ -10,8 +10,9 @@ use Rattle.trlab_lines.specs.declared.oddity.Oddity.TheVariants.{ByteOrderMark, 
 abbrev pub Contains : List ℕ → ℕ → Type 0
 Contains line byte = IsTrue (list_any (λ c. c == byte) line)
 
--- the line has this oddity: it begins with a byte order mark (239, 187, 191), contains a carriage return (13),
--- has no bytes, contains a tab (9), begins or ends with a space (32), or contains a `;` (59) or a `#` (35)
+-- the line has this oddity: it begins with a byte order mark (239, 187, 191), contains a carriage return
+-- (13), has no bytes, contains a tab (9), begins or ends with a space (32), or contains a `;` (59) or a `#`
+-- (35)
 abbrev pub HasOddity : List ℕ → Oddity → Type 0
 HasOddity line ByteOrderMark = IsTrue (is_some (without_prefix (239 ∷ 187 ∷ 191 ∷ []) line))
 HasOddity line CarriageReturn = Contains line 13

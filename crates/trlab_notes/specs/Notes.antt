@@ -11,9 +11,9 @@ use Rattle.trlab_notes.specs.declared.note.TheConstants.{AT_MOST, BELOW}
 use Rattle.trlab_notes.specs.declared.note.AbstractValue.{AbstractValue}
 use Rattle.trlab_notes.specs.declared.note.AbstractValue.TheVariants.{Nothing, Between, Implies}
 
--- a note, which is an abstract state: the abstract value of each variable, the level of each variable to each,
--- and whether the side cell is known to be empty. The level of x to y is BELOW = 2 if x is known to be below
--- y, AT_MOST = 1 if x is known to be at most y, and otherwise 0
+-- a note, which is an abstract state: the abstract value of each variable, the level of each variable to
+-- each, and whether the side cell is known to be empty. The level of x to y is BELOW = 2 if x is known to
+-- be below y, AT_MOST = 1 if x is known to be at most y, and otherwise 0
 pub record Note : Type 0 where
   pub values : Variable → AbstractValue
   pub level : Variable → Variable → ℕ

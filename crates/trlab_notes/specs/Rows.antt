@@ -25,8 +25,8 @@ level_of rows x y = level_in (slice_index_or rows x (record { at_most = 0; below
 abbrev pub level_at : List (List ℕ) → ℕ → ℕ → ℕ
 level_at levels x y = slice_index (slice_index_or levels x []) y
 
--- the abstract value of variable x in an array of the abstract values of all variables; `Nothing` if the array
--- has no entry for x
+-- the abstract value of variable x in an array of the abstract values of all variables; `Nothing` if the
+-- array has no entry for x
 abbrev pub value_in : List AbstractValue → Variable → AbstractValue
 value_in values x = slice_index_or values (variable_number x) Nothing
 

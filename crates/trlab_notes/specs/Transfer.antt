@@ -127,9 +127,9 @@ abbrev pub assign_result : Note → Register → Instr → Note
 assign_result note d instr =
     assign note d (result_value note instr) (result_to note instr) (to_result note instr)
 
--- the level of x to y that follows from the levels i of x to p, k of p to q, and j of q to y, for k of AT_MOST
--- or BELOW: 0 if i or j is 0, otherwise the largest of the three. For example, x at most p, p below q and q at
--- most y give x below y
+-- the level of x to y that follows from the levels i of x to p, k of p to q, and j of q to y, for k of
+-- AT_MOST or BELOW: 0 if i or j is 0, otherwise the largest of the three. For example, x at most p, p below
+-- q and q at most y give x below y
 abbrev pub chain : ℕ → ℕ → ℕ → ℕ
 chain zero k j = 0
 chain (suc i) k zero = 0

@@ -25,13 +25,13 @@ happens_at chance words k = happens_on chance (slice_index words k)
 abbrev pub nasch_speed : ℕ → View → List ℕ → ℕ
 nasch_speed p view words = brake (happens_at p words 0) (safe_speed view.speed view.limit view.gap)
 
--- the braking probability in the VDR model, times 2 ^ 31: p0 for a car whose speed before the step is 0, and p
--- for a moving car
+-- the braking probability in the VDR model, times 2 ^ 31: p0 for a car whose speed before the step is 0,
+-- and p for a moving car
 abbrev pub vdr_braking_chance : ℕ → ℕ → ℕ → ℕ
 vdr_braking_chance p p0 speed = if nat_eq speed 0 then p0 else p
 
--- the speed in the VDR model (Barlovic et al. 1998), which adds slow starts to the Nagel-Schreckenberg model: a
--- stopped car brakes with probability p0 / 2 ^ 31, a moving car with p / 2 ^ 31
+-- the speed in the VDR model (Barlovic et al. 1998), which adds slow starts to the Nagel-Schreckenberg
+-- model: a stopped car brakes with probability p0 / 2 ^ 31, a moving car with p / 2 ^ 31
 abbrev pub vdr_speed : ℕ → ℕ → View → List ℕ → ℕ
 vdr_speed p p0 view words = nasch_speed (vdr_braking_chance p p0 view.speed) view words
 
@@ -54,7 +54,7 @@ acceleration_1992 speed limit distance =
 abbrev pub slowing_down_1992 : ℕ → ℕ → ℕ
 slowing_down_1992 speed distance = if nat_le distance speed then distance - 1 else speed
 
--- the speed after acceleration and then slowing down, as worded by Nagel and Schreckenberg (1992); the distance
--- to the next car ahead is gap + 1
+-- the speed after acceleration and then slowing down, as worded by Nagel and Schreckenberg (1992); the
+-- distance to the next car ahead is gap + 1
 abbrev pub wording_1992 : ℕ → ℕ → ℕ → ℕ
 wording_1992 speed limit gap = slowing_down_1992 (acceleration_1992 speed limit (gap + 1)) (gap + 1)

@@ -20,8 +20,8 @@ slow_down = Get R2 Gap ∷ Min R0 R0 R2 ∷ []
 abbrev pub randomize : ℕ → List Instr
 randomize go = JumpFalse R3 go ∷ Min R1 R1 R0 ∷ Sub R0 R0 R1 ∷ []
 
--- slow starts: the flag in R3 is true with probability p0 / 2 ^ 31 if the speed in R0 is 0 (below the 1 in R1),
--- and otherwise with p / 2 ^ 31; these are instructions 2 to 5 of the program
+-- slow starts: the flag in R3 is true with probability p0 / 2 ^ 31 if the speed in R0 is 0 (below the 1 in
+-- R1), and otherwise with p / 2 ^ 31; these are instructions 2 to 5 of the program
 abbrev pub draw_by_speed : ℕ → ℕ → List Instr
 draw_by_speed p p0 = JumpAtMost R1 R0 5 ∷ Draw R3 0 p0 ∷ Jump 6 ∷ Draw R3 0 p ∷ []
 
@@ -34,8 +34,8 @@ nasch_program p = record {
       Get R0 Speed ∷ Num R1 1 ∷ accelerate ++ slow_down ++ Draw R3 0 p ∷ randomize 11 ++ Go R0 ∷ [];
 }
 
--- the motion program of the velocity-dependent-randomization (VDR) model (Barlovic et al. 1998): a stopped car
--- brakes with probability p0 / 2 ^ 31, a moving car with p / 2 ^ 31; instruction 14 is `Go`
+-- the motion program of the velocity-dependent-randomization (VDR) model (Barlovic et al. 1998): a stopped
+-- car brakes with probability p0 / 2 ^ 31, a moving car with p / 2 ^ 31; instruction 14 is `Go`
 abbrev pub vdr_program : ℕ → ℕ → Program
 vdr_program p p0 = record {
   kind = Motion;
@@ -53,8 +53,8 @@ abbrev pub stay_unless_free : ℕ → List Instr
 stay_unless_free stay =
     Get R2 SideGap ∷ JumpAtMost R2 R1 stay ∷ Get R2 SideBack ∷ Get R3 Limit ∷ JumpAtMost R2 R3 stay ∷ []
 
--- the change program of Rickert et al. (1996), with distances of this project's own: a car that wants to change
--- lanes and may do so changes with probability c / 2 ^ 31; instruction 15 is `Stay`
+-- the change program of Rickert et al. (1996), with distances of this project's own: a car that wants to
+-- change lanes and may do so changes with probability c / 2 ^ 31; instruction 15 is `Stay`
 abbrev pub rickert_program : ℕ → Program
 rickert_program c = record {
   kind = Change;

@@ -22,7 +22,8 @@ pub record WentOut (book : BookState) (made : Event) (lease : LeaseState) : Type
   pub fresh : IsFreshIfLent book.jobs book.next (Some lease)
   pub is_lease : IsLease lease
 
--- in this event the book accepted an order of the lease, which then ran the ordered step: it was `old` and is `new`
+-- in this event the book accepted an order of the lease, which then ran the ordered step: it was `old` and
+-- is `new`
 pub record RanStep (book : BookState) (made : Event) (old new : LeaseState) : Type 0 where
   pub order : Order
   pub same : Bool
@@ -30,15 +31,16 @@ pub record RanStep (book : BookState) (made : Event) (old new : LeaseState) : Ty
   pub rule : HasRuleInForce book.jobs order
   pub ran : HasRun old order new
 
--- these events, made on `book` one after another, take a lease from `old` to `new`: in each of them it stays as it is,
--- or runs a step that was ordered
+-- these events, made on `book` one after another, take a lease from `old` to `new`: in each of them it
+-- stays as it is, or runs a step that was ordered
 abbrev pub GoesThrough : BookState → List Event → LeaseState → LeaseState → Type 0
 GoesThrough book [] old new = new ≡ old
 GoesThrough book (made ∷ events) old new =
     (next : LeaseState) × ((next ≡ old) ⊎ RanStep book made old next)
     × GoesThrough (after book made.call) events next new
 
--- a call offers the lease: with its next step, which the job has, or to give it back. `same` is the verdict on it
+-- a call offers the lease: with its next step, which the job has, or to give it back. `same` is the verdict
+-- on it
 abbrev pub Offers : Call → LeaseState → Bool → Type 0
 Offers made lease same =
     (made ≡ call.GiveBack (offered lease same)) ⊎ ((made ≡ call.Order (offered lease same)) × (lease.step < lease.steps))
@@ -47,8 +49,8 @@ Offers made lease same =
 abbrev pub IsNotOut : BookState → LeaseState → Type 0
 IsNotOut book lease = MatchOption (slice_get book.jobs lease.job) ⊥ (λ job. is_out lease.number job.out ≡ false)
 
--- in a history that replays, a lease went out and ran only steps that the book ordered. If the book refuses its order or
--- its return, with the correct verdict on it, then it is not out: another call has ended it
+-- in a history that replays, a lease went out and ran only steps that the book ordered. If the book refuses
+-- its order or its return, with the correct verdict on it, then it is not out: another call has ended it
 abbrev pub RefusedLeasesAreNotOut : Type 0
 RefusedLeasesAreNotOut =
     (history before events later : List Event) (out : Event) (book : BookState) (lease now : LeaseState)

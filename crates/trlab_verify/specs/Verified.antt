@@ -19,8 +19,8 @@ pub record IsAcceptedAs (kind : Kind) (code : Program) (program : CheckedProgram
   pub safe : IsSafe kind code.instrs program.budget
   pub some_table : HasCertificate kind code
 
--- the error of verifying a code as a program of kind `kind`: the same code, and either the verdict's reason to
--- reject it, which excludes certificates, or a failed allocation
+-- the error of verifying a code as a program of kind `kind`: the same code, and either the verdict's reason
+-- to reject it, which excludes certificates, or a failed allocation
 pub record IsVerifyErrorAs (kind : Kind) (code : Program) (error : Program × VerifyFault) : Type 0 where
   pub same : error.0 ≡ code
   pub refused : IsFaultOf kind code error.1
