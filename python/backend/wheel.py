@@ -35,7 +35,7 @@ def version():
 
 
 def metadata():
-    """What an installer is told of the package, from the table [project] of pyproject.toml."""
+    """The metadata of the package for installers, from the table [project] of pyproject.toml."""
     text = (TOP / "pyproject.toml").read_text()
     summary, python = (re.search(rf'^{word} = "(.*)"$', text, re.M)[1] for word in ("description", "requires-python"))
     lines = ["Metadata-Version: 2.1", "Name: trlab", f"Version: {version()}", f"Summary: {summary}"]

@@ -63,7 +63,7 @@ class Window:
         return self.driver.get_screenshot_as_png()
 
     def spoken(self, element):
-        """The role and the name of an element that a screen reader says; `element` is what a script returns."""
+        """The role and the name of an element for a screen reader; `element` is the result of a script."""
         return element.aria_role, element.accessible_name
 
     def type(self, selector, *keys):
@@ -82,7 +82,7 @@ class Window:
         ActionChains(self.driver, duration=0).send_keys(*keys).perform()
 
     def corner(self, name):
-        """The upper left corner of an element, which is scrolled into view."""
+        """Scroll an element into view, and return its upper left corner."""
         return self.js(
             "const it = document.getElementById(arguments[0]); it.scrollIntoView({block: 'center'});"
             "const box = it.getBoundingClientRect(); return [box.left, box.top]", name)
@@ -95,7 +95,7 @@ class Window:
         actions.perform()
 
     def drag(self, name, x, to, y):
-        """Drag from one x to another one inside an element, at a y."""
+        """Drag inside an element, at height y, from one x to another."""
         left, top = self.corner(name)
         actions = ActionBuilder(self.driver, duration=50)
         pointer = actions.pointer_action.move_to_location(round(left + x), round(top + y)).pointer_down()

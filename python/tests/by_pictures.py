@@ -1,7 +1,7 @@
 """A second program for series: the table of a job as sums over the snapshots that `trlab run` writes.
 
 It knows nothing of rules. Cars that changed lanes are found in two consecutive snapshots: a car at
-speed v has come from v cells behind, on the lane where it is now."""
+speed v has come from v cells behind, on its present lane."""
 from collections.abc import Iterable, Iterator, Sequence
 from typing import NamedTuple
 
@@ -10,7 +10,7 @@ from trlab._inputs.states import SPEEDS
 
 
 class OnLane(NamedTuple):
-    """What is on a lane of one snapshot."""
+    """The counts of a lane in one snapshot."""
 
     cars: int
     distance: int
@@ -28,7 +28,7 @@ def cells_before_motion(lane: str) -> set[int]:
 
 
 def changes(before: Snapshot, after: Snapshot) -> int:
-    """How many cars crossed: cells that were taken before, and were empty when the motion began."""
+    """The number of cars that changed lanes: cells that were taken before, and were empty when the motion began."""
     if len(before.lanes) == 1:
         return 0
     taken = [{cell for cell, sign in enumerate(lane) if sign != "."} for lane in before.lanes]

@@ -92,7 +92,7 @@ class Marionette:
         return json.loads(self.stream.read(int(size)))
 
     def execute(self, command, words):
-        """The answer to a command of selenium, or to one of Marionette."""
+        """The result of a command of selenium, or of one of Marionette."""
         self.number += 1
         words = {name: value for name, value in (words or {}).items() if name != "sessionId" and command != Command.NEW_SESSION}
         if command == Command.W3C_EXECUTE_SCRIPT:

@@ -1,4 +1,4 @@
-"""What the tests of the page share: a server, a browser with its page, and calls that wait for a condition."""
+"""Shared by the tests of the page: a server, a browser with its page, and calls that wait for a condition."""
 import threading
 
 from tests.browsers import Keys, Window
@@ -60,11 +60,11 @@ class OnPage:
             self.assertIn(wanted, self.page.job())
 
     def has_marks(self, count):
-        """The fundamental diagram has so many points of one sweep; the run may have added its own."""
+        """The fundamental diagram has this number of points of one sweep; the run may have added its own."""
         self.hold(lambda: self.page.js("return lab.marks.some(it => it.points.length === arguments[0])", count))
 
     def turn(self, words):
-        """Click on the button that plays and pauses, if it says this. A run may end between two scripts: this is one."""
+        """Click on the button that plays and pauses, if it has this text: in one script, because a run may end between two."""
         self.page.js("const it = document.getElementById('play'); if (it.textContent === arguments[0]) it.click()", words)
 
     def runs(self):

@@ -1,4 +1,4 @@
-"""The libraries of the analysis for its tests, which are left out where these are not installed."""
+"""The libraries of the analysis for its tests, which are skipped if the libraries are not installed."""
 import unittest
 
 try:

@@ -1,5 +1,5 @@
 """Wrong edits of the analysis, of the exact results and of the translation of Python rules, each of which a test must notice. Run
-by hand, in `python/`, with the libraries of the analysis:
+it by hand, in `python/`, with the libraries of the analysis:
 
     python3 -m tests.mutants            # all, which takes some minutes
     python3 -m tests.mutants means.py   # those of one file
@@ -48,7 +48,7 @@ TESTS = {
 """The tests that have to notice an edit of a file, the fast ones first."""
 
 ABOUT = "[input.limit, input.lanes, cells, start, rules, input.steps]"
-"""What repetitions of a job have in common."""
+"""The parameters that repetitions of a job share."""
 
 MUTANTS = [
     # Means and their errors.

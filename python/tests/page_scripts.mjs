@@ -1,5 +1,5 @@
 // Calls functions of the page's scripts, which come before this text. Standard input is a list of calls in JSON, each [module,
-// function, arguments]. The answers are { value }, or { error } with the message of an error that is thrown on purpose.
+// function, arguments]. The results are { value }, or { error } with the message of an error that is thrown on purpose.
 
 let text = "";
 for await (const part of process.stdin.setEncoding("utf8")) text += part;

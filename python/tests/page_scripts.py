@@ -13,7 +13,7 @@ CALLER = Path(__file__).with_suffix(".mjs").read_text()
 
 
 class Thrown(Exception):
-    """An error of a script: its message is the argument. It is one that the script throws on purpose."""
+    """An error that a script throws on purpose, with its message as the argument."""
 
 
 def answers(calls, edit=lambda script: script):

@@ -1,4 +1,4 @@
-"""Programs that stand in for trlab, child processes of Python, and which processes they leave."""
+"""Programs that replace trlab, child processes of Python, and the processes that they leave behind."""
 import os
 import signal
 import subprocess
@@ -22,7 +22,7 @@ def logging_program(folder):
 
 
 def calls(folder, word):
-    """How often the program was called with this word."""
+    """The number of calls of the program with this word."""
     file = Path(folder) / "calls"
     return file.read_text().split().count(word) if file.exists() else 0
 
@@ -60,7 +60,7 @@ def end(started):
 
 
 def until(condition, seconds=300):
-    """Waits for a condition, and says whether it came true."""
+    """Waits for a condition, and returns whether it came true."""
     end = time.monotonic() + seconds
     while time.monotonic() < end:
         if condition():

@@ -1,4 +1,4 @@
-"""Random functions of the subset of `trlab.motion` and `trlab.change`, and two ways to answer a view: Python runs the function
+"""Random functions of the subset of `trlab.motion` and `trlab.change`, and two ways to evaluate them: Python runs the function
 itself, and a small interpreter runs its program. Both are written from docs/PROGRAMS.md, and not from the translation."""
 import ast
 import functools
@@ -347,7 +347,7 @@ class Numbered(ast.NodeTransformer):
 
 
 def called_by_python(text, kind, given):
-    """The answer of a function to a view, as Python calculates it."""
+    """The result of a function for a view, as Python calculates it."""
     tree, draws = ast.parse(text), {}
     for node in tree.body:
         if isinstance(node, ast.FunctionDef):
@@ -380,7 +380,7 @@ class Car:
 
 
 def answer(program, view):
-    """The answer of a program to a view: a speed, or whether the car changes lanes."""
+    """The result of a program for a view: a speed, or whether the car changes lanes."""
     lines, labels = parsed(program)
     registers, pc = {}, 0
     while True:
@@ -410,7 +410,7 @@ def parsed(program):
 
 
 def random_view(dice):
-    """A view of a car: often with small numbers, and sometimes with the greatest."""
+    """A view of a car: often with small numbers, and sometimes with the largest ones."""
     limit = dice.choice([1, 2, 3, 5, 5, 9, 20, 35])
     is_empty = dice.random() < 0.6
 
@@ -443,7 +443,7 @@ class Tried:
         return self.error is not None and not any(it in self.error for it in EXPECTED)
 
     def difference(self, views):
-        """The first of some random views at which the program and the function differ, with both answers; None if there is none."""
+        """The first random view for which the program and the function differ, with both results; None if there is none."""
         by_python = called_by_python(self.text, self.kind, self.given)
         for _ in range(views):
             view = random_view(self.dice)

@@ -1,4 +1,4 @@
-"""Small modules of WebAssembly in the place of the program, for its rare ends."""
+"""Small modules of WebAssembly that replace the program, for its rare ends."""
 
 
 def module_of(code):

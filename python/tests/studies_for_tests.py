@@ -15,7 +15,7 @@ NAMES = ["p", "length", "site"]
 
 
 def known(key, cars=1, cells=10, ensemble="e"):
-    """What is known of an input with one road."""
+    """The known values of an input with one road."""
     return {"key": f"{key:064x}", "cars": [cars], "cells": cells, "ensembles": [ensemble]}
 
 

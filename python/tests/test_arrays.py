@@ -1,4 +1,4 @@
-"""Results as arrays and frames, where numpy and pandas are there."""
+"""Results as arrays and frames, if numpy and pandas are installed."""
 import importlib.util
 import unittest
 from dataclasses import replace

@@ -1,4 +1,4 @@
-"""Outputs that are kept in a folder: whole or not there, whatever is killed; and no process is left."""
+"""Outputs that are kept in a folder: each is complete or missing, even if a process is killed; and no process is left."""
 import json
 import os
 import signal
@@ -23,7 +23,7 @@ SHAPE = Sweep(limit=5, length=100, rule=Nasch(0.25), warm=10, measure=20, cars=[
 SWEEPS = {f"key_{key}": replace(SHAPE, key=key) for key in range(5)}
 JOB = Job(limit=5, length=20, cars=4, rule=Nasch(0.25), steps=9)
 
-# 30 sweeps, each result of which waits for a line on standard input, or for its end.
+# 30 sweeps; after each result the script waits for a line on standard input, or for its end.
 MANY = """
 import json, sys, trlab
 shape = {"limit": 5, "length": 10000, "rule": trlab.Nasch(0.25), "warm": 500, "measure": 500}
@@ -36,7 +36,7 @@ for key, table in trlab.results(sweeps, cache=sys.argv[1], at_once=2):
 print(json.dumps(sorted(found.items())), flush=True)
 """
 
-# Runs that would take minutes, in threads or in processes; what happens to the script after the first result differs.
+# Runs that would take minutes, in threads or in processes; the scripts differ in the event after the first result.
 LONG = """
 import signal, sys, time, trlab
 from concurrent.futures import ProcessPoolExecutor, ThreadPoolExecutor
@@ -126,7 +126,7 @@ class Kept(unittest.TestCase):
         return entered
 
     def new_calls(self):
-        """Runs all sweeps, compares their tables, and says how many calls of the program that took."""
+        """Runs all sweeps, compares their tables, and returns the number of calls of the program."""
         before = calls(self.folder, "sweep")
         self.assertEqual(dict(trlab.results(SWEEPS, cache=self.cache)), self.wanted)
         self.assertEqual([file.name for file in self.cache.iterdir() if file.name.startswith(".")], [])
@@ -136,7 +136,7 @@ class Kept(unittest.TestCase):
         self.assertEqual((self.new_calls(), self.new_calls()), (5, 0))
         self.assertEqual(len(list(self.cache.glob("*.out"))), 5)
 
-    def test_what_a_call_makes_of_an_output_is_made_again(self):
+    def test_the_result_of_a_call_is_computed_again_from_the_kept_output(self):
         steps = [
             dict(trlab.results([JOB], cache=self.cache, call=lambda job: job.series(every=3)[place].step))[0]
             for place in range(3)
@@ -156,8 +156,8 @@ class Kept(unittest.TestCase):
                 self.assertEqual(self.new_calls(), 1)
                 self.assertEqual(one.read_bytes(), whole)
 
-    def test_what_is_no_file_is_replaced(self):
-        """A pipe, a device or a link has the name of an output: nothing is read from it, and nothing waits for it."""
+    def test_a_name_that_is_not_a_file_is_replaced(self):
+        """A pipe, a device or a link has the name of an output: nothing is read from it, and no call waits for it."""
         self.new_calls()
         one = min(self.cache.glob("*.out"))
         whole = one.read_bytes()
@@ -171,7 +171,7 @@ class Kept(unittest.TestCase):
                 self.assertEqual((one.is_symlink(), one.read_bytes()), (False, whole))
         self.assertEqual(victim.read_text(), "untouched")
 
-    def test_a_folder_in_place_of_an_output_is_named(self):
+    def test_a_folder_with_the_name_of_an_output_is_named(self):
         self.new_calls()
         one = min(self.cache.glob("*.out"))
         one.unlink()
@@ -247,7 +247,7 @@ print(found == {name: sweep.sweep() for name, sweep in SWEEPS.items()}, *(it.mes
 
 
 class Killed(unittest.TestCase):
-    def test_a_killed_run_goes_on_where_it_stopped(self):
+    def test_a_killed_run_continues_from_its_last_result(self):
         with tempfile.TemporaryDirectory() as folder:
             program = str(logging_program(folder))
             cache = Path(folder) / "cache"
@@ -296,7 +296,7 @@ class Killed(unittest.TestCase):
 
 
 class Stopped(unittest.TestCase):
-    """After Ctrl-C, an exception, a loop that is left, or an exit of Python, no process of trlab goes on."""
+    """After Ctrl-C, an exception, a loop that is left, or an exit of Python, no process of trlab continues."""
 
     def try_one(self, executor, ending):
         with tempfile.TemporaryDirectory() as cache:
@@ -319,7 +319,7 @@ class Stopped(unittest.TestCase):
             finally:
                 end(running)
 
-    def test_all_ways(self):
+    def test_all_kinds_of_ends(self):
         wanted = {"interrupt": ["KeyboardInterrupt\n", "over\n"], "raise": ["KeyError\n", "over\n"], "break": ["over\n"], "hold": [""]}
         for executor in "threads", "pool", "processes":
             for ending, lines in wanted.items():

@@ -1,4 +1,4 @@
-"""An output counts only if it has all lines that its input gives, whatever the exit status says; nothing else is kept."""
+"""An output counts only if it has all lines that its input gives, for any exit status; no other output is kept."""
 import hashlib
 import os
 import signal
@@ -62,7 +62,7 @@ class Incomplete(unittest.TestCase):
         self.cache = self.folder / "cache"
 
     def try_all(self, lines, *errors):
-        """Every call of such a program raises one of these errors, and nothing is kept."""
+        """Every call of such a program raises one of these errors, and no output is kept."""
         errors = errors or (IncompleteOutputError,)
         with fake(self.folder, lines):
             for name, call in CALLS.items():
@@ -90,7 +90,7 @@ class Incomplete(unittest.TestCase):
         self.try_all('real "$@"; printf 1')
         self.try_all('cat >input; real "$@" <input; real "$@" <input'.replace("input", f'"{self.folder}/input"'))
 
-    def test_the_exit_status_is_told_first(self):
+    def test_the_exit_status_is_reported_first(self):
         self.try_all('real "$@" | head -n 1; exit 3', ProgramError)
         self.try_all("kill -9 $$", ProgramError)
 
@@ -111,11 +111,11 @@ class Incomplete(unittest.TestCase):
             self.assertEqual([next(snapshots).step for _ in range(2)], [0, 1])
             self.assertRaisesRegex(IncompleteOutputError, "`trlab run` wrote 4 of the 14 lines", next, snapshots)
 
-    def test_bytes_that_are_no_text(self):
+    def test_bytes_that_are_not_text(self):
         with fake(self.folder, r"printf '\377\n'"):
             self.assertRaises(OutputFormatError, check, "motion\ngo 0\n")
 
-    def test_an_answer_without_its_end(self):
+    def test_a_verdict_without_its_end(self):
         with fake(self.folder, 'printf %s "$(real "$@")"'):
             program = "motion\nget r0, gap\nget r1, limit\nmin r0, r0, r1\ngo r0\n"
             self.assertRaisesRegex(IncompleteOutputError, "without its end", check, program)
@@ -140,7 +140,7 @@ def subprocess_output(request):
     return subprocess.run(line, input=request.text, stdout=subprocess.PIPE, text=True, check=True).stdout
 
 
-# Prints the class of what each call raises, or what it returns.
+# Prints the class of the exception that each call raises, or of its result.
 EACH_CALL = """
 import sys, trlab
 from trlab.lab import Lab
@@ -177,7 +177,7 @@ class Statuses(unittest.TestCase):
                     is_over.wait(0.01)
 
         with tempfile.TemporaryDirectory() as folder, fake(folder, 'real "$@"; kill -9 $$'):
-            # The program is asked for its version before.
+            # Before this the program has run for its version.
             find_program()
             reaper = threading.Thread(target=reap)
             reaper.start()
@@ -189,7 +189,7 @@ class Statuses(unittest.TestCase):
                 reaper.join()
 
 
-# Sweeps that take minutes, and write nothing until they end; a signal comes after the first line.
+# Sweeps that take minutes, and write no output until they end; a signal comes after the first line.
 ENDLESS = """
 import signal, sys, trlab
 from concurrent.futures import ProcessPoolExecutor, ThreadPoolExecutor
@@ -232,13 +232,13 @@ class Signals(unittest.TestCase):
             finally:
                 end(running)
 
-    def test_all_ways(self):
+    def test_all_kinds_of_ends(self):
         for way, programs in {"sweep": 1, "snapshots": 1, "inner": 2, "threads": 2, "pool": 2, "processes": 2}.items():
             for sent in signal.SIGTERM, signal.SIGHUP:
                 with self.subTest(way=way, signal=sent):
                     self.assertEqual(self.try_one(way, sent, programs), -sent)
 
-    def test_a_handler_of_the_script_is_left_alone(self):
+    def test_a_handler_of_the_script_stays(self):
         self.assertEqual(self.try_one("handled", signal.SIGTERM, 1), 7)
 
     def test_afterwards_the_signals_are_as_before(self):
@@ -288,7 +288,7 @@ class Words(unittest.TestCase):
             told.add(ran.stdout)
         self.assertEqual(len(told), 1)
 
-    def test_bytes_that_were_no_text_reach_the_program(self):
+    def test_bytes_that_were_not_text_reach_the_program(self):
         with self.assertRaises(RejectedInputError) as caught:
             check(b"motion\ng\xff\xfft r0, speed\n".decode("utf-8", "surrogateescape"))
         self.assertEqual((caught.exception.line, caught.exception.first), (2, 1))

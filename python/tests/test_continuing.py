@@ -23,13 +23,13 @@ def digest(key, step):
 
 @contextmanager
 def short_inputs(steps):
-    """Inputs of at most so many steps."""
+    """Inputs of at most this number of steps."""
     with mock.patch("trlab._inputs.jobs.MAX_STEPS", steps), mock.patch("trlab._inputs.long_jobs.MAX_STEPS", steps):
         yield
 
 
 class Continued(unittest.TestCase):
-    def test_it_begins_with_the_picture(self):
+    def test_it_begins_with_the_snapshot(self):
         for job in ONE, TWO:
             snapshots = job.run()
             for snapshot in snapshots[0], snapshots[29], snapshots[-1]:
@@ -62,17 +62,17 @@ class Continued(unittest.TestCase):
         self.assertEqual(ONE.continued(snapshot).key, digest(7, 20))
         self.assertEqual(ONE.continued(snapshot, key=8).key, 8)
         self.assertEqual((ONE.continued(snapshot).steps, ONE.continued(snapshot, steps=3).steps), (50, 3))
-        # The same key draws the words of the steps 0, 1, and so on again, another one does not.
+        # The same key draws the words of the steps 0, 1, and so on again; another key does not.
         again = ONE.continued(ONE.run()[0], key=ONE.key).run()
         self.assertEqual([it.lanes for it in again], [it.lanes for it in ONE.run()])
         self.assertNotEqual([it.lanes for it in ONE.continued(ONE.run()[0]).run()], [it.lanes for it in ONE.run()])
 
-    def test_a_picture_beyond_the_run_is_rejected(self):
+    def test_a_snapshot_beyond_the_run_is_rejected(self):
         self.assertRaisesRegex(ValueError, "snapshot must be between 0 and 50, not 51", ONE.continued, Snapshot(51, ("0",)))
 
 
 class LongRuns(unittest.TestCase):
-    def test_pictures_are_those_of_the_inputs(self):
+    def test_snapshots_are_those_of_the_inputs(self):
         with short_inputs(20):
             snapshots = TWO.run()
             first = replace(TWO, steps=20, at={}).run()
@@ -83,14 +83,14 @@ class LongRuns(unittest.TestCase):
         self.assertEqual([it.lanes for it in snapshots[20:41]], [it.lanes for it in second])
         self.assertEqual(third[0].lanes, second[-1].lanes)
 
-    def test_every_nth_picture(self):
+    def test_every_nth_snapshot(self):
         with short_inputs(20):
             snapshots = TWO.run()
             for every, first in (1, 0), (1, 20), (7, 0), (7, 3), (20, 20), (3, 41), (60, 50):
                 self.assertEqual(list(long_jobs.snapshots(TWO, Asked(every, first, 1))), snapshots[first::every])
                 self.assertEqual(TWO.run(every=every, first=first), snapshots[first::every])
 
-    def test_other_pictures_are_not_asked_for(self):
+    def test_only_the_snapshots_that_are_needed_are_computed(self):
         asked = []
 
         def ask(words, text):
@@ -110,7 +110,7 @@ class LongRuns(unittest.TestCase):
                 stopped = [it.step for it in job.snapshots() if it.speeds()[0].count(0)]
             self.assertEqual(stopped, [0, *range(change + 1, 51)])
 
-    def test_windows_are_those_of_the_pictures(self):
+    def test_windows_are_those_of_the_snapshots(self):
         for job in ONE, TWO:
             with short_inputs(20):
                 snapshots = job.run()
@@ -132,12 +132,12 @@ class LongRuns(unittest.TestCase):
         self.assertEqual(hash(job), hash(replace(job)))
         self.assertIn("steps 500000\n", replace(job, steps=500000).text())
 
-    def test_numbers_of_windows_are_judged(self):
+    def test_numbers_of_windows_are_checked(self):
         job = replace(ONE, steps=500001)
         self.assertRaisesRegex(ValueError, "every must be between 1 and 500001, not 0", job.series, every=0)
         self.assertRaisesRegex(TypeError, "first must be a whole number", job.series, first=1.5)
 
-    def test_beyond_the_greatest_input(self):
+    def test_beyond_the_largest_input(self):
         job = Job(limit=1, length=3, cars=1, rule=Nasch(0.5), steps=500015, at={499990: Nasch(0), 500010: Nasch(1)})
         before, seam, after = job.series(every=10, first=499985)
         self.assertEqual([it.step for it in (before, seam, after)], [499995, 500005, 500015])

@@ -1,4 +1,4 @@
-"""Detectors: beside trajectories, and beside a count that moves each car cell by cell."""
+"""Detectors, compared with trajectories and with a count that moves each car cell by cell."""
 import importlib.util
 import math
 import os
@@ -23,7 +23,7 @@ else:
 
 
 def cell_by_cell(snapshots):
-    """The step, cell, lane and speed of each car that passes the end of a cell, from the way of each car in each step."""
+    """The step, cell, lane and speed of each car that passes the end of a cell, from the path of each car in each step."""
     for snapshot in snapshots[1:]:
         length = len(snapshot.lanes[0])
         for lane, cells in enumerate(snapshot.speeds()):
@@ -41,7 +41,7 @@ def mean(values):
 class Detectors(unittest.TestCase):
     @EXAMPLES
     @ROADS
-    def test_passings_are_those_of_each_car(self, job, first):
+    def test_passages_are_those_of_each_car(self, job, first):
         snapshots, cells = job.run(first=first), [*range(job.length)]
         found = trlab.passings(iter(snapshots), cells)
         wanted = sorted(cell_by_cell(snapshots))
@@ -57,7 +57,7 @@ class Detectors(unittest.TestCase):
 
     @EXAMPLES
     @ROADS
-    def test_windows_are_sums_over_passings(self, job, first):
+    def test_windows_are_sums_over_passages(self, job, first):
         snapshots, cells = job.run(first=first)[:25], [*{0, job.length // 2, job.length - 1}]
         passed = [*cell_by_cell(snapshots)]
         for every in 1, 6, 24:
@@ -119,7 +119,7 @@ class Detectors(unittest.TestCase):
 
         self.assertEqual(len(trlab.detectors(snapshots(), [0], every=100)), 4)
 
-    def test_what_is_refused(self):
+    def test_wrong_arguments(self):
         snapshots = Job(limit=5, length=20, cars=5, rule=Nasch("1/4"), steps=30).run()
         for cells in [20], [-1], [], [1, 1], [1.5], ["1"]:
             self.assertRaises((ValueError, TypeError), trlab.detectors, snapshots, cells, 10)
@@ -166,7 +166,7 @@ print("<html" in snapshots.html(), "41 snap" in snapshots._repr_html_())
 
 
 class MissingLibraries(unittest.TestCase):
-    def test_each_call_says_how_to_install_them(self):
+    def test_each_call_names_the_missing_library(self):
         words = [sys.executable, "-c", WITHOUT_LIBRARIES]
         told = subprocess.run(words, capture_output=True, text=True, env=ENVIRONMENT, check=True)
         *errors, numbers, pages = told.stdout.splitlines()

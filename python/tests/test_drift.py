@@ -1,4 +1,4 @@
-"""The test for drift: its false alarms on noise, what it finds, and the distribution of Student that it uses."""
+"""The test for drift: its false alarms on noise, the drifts that it finds, and Student's distribution, which it uses."""
 import random
 import unittest
 from dataclasses import replace
@@ -9,7 +9,7 @@ from trlab._results.drift import drift_of, tails_of_t
 
 
 def noise(seed, length, memory=0.0):
-    """Normal numbers, each of which remembers a part of the one before it."""
+    """Normal numbers, each of which is correlated with the number before it."""
     numbers, value, values = random.Random(seed), 0.0, []
     for _ in range(length):
         value = memory * value + numbers.gauss(0, 1)
@@ -94,7 +94,7 @@ class Rejected(unittest.TestCase):
         self.assertRaisesRegex(EstimateError, "only a series can drift", table.drift)
         self.assertRaisesRegex(EstimateError, "only a series can drift", Table(Point).drift)
 
-    def test_windows_that_are_not_one_run(self):
+    def test_windows_of_several_runs(self):
         table, other = self.job.series(every=2), replace(self.job, cars=5).series(every=2)
         later = replace(self.job, key=1).series(every=4, first=80)
         for wrong in table[::2] + table[1::2], table[:20] + table[21:], table + table, table[::-1], table[:60] + other[60:], \

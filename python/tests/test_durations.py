@@ -1,4 +1,4 @@
-"""The time until an event: that of the first window in which it is seen, and the program runs no longer."""
+"""The time until an event: the end of the first window with the event, after which the program is stopped."""
 import subprocess
 import tempfile
 import unittest

@@ -1,4 +1,4 @@
-"""Estimates and their errors: how often the truth is within two of them, and what is refused."""
+"""Estimates and their errors: how often the true value is within two standard errors, and which arguments are rejected."""
 import contextlib
 import math
 import unittest
@@ -42,7 +42,7 @@ class Blocking(unittest.TestCase):
         self.assertGreater(len(found), 380)
         self.assertGreater(numpy.mean([abs(it.mean) < 2 * it.sem for it in found]), 0.90)
         self.assertLess(naive / len(found), 0.5)
-        # The variance of the mean is (1 + 0.9) / (1 - 0.9) = 19 times that of independent values; blocks miss a little of it.
+        # The variance of the mean is (1 + 0.9) / (1 - 0.9) = 19 times that of independent values; blocks find a little less.
         self.assertLess(abs(numpy.mean([it.inefficiency for it in found]) / 19 - 1), 0.15)
         self.assertLess(abs(numpy.mean([it.sem for it in found]) / numpy.std([it.mean for it in found]) - 1), 0.12)
         self.assertLess(abs(numpy.std([it.sem for it in found]) / numpy.mean([it.sem_error for it in found]) - 1), 0.4)
@@ -61,7 +61,7 @@ class Blocking(unittest.TestCase):
         self.assertAlmostEqual(found.sem, level.std(ddof=1) / math.sqrt(len(level)))
         self.assertAlmostEqual(found.sem_error, found.sem / math.sqrt(2 * (len(level) - 1)))
 
-    def test_a_rest_that_fills_no_block_counts_in_the_mean(self):
+    def test_values_after_the_last_whole_block_count_in_the_mean(self):
         series = [*self.numbers.normal(size=64), 1000.0]
         self.assertAlmostEqual(trlab.blocking([*numpy.zeros(40), *numpy.ones(41)] * 30).mean, 41 / 81)
         try:
@@ -141,7 +141,7 @@ class Peaks(unittest.TestCase):
         self.assertGreater(highest - 0.318, 2 * abs(numpy.mean(fitted) - 0.318))
 
     def peaks(self, count, *curve, within=0.05, **how):
-        """The peaks of so many curves, without those that are refused."""
+        """The peaks of a number of curves, without those that are rejected."""
         found = []
         for _ in range(count):
             with contextlib.suppress(EstimateError):
@@ -178,7 +178,7 @@ class Peaks(unittest.TestCase):
         # Here noise ends the part that is fitted, and not a fall of the curve.
         self.assertLess(len(self.peaks(40, lambda x: 0.3, numpy.linspace(0.05, 0.13, 60), within=0.006)), 3)
 
-    def test_what_it_returns(self):
+    def test_its_result(self):
         frame = self.curve(self.parabola, runs=7, noise=1e-4)
         found = trlab.peak(frame, over="seed", within=0.05)
         self.assertEqual((found.n, found.points - found.degree - 1), (7, found.dof))
@@ -218,7 +218,7 @@ class Peaks(unittest.TestCase):
         ):
             self.assertRaisesRegex(EstimateError, words, trlab.peak, frame, over="seed")
 
-    def test_frames_that_are_no_curve(self):
+    def test_frames_that_are_not_a_curve(self):
         frame = self.curve(self.parabola)
         two = pandas.concat({0.1: frame, 0.2: frame.assign(ensemble="x")}, names=["p"])
         self.assertRaisesRegex(EstimateError, r"several curves: select one value of \['p'\]", trlab.peak, two, over="seed")
@@ -248,7 +248,7 @@ class Lifetimes(unittest.TestCase):
         self.assertLess(abs(numpy.mean(z)), 0.3)
         self.assertGreater((abs(numpy.array(z)) < 2).mean(), 0.9)
 
-    def test_survival_with_an_example_by_hand(self):
+    def test_survival_of_a_worked_example(self):
         # At 2 one of 5 lives ends, at 3 one of 4 ends and one is cut off, at 5 one of 2 ends.
         found = trlab.survival([2, 3, 3, 5, 8], [True, True, False, True, False])
         self.assertEqual((list(found.index), list(found.at_risk)), ([0, 2, 3, 5, 8], [5, 5, 4, 2, 1]))
@@ -272,7 +272,7 @@ class Lifetimes(unittest.TestCase):
         inside = abs(found.survival - numpy.exp(-found.index / 100)) < 3 * found.survival_sem + 0.01
         self.assertTrue(inside[found.index < 140].all())
 
-    def test_lives_that_say_nothing(self):
+    def test_lives_without_information(self):
         for call in trlab.lifetime, trlab.survival:
             for words, times, observed in (
                 ("above 0", [0, 5], [True, True]),

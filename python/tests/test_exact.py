@@ -1,4 +1,4 @@
-"""The exact study: its solutions are right, trlab agrees with them for fixed keys, and a wrong model is found out."""
+"""The exact study: its solutions are right, trlab agrees with them for fixed keys, and a wrong model is detected."""
 import sys
 import unittest
 from fractions import Fraction
@@ -32,7 +32,7 @@ class Solutions(unittest.TestCase):
         self.assertEqual(flow(NagelSchreckenberg(QUARTER, 1), 8, 4), Fraction(735, 2656))
         self.assertEqual(flow(NagelSchreckenberg(QUARTER, 2), 8, 3), Fraction(16892588640919, 41121521625632))
 
-    def test_a_car_without_others(self):
+    def test_a_single_car(self):
         # It drives at v_max, or at v_max - 1 with probability p; if it is stopped by p0 it has to start again.
         self.assertEqual(flow(NagelSchreckenberg(QUARTER, 3), 7, 1), (3 - QUARTER) / 7)
         moving = (1 - HALF) / (1 - HALF + QUARTER)  # v_max 1: starts with 1 - p0, stops with p
@@ -72,14 +72,14 @@ class Solutions(unittest.TestCase):
         for p, cars in product((0.25, 0.5), (200, 600, 1000, 1600)):
             self.assertAlmostEqual(exact.flow_as_float(2000, cars, p), flow_of_ring(p, 2000, cars), places=12)
 
-    def test_a_step_by_hand(self):
+    def test_a_worked_step(self):
         # Both cars have room for one cell, and move with 3/4 each.
         odds = {(".1.1.",): 9, (".10..",): 3, ("0..1.",): 3, ("0.0..",): 1}
         found = next_states(("0.0..",), NagelSchreckenberg(QUARTER, 1))
         self.assertEqual(found, {state: Fraction(parts, 16) for state, parts in odds.items()})
 
-    def test_a_lane_change_by_hand(self):
-        # The first car is hindered and changes lanes with 1/2. Whoever has room then moves with 3/4.
+    def test_a_worked_lane_change(self):
+        # The first car is hindered and changes lanes with 1/2. Then each car with room moves with 3/4.
         stays = {("0.1..", "....."): 12, ("00...", "....."): 4}
         changes = {("..1..", ".1..."): 9, (".0...", ".1..."): 3, ("..1..", "0...."): 3, (".0...", "0...."): 1}
         found = next_states(("11...", "....."), Rickert(QUARTER, HALF, 1))
@@ -113,7 +113,7 @@ class Runs(unittest.TestCase):
                 self.assertGreater(verdict.freedom, 50)
                 self.assertTrue(0.0001 < verdict.share_below() < 0.9999, verdict)
 
-    def test_a_wrong_model_is_found_out(self):
+    def test_a_wrong_model_is_detected(self):
         ring = NAMED["nasch_1_4_v1_4_on_8"]
         counts = counted(it.lanes for it in ring.job(1, 20000).snapshots())
         self.assertGreater(abs(self.z(ring, NagelSchreckenberg(Fraction(17, 64), 1), 1)[0]), 4)

@@ -24,7 +24,7 @@ RULE_184, SLOW = Nasch(0), Own("get r0, gap\ndiv r0, r0, 2\nget r1, limit\nmin r
 
 
 def rings(length, cars):
-    """All lanes of so many cells and cars, as sets of occupied cells."""
+    """All lanes with these numbers of cells and cars, as sets of occupied cells."""
     return [frozenset(cells) for cells in combinations(range(length), cars)]
 
 
@@ -42,8 +42,8 @@ def next_rings(ring, length, brake):
 
 
 def walked(lane, limit, steps, delay=0):
-    """How far each car of a lane goes: min(limit, gap) cells in each step, but at most one more than before in the first `delay`
-    steps, where all cars are stopped at first."""
+    """The distance of each car of a lane: min(limit, gap) cells in each step, but at most one more than before in the first `delay`
+    steps, in which all cars are stopped at first."""
     length, cells = len(lane), [cell for cell, sign in enumerate(lane) if sign != "."]
     gone, speeds = [0] * len(cells), [0] * len(cells)
     for step in range(steps):

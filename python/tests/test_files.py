@@ -1,4 +1,4 @@
-"""Inputs and tables as files: `array.sh` leaves whole results only, and `read_tables` names each one that is not."""
+"""Inputs and tables as files: `array.sh` leaves only complete results, and `read_tables` names each incomplete one."""
 import os
 import shlex
 import shutil
@@ -29,7 +29,7 @@ class Folder(unittest.TestCase):
         self.folder = Path(self.place) / "array"
 
     def task(self, script, number=None):
-        """Runs a task of an array, or all of it, and returns the exit status and what it wrote to standard error."""
+        """Runs a task of an array, or the whole array, and returns the exit status and the text on standard error."""
         environment = {name: value for name, value in os.environ.items() if name != "SLURM_ARRAY_TASK_ID"}
         if number is not None:
             environment["SLURM_ARRAY_TASK_ID"] = str(number)
@@ -112,7 +112,7 @@ class Arrays(Folder):
         self.assertEqual(os.system(line), 0)
         self.assertEqual(read_tables(self.folder, Point, SWEEPS), {name: it.sweep() for name, it in SWEEPS.items()})
 
-    def test_pictures_have_another_ending(self):
+    def test_snapshots_have_another_ending(self):
         script = write_inputs(self.folder, {"a": JOB}, ["run"])
         self.assertEqual(self.task(script), (0, ""))
         self.assertTrue((self.folder / "a.out").read_text().startswith("step 0\n"))
@@ -132,14 +132,14 @@ class Arrays(Folder):
 
 
 class Scripts(Folder):
-    """What the script says and does for folders, programs and numbers of tasks."""
+    """The script with unusual folders, programs and numbers of tasks."""
 
     def test_folders_that_a_line_cannot_name(self):
         for name in "x\ntouch INJECTED\n#", "a\tb", "a\rb", "a\x1bb", "a\u2028b", "a\udc80b":
             self.assertRaises(ParameterError, write_inputs, Path(self.place) / name, SWEEPS)
         self.assertRaises(ParameterError, write_inputs, "", SWEEPS)
 
-    def test_a_percent_sign_is_one_for_slurm(self):
+    def test_a_percent_sign_is_escaped_for_slurm(self):
         self.folder /= "100%j 'quoted' $HOME \"é"
         script = write_inputs(self.folder, SWEEPS)
         output = script.read_text("utf-8").splitlines()[1].partition("--output=")[2]
@@ -198,7 +198,7 @@ class Scripts(Folder):
 
 
 class Parts(Folder):
-    """Sweeps that are no single file: from other states than even, and with many points."""
+    """Sweeps that need several files: from other initial states than even, and with many points."""
 
     SWEEPS = {
         "random": replace(SHAPE, start=random_cells(1), cars=[10, 20, 30]),
@@ -261,7 +261,7 @@ class Tables(Folder):
         self.wanted = {name: it.sweep() for name, it in SWEEPS.items()}
 
     def fault(self, texts=SWEEPS, kind=Point):
-        """What is raised, after its first line."""
+        """The lines of the exception after the first one."""
         with self.assertRaises(ValueError) as caught:
             read_tables(self.folder, kind, texts)
         first, *others = str(caught.exception).split("\n")

@@ -225,7 +225,7 @@ class Means(unittest.TestCase):
 
 
 class Misreadings(unittest.TestCase):
-    """Calls that used to give a wrong number without a word."""
+    """Calls that used to return a wrong number without an error."""
 
     def job(self, density, seed, key):
         return Job(limit=5, length=50, density=density, rule=Nasch(0.25), start=random_cells(key), steps=40, key=key)

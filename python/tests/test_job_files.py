@@ -50,7 +50,7 @@ class Files(unittest.TestCase):
         self.assertEqual((Sweep.from_text(SWEEP), sweep.text()), (sweep, SWEEP))
         self.assertEqual(Sweep.from_text(SWEEP).sweep(), sweep.sweep())
 
-    def test_programs_with_all_that_they_may_have(self):
+    def test_programs_with_everything_that_they_may_contain(self):
         for motion in "", "\n", "\n\n", "; a comment \u00e9 \u2028 \x0b\r\n", "  \n":
             for after in "", "\n", "\n\n", "; end\n", "end ; of it\n", " end\n":
                 for change in "", "change\nstay\nend\n", "change\n\nstay\n\n\nend\n", STAY + "\n":
@@ -93,12 +93,12 @@ class Rejected(unittest.TestCase):
             Sweep.from_text(SWEEP + "cars 10\n")
         self.assertEqual((caught.exception.line, caught.exception.explanation), (11, explain_as("sweep", SWEEP + "cars 10\n")))
 
-    def test_an_input_is_a_text(self):
+    def test_an_input_is_a_string(self):
         for call in Job.from_text, Sweep.from_text, explain, check:
             for other in JOB.encode(), None, 5:
                 self.assertRaisesRegex(ParameterError, "text, not ", call, other)
 
-    def test_a_missing_line_feed_is_told(self):
+    def test_a_missing_line_feed_is_reported(self):
         self.assertRaisesRegex(ParameterError, "does not end with a line feed", Job.from_text, JOB[:-1])
         self.assertRaisesRegex(ParameterError, "does not end with a line feed", Sweep.from_text, SWEEP[:-1])
 

@@ -1,4 +1,4 @@
-"""The server of trlab-lab: whom it answers, what it streams, and that no process outlives its page."""
+"""The server of trlab-lab: which requests it accepts, its streams, and that no process outlives its page."""
 import base64
 import contextlib
 import gzip
@@ -46,7 +46,7 @@ class Serving(unittest.TestCase):
         self.addCleanup(self.lab.shutdown)
 
     def ask(self, name="", body=None, method=None, token=None, origin=True, host=None):
-        """The answer to a request, which has an Origin if it has a body."""
+        """The response to a request, which has an Origin if it has a body."""
         netloc = f"127.0.0.1:{self.lab.server_port}"
         talk = http.client.HTTPConnection(netloc, timeout=LIMIT)
         headers = {"Host": host or netloc}

@@ -4,10 +4,10 @@ import unittest
 from tests.browsers import Keys, Window, missing
 from tests.lab_pages import OnPage
 
-# Controls that a keyboard reaches: what is shown, enabled, and in no closed part of the page.
+# Controls that a keyboard reaches: those that are shown, enabled, and not in a closed part of the page.
 CONTROLS = """const shown = it => it.checkVisibility({visibilityProperty: true}) && !it.disabled;
 const controls = [...document.querySelectorAll('a[href], input, select, button, summary, [tabindex="0"], [contenteditable]')].filter(shown);"""
-# The contrast of a text with what is behind it (WCAG 2).
+# The contrast of a text with its background (WCAG 2).
 CONTRAST = """const light = ([r, g, b]) => [r, g, b].map(it => it / 255).map(it => it <= 0.04045 ? it / 12.92 : ((it + 0.055) / 1.055) ** 2.4)
     .reduce((sum, it, k) => sum + it * [0.2126, 0.7152, 0.0722][k], 0);
 const parts = it => it.match(/[\\d.]+/g).map(Number), over = ([r, g, b, a = 1], below) => [r, g, b].map((it, k) => it * a + below[k] * (1 - a));

@@ -34,7 +34,7 @@ class Opening(unittest.TestCase):
         self.patch(alone, "find_program", mock.Mock(side_effect=[found, found]))
 
     def run_main(self, *words):
-        """What the command prints on standard output and standard error."""
+        """The output of the command on standard output and standard error."""
         with contextlib.redirect_stdout(io.StringIO()) as out, contextlib.redirect_stderr(io.StringIO()) as errors, mock.patch("signal.signal"):
             main(list(words))
         return out.getvalue(), errors.getvalue()

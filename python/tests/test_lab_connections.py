@@ -88,7 +88,7 @@ class Strangers(Serving):
 
 class Requests(Serving):
     def send(self, head, body=b"", cut=False):
-        """The whole answer to a request that is written by hand; `cut` ends the sending side after it."""
+        """The whole response to a request that is sent as it is; `cut` ends the sending side after it."""
         netloc = f"127.0.0.1:{self.lab.server_port}"
         fill = {"netloc": netloc, "token": self.lab.token}
         with socket.create_connection(("127.0.0.1", self.lab.server_port), timeout=LIMIT) as connection:
@@ -162,7 +162,7 @@ class Opening(unittest.TestCase):
             os.killpg(group, signal.SIGKILL)
 
     def browser(self, folder):
-        """A browser that writes down what it was started with, and stays open."""
+        """A browser that records the words of its command line, and stays open."""
         script = Path(folder) / "browser"
         script.write_text(f"#!/bin/sh\nprintf '%s\\n' \"$@\" > '{folder}/new'\nmv '{folder}/new' '{folder}/opened'\nexec sleep 1000 > /dev/null\n")
         script.chmod(0o700)
@@ -185,7 +185,7 @@ class Opening(unittest.TestCase):
                 path = Path(found.replace("file://", "", 1))
                 self.assertEqual(stat.S_IMODE(path.stat().st_mode), 0o600)
                 self.assertIn(f'content="0; url={address}"', path.read_text())
-                # The server answers although the browser does not return.
+                # The server responds although the browser does not return.
                 talk = http.client.HTTPConnection(address.split("/")[2], timeout=LIMIT)
                 talk.request("GET", f"/{token}/")
                 self.assertEqual(talk.getresponse().status, 200)

@@ -47,7 +47,7 @@ class Faults(OnPage):
         return self.page.js("return Array.from({length: 501}, (_, k) => lab.colour(k / 500))")
 
     def dots(self, name, dots, y):
-        """The colours on white of so many pixels at a height of a drawing."""
+        """The colours on white of this number of pixels at a height of a drawing."""
         return self.page.js("""const canvas = document.getElementById(arguments[0]), pen = canvas.getContext('2d');
             const {data} = pen.getImageData(0, arguments[2], canvas.width, 1);
             return Array.from({length: arguments[1]}, (_, k) => {
@@ -199,7 +199,7 @@ class Faults(OnPage):
     # Addresses
 
     def start_at(self, fragment):
-        """Open the page anew at an address."""
+        """Open the page again at an address."""
         self.page.get("about:blank")
         self.page.get(self.lab.address + fragment)
         self.hold(lambda: self.page.js("return window.lab !== undefined && lab.player.step > 3"))

@@ -185,7 +185,7 @@ class Errors(unittest.TestCase):
             self.assertEqual(str(thrown), str(raised.exception))
 
     def test_numbers_of_another_kind(self):
-        """Whatever is not a number of the right kind is an error, and never a file."""
+        """A value that is not a number of the right kind is an error, and never gives a file."""
         sweep = {**self.job, "rule": self.job["rules"][0], "warm": 3, "measure": 4}
         for value in True, False, 1.5, None, [], {}, -1, 1e300, "x", "5", "":
             calls = [("jobs", "jobFile", {**self.job, field: value}) for field in ("limit", "lanes", "length", "cars", "steps", "key", "start")]
@@ -322,7 +322,7 @@ UNNOTICED = {"draw < highest ? found.push(cell)"}
 @unittest.skipIf(MISSING, MISSING)
 class Planted(unittest.TestCase):
     def test_planted_errors_are_noticed(self):
-        """Each planted error changes an answer that the other tests compare with Python."""
+        """Each planted error changes a result that the other tests compare with Python."""
         draw, vdr = Controls(8), {"model": "vdr", "p": 0.25, "q": 0.5, "motion": "", "change": ""}
         jobs, sweeps = [draw.job() for _ in range(250)], [{**draw.sweep(), "warm": 3, "measure": 4} for _ in range(40)]
         texts = [text for text in (text_of(lambda: job_of(it)) for it in jobs) if text]

@@ -1,4 +1,4 @@
-"""What teaching needs of the page: models and examples in words, units, the followed car, and a disturbance by hand."""
+"""The page for teaching: models and examples in words, units, the followed car, and a disturbance by the user."""
 import re
 import unittest
 
@@ -148,7 +148,7 @@ class Teaching(OnPage):
         self.has("You follow the car in cell 2, at 2 cells per step. Its gap is 1 cell, and the car ahead drives at 1 cell per step. "
                  "It braked from 3 to 2 cells per step, because its gap was 2 cells.", lambda: self.page.text("car"))
 
-    # A disturbance by hand
+    # A disturbance by the user
 
     def test_a_car_brakes(self):
         text = self.show_job(rule=Nasch("1/4"), at={390: Nasch("1/2")})

@@ -1,4 +1,4 @@
-"""What teaching needs, in the page as one file that contains the program: sweeps, films and comparisons without a server."""
+"""Teaching with the page as one file that contains the program: sweeps, films and comparisons without a server."""
 import unittest
 
 from tests.browsers import Window, missing

@@ -1,4 +1,4 @@
-"""Evenly spaced cars on two lanes: an input that does not halve them says how many are on each lane."""
+"""Evenly spaced cars on two lanes: an input that does not halve them warns of the number of cars on each lane."""
 import unittest
 import warnings
 from dataclasses import replace
@@ -34,7 +34,7 @@ class Lanes(unittest.TestCase):
                 self.assertTrue(all(0 <= it <= 2 * length and surplus(it, length) <= 1 for it in halved(cars, length)))
                 self.assertEqual(halved(cars, length) == [cars], surplus(cars, length) <= 1)
 
-    def test_every_kind_of_input_tells_it(self):
+    def test_every_kind_of_input_warns(self):
         for cars in 300, 100, 2:
             with warnings.catch_warnings():
                 warnings.simplefilter("ignore")
@@ -53,7 +53,7 @@ class Lanes(unittest.TestCase):
                 for near in halved(cars, 1000):
                     self.assertEqual(warnings_of(lambda: Job(**JOB, cars=near, start=start)), [])
 
-    def test_it_is_told_once(self):
+    def test_the_warning_comes_once(self):
         def study():
             for start in even, moving:
                 sweep = Sweep(**SWEEP, cars=[300, 299, 100, 100, 50, 20], start=start)
@@ -66,14 +66,14 @@ class Lanes(unittest.TestCase):
             self.assertIn(told, message)
             self.assertIn("; further uneven numbers of cars: 1: use", message)
 
-    def test_a_file_tells_it_too(self):
+    def test_a_file_warns_too(self):
         with warnings.catch_warnings():
             warnings.simplefilter("ignore")
             text = Sweep(**SWEEP, cars=[300]).text()
         (message,) = warnings_of(lambda: Sweep.from_text(text))
         self.assertIn("300 cars are 200 on lane 0", message)
 
-    def test_other_states_have_nothing_to_tell(self):
+    def test_other_states_do_not_warn(self):
         for cars in 300, 100:
             for start in jammed, random_cells(1):
                 self.assertEqual(warnings_of(lambda: Job(**JOB, cars=cars, start=start)), [])

@@ -1,4 +1,4 @@
-"""Without numpy, pandas and matplotlib: inputs, runs and rows work, and the analysis says what is missing."""
+"""Without numpy, pandas and matplotlib: inputs, runs and rows work, and the analysis names the missing library."""
 import os
 import subprocess
 import sys
@@ -42,7 +42,7 @@ assert not ran or "numpy" not in MISSING and "pandas" not in MISSING
 
 
 def said(*missing):
-    """What each call says if these libraries are missing, in a Python that may have them or not."""
+    """The message of each call if these libraries are missing, in a Python that may have them or not."""
     script = f"MISSING = {missing!r}\n{SCRIPT}"
     place = {**os.environ, "PYTHONPATH": str(Path(__file__).parents[1]), "TRLAB": find_program(), "MPLBACKEND": "Agg"}
     found = subprocess.run([sys.executable, "-B", "-c", script], capture_output=True, text=True, env=place)
@@ -51,7 +51,7 @@ def said(*missing):
 
 
 class Libraries(unittest.TestCase):
-    def test_what_to_install(self):
+    def test_the_libraries_to_install_are_named(self):
         for missing in ("numpy", "pandas", "matplotlib"), ("pandas",):
             lines = said(*missing)
             self.assertEqual(len(lines), 11)

@@ -1,4 +1,4 @@
-"""The program is found, or one class of error says why it is not; first use leaves nothing behind."""
+"""The program is found, or one class of error gives the reason; first use leaves no other files behind."""
 import gzip
 import hashlib
 import os
@@ -29,7 +29,7 @@ class Named(Folder):
         path.chmod(mode)
         return str(path)
 
-    def test_all_ways_not_to_be_there_are_one_class(self):
+    def test_all_reasons_for_a_missing_program_are_one_class(self):
         good = b"#!/bin/sh\necho trlab 0\n"
         named = {
             "there is no file": [str(self.folder / "missing"), str(self.folder), "~nobody of this name/trlab"],
@@ -54,7 +54,7 @@ class Named(Folder):
                 change(path)
                 self.assertRaises(ProgramNotFoundError, job.run)
 
-    def test_the_command_says_it_in_a_line(self):
+    def test_the_command_reports_it_in_one_line(self):
         environment = {**os.environ, "PYTHONPATH": str(PYTHON), "TRLAB": str(self.folder / "missing")}
         ran = subprocess.run([sys.executable, "-m", "trlab"], env=environment, stderr=subprocess.PIPE, text=True)
         self.assertEqual((ran.returncode, ran.stderr.count("\n")), (1, 1))
@@ -114,7 +114,7 @@ class Packed(Folder):
             found = self.find()
         self.assertEqual(Path(found).read_bytes(), self.content)
 
-    def test_what_a_killed_first_use_left_is_removed(self):
+    def test_files_of_a_killed_first_use_are_removed(self):
         folder = self.home / "trlab"
         folder.mkdir(parents=True)
         mine = new_path(folder, "new")

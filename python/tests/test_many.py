@@ -57,7 +57,7 @@ class Results(unittest.TestCase):
         is_over.set()
         self.assertEqual(next(found), (0, 0))
 
-    def test_so_many_at_once(self):
+    def test_the_number_of_calls_at_once(self):
         lock, running, most, two = threading.Lock(), [], [], threading.Barrier(2, timeout=300)
 
         def call(number):
@@ -73,7 +73,7 @@ class Results(unittest.TestCase):
             self.assertEqual(len(list(trlab.results(range(12), call=call, **options))), 12)
             self.assertEqual(max(most), 2)
 
-    def test_what_is_asked_wrongly(self):
+    def test_wrong_arguments(self):
         self.assertRaisesRegex(ValueError, "errors", trlab.results, SWEEPS, errors="ignore")
         self.assertRaisesRegex(ValueError, "at_once", trlab.results, SWEEPS, at_once=0)
         self.assertRaisesRegex(TypeError, "input 'a'", trlab.results, {"a": "sweep 1"})

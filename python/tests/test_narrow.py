@@ -1,4 +1,4 @@
-"""release/wasm/narrow.py: what it makes of the forms that it knows, and that it refuses every other."""
+"""release/wasm/narrow.py: how it rewrites the forms that it knows, and that it rejects every other form."""
 import random
 import shutil
 import subprocess
@@ -37,7 +37,7 @@ after.1:                                          ; preds = %start, %"a b"
   ret ptr %r3
 }
 """
-# Lines, and what becomes of them.
+# Lines, and the lines that replace them.
 REWRITTEN = {
     "  %r1 = load ptr, ptr %r0, align 8, !nonnull !1, !noundef !1":
     "  %wide.1 = load i64, ptr %r0, align 8\n  %r1 = inttoptr i64 %wide.1 to ptr",
@@ -57,7 +57,7 @@ REWRITTEN = {
     '@s = private constant <{ ptr, i32, [5 x i8] }> <{ ptr getelementptr (i8, ptr @s, i64 8), i32 0, [5 x i8] c"}>, x" }>, align 8',
     "  call void @llvm.x86.sse2.pause()": None,
 }
-# Lines of other forms: a pointer where none is known, another processor, or a meaning that depends on the size of pointers.
+# Lines of other forms: an unexpected pointer, another processor, or a meaning that depends on the size of pointers.
 UNKNOWN = """\
   %r1 = load atomic ptr, ptr %r0 seq_cst, align 8
   %r1 = load volatile ptr, ptr %r0, align 8
@@ -127,7 +127,7 @@ class Forms(unittest.TestCase):
             with self.assertRaises(narrow.UnknownForm):
                 list(narrow.narrowed([it for it in TARGETS if it != missing]))
 
-    def test_what_means_the_same_stays(self):
+    def test_lines_that_mean_the_same_stay(self):
         self.assertEqual(self.body(*SAME.splitlines()), SAME)
 
     def test_pointers_in_memory_become_numbers(self):
@@ -139,7 +139,7 @@ class Forms(unittest.TestCase):
         line = "  %r1 = load ptr, ptr %r0, align 8"
         self.assertEqual([self.body(line, line).count(f" %wide.{k} = ") for k in (1, 2, 3)], [1, 1, 0])
 
-    def test_other_forms_are_refused_by_name(self):
+    def test_other_forms_are_rejected_by_name(self):
         for line in UNKNOWN.splitlines():
             with self.subTest(line), self.assertRaises(narrow.UnknownForm):
                 self.body(line)
@@ -147,7 +147,7 @@ class Forms(unittest.TestCase):
         self.assertEqual(ran.returncode, 1)
         self.assertIn("an instruction", ran.stderr)
 
-    def test_each_known_form_is_refused_with_a_pointer_more(self):
+    def test_each_known_form_is_rejected_with_one_more_pointer(self):
         """A type that becomes `ptr` or a vector of pointers makes a line unknown, or is rewritten, but never stays."""
         for line in SAME.splitlines():
             for old in "i64", "i8", "i128":

@@ -38,7 +38,7 @@ class Elsewhere(unittest.TestCase):
     """Tests on such a machine."""
 
     def setUp(self):
-        # What the native program answers.
+        # The results of the native program.
         self.wanted = JOB.run().text(), JOB.series(every=20).text(), SWEEP.sweep().text(), trlab.check("motion\nnum r0, 0\ngo r0\n")
         for change in elsewhere():
             change.start()
@@ -102,7 +102,7 @@ class NotThere(Elsewhere):
         path.start()
         self.addCleanup(path.stop)
 
-    def test_without_node_the_message_says_what_to_install(self):
+    def test_without_node_the_message_names_the_package_to_install(self):
         program = node.InWebAssembly(self.folder / "trlab-node.mjs", self.folder / "trlab-lab.html")
         with mock.patch.object(location, "of_package", return_value=program):
             self.assertRaisesRegex(ProgramNotFoundError, "install Node 18 or later", find_program)
@@ -147,7 +147,7 @@ print(dict(trlab.results({"a": job, "b": job}, cache=sys.argv[2]))["b"][-1].step
 
 
 class Systems(unittest.TestCase):
-    def test_the_package_runs_without_what_only_linux_has(self):
+    def test_the_package_runs_without_the_features_of_linux(self):
         for name in "macos", "windows":
             with self.subTest(name), tempfile.TemporaryDirectory() as folder:
                 environment = {**os.environ, "PYTHONPATH": str(PYTHON), "TRLAB": find_program()}

@@ -252,7 +252,7 @@ class Findings(unittest.TestCase):
         sweep = replace(SWEEP, warm=numpy.uint16(60000), measure=numpy.uint16(10000), start=random_cells(1))
         self.assertEqual([job.steps for job in sweep.jobs()], [70000])
 
-    def test_what_is_stored_is_of_python(self):
+    def test_stored_values_are_those_of_python(self):
         job = Job(
             limit=numpy.int8(5), length=numpy.uint8(9), density=numpy.float32(0.5), steps=numpy.int64(5), lanes=numpy.int8(2),
             rule=Rickert(numpy.float16(0.5), Decimal("0.1")), key=numpy.uint64(2**63),

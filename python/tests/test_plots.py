@@ -1,4 +1,4 @@
-"""Plots: what the axes of matplotlib hold, and what is refused."""
+"""Plots: the contents of the axes of matplotlib, and the arguments that are rejected."""
 import io
 import unittest
 
@@ -79,7 +79,7 @@ class Diagrams(Plots):
 
 
 class SpaceTimes(Plots):
-    def test_every_car_is_drawn_where_it_is(self):
+    def test_every_car_is_drawn_in_its_cell(self):
         part = TWO[21::3]
         axes = trlab.plot_space_time(part, lane=1, limit=7)
         (image,) = axes.images
@@ -102,7 +102,7 @@ class SpaceTimes(Plots):
         for snapshots in empty, TWO[:1], Job(limit=5, length=1, cars=1, rule=Nasch(0), steps=3).run():
             trlab.plot_space_time(snapshots).figure.savefig(io.BytesIO())
 
-    def test_what_has_no_diagram(self):
+    def test_results_without_a_diagram(self):
         for wrong in Snapshots(), Snapshots([TWO[0], TWO[1], TWO[3]]), TWO[::-1]:
             self.assertRaisesRegex(ParameterError, "equal intervals", trlab.plot_space_time, wrong)
         for words in {"lane": 2}, {"lane": -1}, {"limit": 1}, {"limit": 36}:

@@ -44,7 +44,7 @@ class PublishedRules(unittest.TestCase):
         self.assert_alike(Own(RULES["anticipating"]()), Own(example("anticipating.rule")))
 
     def test_cruise_control_keeps_free_traffic_free(self):
-        # Up to density 1 / (limit + 1) all cars drive at the limit for ever, if they begin so.
+        # Up to density 1 / (limit + 1) all cars drive at the limit for ever if they do so at first.
         for cars, is_free in (16, True), (17, False):
             job = Job(limit=5, length=96, cars=cars, start=moving, rule=Own(RULES["cruise_control"](p=0.5)), steps=300, key=1)
             (window,) = job.series(every=100, first=200)
@@ -73,7 +73,7 @@ class PublishedRules(unittest.TestCase):
             self.assertEqual(changes, answer(symmetric, view))
             has_room = view["side"] and view["sidegap"] > view["speed"] + 1 and view["sideback"] > view["limit"]
             self.assertEqual(answer(program, {**view, "lane": 1}), has_room)
-        # A few cars soon are all on lane 0.
+        # A few cars are soon all on lane 0.
         job = Job(limit=5, length=200, lanes=2, cars=4, rule=Own(RULES["nasch"](p=0), RULES["asymmetric"]()), start=random_cells(1), steps=200)
         self.assertTrue(all(cell == "." for cell in job.run()[-1].lanes[1]))
 

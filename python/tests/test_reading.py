@@ -1,4 +1,4 @@
-"""Outputs of the program as they are read: what is in them, what can be changed, and what is no output of the program."""
+"""Outputs of the program as they are read: their contents, changes to them, and texts that are not outputs."""
 import pickle
 import tempfile
 import unittest
@@ -48,7 +48,7 @@ class Tables(unittest.TestCase):
         copy.clear()
         self.assertEqual((len(self.table), len(copy), copy.kind), (3, 0, Point))
 
-    def test_what_is_not_a_table(self):
+    def test_texts_that_are_not_tables(self):
         heading, first, second = POINTS.splitlines(True)
         for wrong in "1,10,1,5,0,0\n", "1,10,1,5,0,0,0,0\n", "1,10,,5,0,0,0\n", ",10,1,5,0,0,0\n", "1,10,1,5,0,0,\n", \
                 "1,10,1,5,0,0,-1\n", "1,10,1,5,0,0,1.5\n", "1,10,1,5,0,0, 1\n", "fault\n", "\n", "1,10,1,5,0\n0,1\n":
@@ -62,7 +62,7 @@ class Tables(unittest.TestCase):
         for end in range(len(POINTS)):
             text = POINTS[:end]
             if text.count("\n") and text.endswith("\n"):
-                # Only the number of rows tells that a table lacks whole lines.
+                # Only the number of rows shows that a table lacks whole lines.
                 self.assertEqual(len(Table.read(Point, text)), text.count("\n") - 1)
             else:
                 self.assertRaisesRegex(ValueError, "cut off", Table.read, Point, text)
@@ -99,7 +99,7 @@ class Tables(unittest.TestCase):
 
 
 class Runs(unittest.TestCase):
-    def test_the_pictures_are_those_of_the_text(self):
+    def test_the_snapshots_are_those_of_the_output(self):
         for job in ONE, TWO:
             snapshots, streamed = job.run(), list(job.snapshots())
             self.assertEqual((snapshots, [snapshots[place] for place in range(len(snapshots))]), (streamed, streamed))
@@ -112,7 +112,7 @@ class Runs(unittest.TestCase):
             for place in len(snapshots), -len(snapshots) - 1:
                 self.assertRaises(IndexError, snapshots.__getitem__, place)
 
-    def test_pictures_can_be_changed(self):
+    def test_snapshots_can_be_changed(self):
         snapshots, kept = Snapshots.read(RUN), Snapshots()
         kept.append(snapshots[1])
         kept.extend(snapshots)
@@ -126,7 +126,7 @@ class Runs(unittest.TestCase):
             self.assertEqual(Snapshots.read(made.text()), made)
         self.assertEqual(Snapshots.read(""), [])
 
-    def test_what_is_not_a_run(self):
+    def test_texts_that_are_not_runs(self):
         for text, wrong in {
             "fault line 1 cause 1\n": "not the heading of a snapshot of a run: 'fault",
             "step x\n0.1\n": "not the heading of a snapshot of a run: 'step x'",
@@ -156,7 +156,7 @@ class Runs(unittest.TestCase):
         begins = [place for place in range(len(whole) + 1) if whole.startswith("step ", place)]
         for end in range(begins[1], len(whole)):
             if end in begins:
-                # Only the number of snapshots tells that a run lacks whole ones.
+                # Only the number of snapshots shows that a run lacks whole ones.
                 self.assertEqual(len(Snapshots.read(whole[:end])), begins.index(end))
             else:
                 self.assertRaisesRegex(ValueError, "cut off in the snapshot of 's", Snapshots.read, whole[:end])

@@ -1,6 +1,6 @@
-"""Numbers that version 0.5.6 got wrong without a word, one test for each.
+"""Numbers that version 0.5.6 got wrong without an error, one test for each.
 
-The calls go by the names of either version. So the tests can be run with the older package too, where each of them fails:
+The calls use the names of either version, so that you can also run the tests with the older package. There each of them fails:
 
     TRLAB=$(OLD/trlab --where) PYTHONPATH=OLD/python python3 python/tests/test_regressions.py
 
@@ -73,7 +73,7 @@ def frame(call=lambda it: it.series(every=40), make=job, seed=range(4), **option
 
 
 def python(script, *words, before=(), **environment):
-    """What Python writes for a script that uses the package under test."""
+    """The output of a script that uses the package under test."""
     line = [*before, sys.executable, "-c", script, *words]
     place = {**os.environ, "PYTHONPATH": str(PACKAGE), "TRLAB": trlab.find_program(), **environment}
     return subprocess.run(line, env=place, cwd="/", capture_output=True, text=True).stdout
@@ -174,7 +174,7 @@ class Values(unittest.TestCase):
 
         self.assertTrue(is_error(run) or sum(cell is not None for lane in run() for cell in lane) == 1)
 
-    def test_snapshots_that_are_no_film(self):
+    def test_snapshots_that_do_not_make_a_film(self):
         taken = job(steps=99).run()
 
         def draw():
@@ -233,14 +233,14 @@ class Runs(unittest.TestCase):
         self.place = Path(place.name)
 
     def program(self, script):
-        """A program in place of trlab, which is `$real`."""
+        """A program that replaces trlab, which is `$real`."""
         path = self.place / "program"
         path.write_text(f'#!/bin/sh\nreal="{trlab.find_program()}"\n{script}\n')
         path.chmod(0o755)
         return str(path)
 
     def test_a_cut_output_is_not_a_result(self):
-        """Of a program whose exit status is lost, since a parent process ignores SIGCHLD, or which ends with 0."""
+        """For a program whose exit status is lost, because a parent process ignores SIGCHLD, or is 0."""
         script = "import trlab\nprint(len(trlab.Job(limit=5, length=9, cars=1, rule=trlab.Nasch(0), steps=9).series()))"
         cut = self.program('[ "$1" = series ] || exec "$real" "$@"\n"$real" "$@" | head -n 5\nkill -9 $$')
         for before in [], ["env", "--ignore-signal=CHLD"]:
@@ -330,7 +330,7 @@ class Runs(unittest.TestCase):
         self.assertIn("install trlab again", python(script, PYTHONPATH=str(package), XDG_CACHE_HOME=str(self.place)))
 
     def test_a_figure_of_a_run(self):
-        """diagram.awk refuses what is no table."""
+        """diagram.awk rejects a text that is not a table."""
         line = ["timeout", "20", "awk", "-f", str(PACKAGE.parent / "docs/diagram.awk")]
         drawn = subprocess.run(line, input=job().run().text().encode(), capture_output=True)
         self.assertEqual((drawn.returncode, drawn.stdout), (1, b""))

@@ -1,4 +1,4 @@
-"""Rows of tables: what follows from their counts, and which rows cannot be."""
+"""Rows of tables: the values that follow from their counts, and impossible rows."""
 import importlib.util
 import math
 import pickle
@@ -101,7 +101,7 @@ class Impossible(unittest.TestCase):
             ("999999999999999999,20,999999999999999999,60,8,0,300000", "more cars"),
             ("4,20,10,60,8,0,999999999999999999", "rounded down"),
             ("4,20,999999999999999999,999999999999999999,8,0,50000", "1 to 35"),
-            # In 64 bits without a sign these have 4 cells x steps, and the right flow.
+            # In unsigned 64-bit arithmetic these have 4 cells x steps, and the right flow.
             ("20,20,922337203685477581,0,4,0,0", "1 to 35"), (f"4,1024,1024,20480,0,0,{19531 + 2**44}", "rounded down"),
         ):
             self.reject(Point, POINTS + wrong + "\n" + GOOD_POINT, 2, said)
@@ -164,7 +164,7 @@ class OfTheProgram(unittest.TestCase):
             with with_numpy():
                 self.assertEqual((Table.read(Window, text), Table.read(Window, text).text()), (table, text))
             self.assertEqual(table, [*windows(job.run(), every, first)])
-            # Every other number in a window between two others is refused, but for the lane changes.
+            # Every other number in a window between two others is rejected, except for the lane changes.
             rows = [list(row) for row in table]
             column = data.draw(some.sampled_from([place for place in range(14) if place != 6]))
             number = data.draw(some.integers(0, 2 * rows[1][column] + 2).filter(lambda it: it != rows[1][column]))
@@ -190,7 +190,7 @@ class OfTheProgram(unittest.TestCase):
                 limit=one.limit, length=one.length, lanes=one.lanes, cars=cars, rule=one.rule, warm=warm, measure=measure,
                 key=one.key,
             )
-            # On two lanes some even starts have all cars on one lane, with a warning.
+            # On two lanes some evenly spaced initial states have all cars on one lane, with a warning.
             with mock.patch("warnings.warn"):
                 table = sweep.sweep()
             with without_numpy():

@@ -145,7 +145,7 @@ class Published(unittest.TestCase):
                         ]
                         self.assertEqual(jobs[0].run().text(), jobs[1].run().text())
 
-    def test_nasch_is_as_short_as_by_hand(self):
+    def test_nasch_is_as_short_as_the_built_in_program(self):
         self.assertEqual(nasch().budget, 12)
         self.assertEqual(check(nasch()).budget, nasch().budget)
         self.assertEqual(Own(nasch), Own(nasch()))
@@ -153,7 +153,7 @@ class Published(unittest.TestCase):
 
 
 class Random(unittest.TestCase):
-    def test_programs_answer_as_python_does(self):
+    def test_programs_compute_the_same_as_python(self):
         # tools/hostile/functions tries many more.
         accepted = 0
         for seed in range(FUNCTIONS):
@@ -185,7 +185,7 @@ class Values(unittest.TestCase):
         body = "a = car.side\nb = a and car.gap > 5\nreturn a"
         self.assertTrue(changes(body, gap=1))
 
-    def test_a_difference_that_nobody_reads_is_still_judged(self):
+    def test_an_unused_difference_is_still_checked(self):
         # u is -5: without its `sub` the verifier would not see that it is below 0.
         self.assertEqual(speeds("u = car.gap\nu -= 5 + u\nreturn max(min(-(u + u), car.limit, car.gap), 0)"), [0, 1, 4, 5])
 

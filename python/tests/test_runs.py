@@ -1,4 +1,4 @@
-"""Runs of the program: what it writes is what the results hold, and what it refuses is raised."""
+"""Runs of the program: the results contain its output, and its rejections are raised."""
 import os
 import signal
 import stat
@@ -41,7 +41,7 @@ class Sweeps(unittest.TestCase):
         self.assertEqual(table.text(), example("fundamental_diagram.csv"))
         self.assertEqual(table, Table.read(Point, table.text()))
 
-    def test_what_a_point_tells(self):
+    def test_the_values_of_a_point(self):
         point = Point(cars=4, cells=20, steps=10, distance=60, stopped=8, changes=0, flow_millionths=300000)
         self.assertEqual((point.density, point.flow, point.speed, point.stopped_share), (0.2, 0.3, 1.5, 0.2))
 
@@ -64,7 +64,7 @@ class Runs(unittest.TestCase):
         self.assertEqual(next(snapshots).step, 0)
         snapshots.close()
 
-    def test_every_nth_picture(self):
+    def test_every_nth_snapshot(self):
         one = Job(limit=5, length=60, density=0.3, start=random_cells(1), rule=Nasch(0.25), steps=50, key=7)
         two = Job(limit=3, length=40, lanes=2, cars=20, start=random_cells(2), rule=Rickert(0.25, 1), steps=50, at={35: Nasch(0.5)})
         for job in one, two:
@@ -76,7 +76,7 @@ class Runs(unittest.TestCase):
                     self.assertEqual(list(job.snapshots(every=every, first=first)), shown)
                     self.assertEqual(shown.text(), Snapshots.read(shown.text()).text())
 
-    def test_what_is_asked_of_a_run(self):
+    def test_options_of_a_run(self):
         job = Job(limit=5, start=[0, None], rule=Nasch(0), steps=5)
         with tempfile.TemporaryDirectory() as folder:
             with stand_in(folder, f'echo $@ >>{folder}/words\nexec "{find_program()}" "$@"\n'):
@@ -85,13 +85,13 @@ class Runs(unittest.TestCase):
         self.assertEqual([[it.step for it in snapshots] for snapshots in told], [[0, 1, 2, 3, 4, 5], [5], [1, 5]])
         self.assertEqual(words, ["run --workers 3", "run --every 10 --from 5 --workers 3", "run --every 4 --from 1 --workers 2"])
 
-    def test_numbers_of_steps_are_judged_by_the_program(self):
+    def test_numbers_of_steps_are_checked_by_the_program(self):
         job = Job(limit=5, start=[0, None], rule=Nasch(0), steps=5)
         for options in {"every": 0}, {"every": 500001}, {"first": -1}, {"first": 500001}:
             for call in job.run, job.series, lambda **options: list(job.snapshots(**options)):
                 self.assertRaises((ParameterError, ProgramError), call, **options)
 
-    def test_more_than_a_pipe_holds(self):
+    def test_more_than_a_pipe_can_hold(self):
         job = Job(limit=5, length=100000, density=1, lanes=2, rule=Rickert(0, 1), steps=1)
         self.assertEqual([it.lanes for it in job.run()], 2 * [2 * (100000 * "0",)])
 
@@ -106,8 +106,8 @@ class Series(unittest.TestCase):
         Job(limit=1, length=1, lanes=2, cars=0, rule=Nasch(0), steps=3),
     ]
 
-    def test_pictures_tell_what_a_sweep_counts(self):
-        # On one lane, and where all cars start on lane 0 of two, a job numbers its cars as the first point of a sweep.
+    def test_snapshots_have_the_counts_of_a_sweep(self):
+        # On one lane, or if all cars start on lane 0 of two, a job numbers its cars as the first point of a sweep does.
         for lanes, cars, rule in (1, 17, Nasch(0.25)), (2, 20, Rickert(0.25, 0.75)):
             with warnings.catch_warnings():
                 warnings.simplefilter("ignore")
@@ -118,14 +118,14 @@ class Series(unittest.TestCase):
             self.assertEqual(told[1:8], point)
             self.assertEqual(told.changes > 0, lanes == 2)
 
-    def test_the_table_is_that_of_the_pictures(self):
+    def test_the_table_is_that_of_the_snapshots(self):
         for job in self.JOBS:
             widths = [(every, first) for every in range(1, job.steps + 1, 3) for first in (0, 1, 5) if first < job.steps]
             for every, first in [it for it in widths if (job.steps - it[1]) % it[0] == 0]:
                 told = job.series(every=every, first=first, workers=2)
                 self.assertEqual(told, list(windows(job.snapshots(), every, first)))
 
-    def test_what_is_asked_for(self):
+    def test_options_of_a_series(self):
         job = self.JOBS[0]
         with tempfile.TemporaryDirectory() as folder:
             with stand_in(folder, f'echo $@ >{folder}/words\ntee {folder}/text | "{find_program()}" "$@"\n'):
@@ -172,7 +172,7 @@ class Refusals(unittest.TestCase):
         [repair] = refused.repairs
         self.assertEqual(repair["edits"], [{"line": 5, "first": 12, "last": 15, "replacement": "536870912"}])
 
-    def test_words_that_are_refused(self):
+    def test_words_that_are_rejected(self):
         with self.assertRaises(ProgramError) as caught:
             ask(["run", "--workers", "17"], Job(limit=5, length=10, cars=2, rule=Nasch(0), steps=1).text())
         self.assertEqual(caught.exception.status, 2)
@@ -180,7 +180,7 @@ class Refusals(unittest.TestCase):
         with self.assertRaisesRegex(RenamedError, "`message`"):
             caught.exception.said
 
-    def test_a_run_that_ends_early_is_no_result(self):
+    def test_a_run_that_ends_early_is_not_a_result(self):
         with tempfile.TemporaryDirectory() as folder, stand_in(folder, "echo step 0; echo .; echo full >&2; exit 4\n"):
             with self.assertRaises(ProgramError) as caught:
                 Job(limit=5, length=1, cars=0, rule=Nasch(0), steps=1).run()

@@ -1,4 +1,4 @@
-"""The studies: their inputs are those that their scripts make, and their tables and pages are what comes of them."""
+"""The studies: their scripts make their inputs, and their tables and pages are the results of these inputs."""
 import contextlib
 import importlib
 import importlib.util
@@ -41,7 +41,7 @@ def script(name):
 
 
 def inputs(name):
-    """The inputs of a study that are files of their own, by the names of these."""
+    """The inputs of a study that have files of their own, by file name."""
     module = script(name)
     if name == "exact":
         return module.inputs(False)
@@ -58,14 +58,14 @@ def lines(table):
 
 
 class Drawn(NamedTuple):
-    """What a study draws and prints from its tables."""
+    """The figures and pages that a study makes from its tables."""
 
     figures: dict
     printed: list
 
 
 def ran(folder, *words):
-    """What Python prints in a folder with a copy of the studies without figures, and the figures that it draws there."""
+    """The output of Python in a folder with a copy of the studies without figures, and the figures that it draws there."""
     copytree(STUDIES, Path(folder) / "studies", ignore=ignore_patterns("*.svg", "cache"))
     environment = {**os.environ, "PYTHONPATH": str(TOP / "python"), "PYTHONIOENCODING": "utf-8", "MPLBACKEND": "agg"}
     words = [sys.executable, "-B", *words]
@@ -108,7 +108,7 @@ class Studies(unittest.TestCase):
                 self.assertEqual(there, {file: asked.text() for file, asked in inputs(name).items()})
 
     def test_figures_are_of_the_tables_and_scripts(self):
-        # How matplotlib draws a curve depends on its version, but not what it is of.
+        # The drawing of a curve depends on the version of matplotlib, but its texts do not.
         for name in NAMES:
             figures = {file.name: file.read_text(encoding="utf-8") for file in (STUDIES / name).glob("*.svg")}
             self.assertEqual(set(figures), set(drawn(name).figures))
@@ -146,7 +146,7 @@ class Studies(unittest.TestCase):
                     self.assertIn(form.format(density, its.flow, its.flow_sem), page)
 
     def test_first_points_come_out_again(self):
-        # A point is the same whatever points come after it.
+        # A point does not depend on the points after it.
         for name in "1992", "1996", "triangle":
             table = rows(STUDIES / name / "table.csv")
             self.assertEqual(list(table), list(script(name).inputs(False)))

@@ -85,7 +85,7 @@ class Studies(Folder):
         ran = subprocess.run(line, env=environment, stdout=subprocess.PIPE, text=True)
         self.assertEqual(sorted(ran.stdout.splitlines()), sorted(f"{p} 2" for p in ("0.25", "1/3", "1/2") for _ in range(2)))
 
-    def test_what_a_study_holds(self):
+    def test_the_contents_of_a_study(self):
         grid = Grid(job, **P)
         self.saved()
         study = read_study(self.path)
@@ -106,7 +106,7 @@ class Studies(Folder):
         for given in Grid(job, **P).inputs.values():
             self.assertIn(given.text().encode(), content)
 
-    def test_anybody_can_run_a_line_by_hand(self):
+    def test_anyone_can_run_a_line_of_a_study(self):
         self.saved()
         with zipfile.ZipFile(self.path) as file:
             about = json.loads(file.read("study.json"))
@@ -115,7 +115,7 @@ class Studies(Folder):
         ran = subprocess.run([find_program(), *choice["words"]], input=text, stdout=subprocess.PIPE, check=True)
         self.assertEqual(Table.read(Window, ran.stdout), Grid(job, **P).inputs[(Fraction(1, 3), 1)].series(every=15, first=5))
 
-    def test_what_cannot_be_saved(self):
+    def test_results_that_cannot_be_saved(self):
         grid = Grid(job, **P)
         for words in [], ["run"], ["sweep"], ["series", "--every", "16"], ["series; id"]:
             self.assertRaises(ParameterError, grid.save, self.path, words)
@@ -162,7 +162,7 @@ class OtherFiles(Folder):
         return found.getvalue()
 
     def test_a_changed_study_is_a_study(self):
-        """The tool of these tests makes studies, so that each refusal has its own reason."""
+        """The helper of these tests makes valid studies, so that each rejection below has its own reason."""
         self.path.write_bytes(self.rewritten())
         self.assertEqual(len(read_study(self.path).inputs), 6)
 
@@ -176,7 +176,7 @@ class OtherFiles(Folder):
         self.refused(b"no archive")
         self.refused(b"")
 
-    def test_what_is_no_file(self):
+    def test_paths_that_are_not_files(self):
         self.assertRaises(FileNotFoundError, read_study, self.path)
         self.assertRaises(StudyFileError, read_study, self.path.parent)
         os.mkfifo(self.path)

@@ -1,4 +1,4 @@
-"""Sweeps of any size and from any initial state: what each point is, and that it is what a job or an input of it gives."""
+"""Sweeps of any size and from any initial state: each point has the result of its own job or input."""
 import hashlib
 import unittest
 from dataclasses import replace
@@ -51,7 +51,7 @@ class InitialStates(unittest.TestCase):
         self.assertEqual(len(set(lanes_of_points(sweep))), 4)
         self.assertEqual(len({point[3:5] for point in sweep.sweep()}), 4)
 
-    def test_where_the_cars_are(self):
+    def test_the_cells_of_the_cars(self):
         small = replace(SWEEP, length=6, cars=[2, 3])
         self.assertEqual(lanes_of_points(replace(small, start=jammed)), ["00....", "000..."])
         self.assertEqual(lanes_of_points(replace(small, start=moving)), ["5..5..", "5.5.5."])
@@ -64,7 +64,7 @@ class InitialStates(unittest.TestCase):
         self.assertNotEqual(replace(SWEEP, start=jammed), SWEEP)
         self.assertEqual([part.text() for part in SWEEP.parts()], [SWEEP.text()])
 
-    def test_it_has_no_sweep_text(self):
+    def test_it_has_no_sweep_file(self):
         for sweep in replace(SWEEP, start=random_cells(1)), replace(SWEEP, start=moving), ROADS:
             self.assertRaisesRegex(ValueError, r"this sweep does not: use `jobs\(\)`", sweep.text)
             self.assertRaisesRegex(ValueError, r"use `jobs\(\)`", sweep.parts)

@@ -1,4 +1,4 @@
-"""Files by hand: the Python that a person writes, and the exact input file."""
+"""Input files: the Python that a user writes, and the exact file."""
 import unittest
 import warnings
 from fractions import Fraction
@@ -14,12 +14,12 @@ def lines(*words):
 
 
 class Units(unittest.TestCase):
-    def test_a_chance_is_the_nearest_part(self):
+    def test_a_probability_is_rounded_to_the_nearest_multiple(self):
         for chance in 0.25, "1/4", "0.25", Fraction(1, 4):
             self.assertEqual(parts(chance), 536870912)
         self.assertEqual([parts(it) for it in (0, 0.1, "1/3", 1)], [0, 214748365, 715827883, 2147483648])
 
-    def test_no_chance_is_outside_0_to_1(self):
+    def test_no_probability_is_outside_0_to_1(self):
         for chance in -0.001, 1.001, "5/4":
             self.assertRaises(ValueError, parts, chance)
 
@@ -40,10 +40,10 @@ class Starts(unittest.TestCase):
         text = Job(limit=5, length=length, lanes=lanes, cars=cars, start=start, rule=Nasch(0), steps=0).text()
         return [line[5:] for line in text.split("\n") if line.startswith("lane ")]
 
-    def test_even_cars_stand(self):
+    def test_even_cars_are_stopped(self):
         self.assertEqual(self.road(even), ["0..0..0..0.."])
 
-    def test_even_cars_go_by_two_lanes(self):
+    def test_even_cars_alternate_between_two_lanes(self):
         # Five cars on eight cells: cells 0, 1, 3, 4 and 6, of which those with odd numbers are on lane 1.
         self.assertEqual(self.road(even, cars=5, length=4, lanes=2), ["0.00", "00.."])
 
@@ -54,7 +54,7 @@ class Starts(unittest.TestCase):
         self.assertEqual(self.road(jammed), ["0000........"])
         self.assertEqual(self.road(jammed, cars=5, length=4, lanes=2), ["000.", "00.."])
 
-    def test_random_places_go_by_their_seed(self):
+    def test_random_cells_depend_on_their_seed(self):
         self.assertEqual(self.road(random_cells(1)), self.road(random_cells(1)))
         self.assertNotEqual(self.road(random_cells(1)), self.road(random_cells(2)))
         self.assertEqual(self.road(random_cells(1)), ["0..0....00.."])
@@ -68,7 +68,7 @@ class Starts(unittest.TestCase):
         self.assertEqual((two.length, two.lanes, two.cells(), two.count()), (2, 2, 4, 2))
         self.assertIn("\nlane 0.\nlane .5\n", two.text())
 
-    def test_a_road_says_its_cars_itself(self):
+    def test_a_road_has_its_own_cars(self):
         self.assertRaises(ValueError, Job, limit=5, start=[0, None], cars=1, rule=Nasch(0), steps=0)
 
     def test_no_more_cars_than_cells(self):
@@ -85,7 +85,7 @@ class Texts(unittest.TestCase):
             + lines("at 3 rule nasch 0", "at 9 rule nasch 2147483648"),
         )
 
-    def test_programs_of_ones_own(self):
+    def test_programs_of_the_user(self):
         motion, change = "motion\nnum r0, 0 ; stand\ngo r0\n", "stay"
         job = Job(limit=1, start=["0", "0"], rule=Own(motion, change), steps=2, at={1: Own("code 54")})
         self.assertEqual(

@@ -1,4 +1,4 @@
-"""Results as frames: whatever a call returns, a column means what its name says, or there is an error."""
+"""Results as frames: for any result of a call, each column has the meaning of its name, or there is an error."""
 import io
 import unittest
 from collections import namedtuple
@@ -38,7 +38,7 @@ class Results(unittest.TestCase):
         for same in WINDOW, [WINDOW], WINDOW._asdict(), [WINDOW._asdict()], Table(Window, [WINDOW]).to_pandas():
             pandas.testing.assert_frame_equal(frame_of(same), wanted)
 
-    def test_counts_and_a_value_of_ones_own(self):
+    def test_counts_and_a_value_of_the_user(self):
         frame = frame_of({**WINDOW._asdict(), "gap": 4.5})
         self.assertEqual((frame.flow[0, 10], frame.gap[0, 10]), (0.05, 4.5))
         self.assertNotIn("flow_millionths", frame)
@@ -97,7 +97,7 @@ class Results(unittest.TestCase):
             self.assertRaises(FrameError, frame_of, wrong)
         self.assertRaisesRegex(FrameError, "row.flow", frame_of, {"flow_millionths": 463700})
 
-    def test_rows_that_nothing_tells_apart(self):
+    def test_rows_that_nothing_distinguishes(self):
         for rows in [{"x": 0}, {"x": 1}], [{"x": 0, "step": 5}, {"x": 1, "step": 5}], pandas.DataFrame({"x": [0, 1]}), [1, 2], \
                 Table(Window, [WINDOW, WINDOW]), pandas.DataFrame({"x": [0, 1]}, index=pandas.Index([3, 3], name="cell")):
             self.assertRaises(FrameError, frame_of, rows)
@@ -163,7 +163,7 @@ class Density(unittest.TestCase):
 
 
 class Survival(unittest.TestCase):
-    """What can be done to a frame, and its identity."""
+    """Operations on a frame, and its identity."""
 
     def setUp(self):
         self.frame = trlab.per_run(Grid(job, density=[0.1, 0.2], seed=range(3)).run(call=windows))
@@ -172,7 +172,7 @@ class Survival(unittest.TestCase):
     def same(self, frame):
         pandas.testing.assert_frame_equal(trlab.means(frame, "seed"), self.means)
 
-    def test_what_keeps_it(self):
+    def test_operations_that_keep_it(self):
         flat = self.frame.reset_index()
         self.same(flat.set_index(["density", "seed"]))
         self.same(pandas.concat([self.frame[:2], self.frame[2:]]))
@@ -189,7 +189,7 @@ class Survival(unittest.TestCase):
         read = pandas.read_csv(io.StringIO(numbers.to_csv())).set_index(["density", "seed"])
         self.assertRaisesRegex(FrameError, "read_csv.*dtype", trlab.means, read, "seed")
 
-    def test_what_loses_it(self):
+    def test_operations_that_lose_it(self):
         for lost in (
             self.frame.groupby("density").mean(numeric_only=True), self.frame[["flow"]], self.frame.describe(),
             self.frame.reset_index().pivot_table(index="density", values="flow"), self.means, self.means.reset_index(),

@@ -1,4 +1,4 @@
-"""Trajectories: beside laws of the model, tables of `trlab series`, and slower counts from the characters of snapshots."""
+"""Trajectories, compared with laws of the model, tables of `trlab series`, and slower counts from snapshots."""
 import math
 import unittest
 from dataclasses import replace
@@ -35,7 +35,7 @@ def speeds_at(snapshot, lane):
 
 
 def turned_cells(snapshots):
-    """The cells of the cars of one lane by step, from their order alone: sorted, and turned by the laps begun since."""
+    """The cells of the cars of one lane by step, only from their order: sorted, and rotated by the laps begun since."""
     laps, rows = 0, []
     for snapshot in snapshots:
         on = speeds_at(snapshot, 0)
@@ -128,7 +128,7 @@ class Paths(unittest.TestCase):
         self.assertEqual(paths.jams(), [(0, 3, 2 + 1, 3 + 2 + 1, True, False)])
         self.assertEqual(Job(limit=5, start=[5] + 9 * [None], rule=Nasch(0), steps=9).run().trajectories().jams(), [])
 
-    def test_paths_are_those_of_the_pictures(self):
+    def test_paths_are_those_of_the_snapshots(self):
         for job in ONE_LANE + TWO_LANES:
             snapshots = job.run()
             paths = snapshots.trajectories()
@@ -276,7 +276,7 @@ class Paths(unittest.TestCase):
         ):
             self.assertRaises((ValueError, TypeError), call)
 
-    def test_other_pictures_are_rejected(self):
+    def test_other_snapshots_are_rejected(self):
         snapshots = ONE_LANE[0].run()
         for wrong in Snapshots([*snapshots[:2], snapshots[3]]), snapshots[:2] + snapshots[3:], snapshots[1::2], snapshots[::-1]:
             with self.assertRaisesRegex(SnapshotsError, "step [0-9]+ follows step [0-9]+, and "):
@@ -438,8 +438,8 @@ class Followed(unittest.TestCase):
 
 @needs("numpy")
 class Windows(unittest.TestCase):
-    def test_stopped_time_is_that_of_the_pictures(self):
-        # The size of all jams together is what the slow count has as stopped cars.
+    def test_stopped_time_is_that_of_the_snapshots(self):
+        # The sizes of all jams add up to the stopped cars of the slow count.
         snapshots = replace(ONE_LANE[0], steps=200).run()
         counted = sum(it.stopped for it in windows(snapshots)) + snapshots[0].lanes[0].count("0")
         self.assertEqual(sum(it.size for it in snapshots.trajectories().jams()), counted)

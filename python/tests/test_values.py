@@ -1,4 +1,4 @@
-"""Inputs and results as Python values: they compare, hash, pickle, are cut and added, and are judged when they are made."""
+"""Inputs and results as Python values: you can compare, hash, pickle, slice and add them, and their constructors check them."""
 import builtins
 import hashlib
 import os
@@ -120,11 +120,11 @@ class Construction(unittest.TestCase):
             changed = [word if line.startswith(name + " ") else line for line in words]
             self.assertRaises(RejectedInputError, ask, ["sweep"], "\n".join(["sweep 1", "key " + 64 * "0", *changed]))
 
-    def test_probabilities_are_judged_where_they_are_said(self):
+    def test_a_probability_is_checked_in_the_constructor(self):
         for call in (lambda: Nasch(25)), (lambda: SlowToStart(0, 2)), (lambda: Rickert(-1, 0)), (lambda: Rickert(0, "5/4")):
             self.assertRaises(ValueError, call)
 
-    def test_what_is_no_number(self):
+    def test_values_that_are_not_numbers(self):
         for chance in "a quarter", "1/0", float("nan"), float("inf"):
             self.rejects(ValueError, re.escape(f"brake must be a number between 0 and 1, not {chance!r}"), Nasch, chance)
             self.rejects(ValueError, "density must be a number between 0 and 1", replace, JOB, density=chance)
@@ -136,11 +136,11 @@ class Construction(unittest.TestCase):
             self.assertRaises(ValueError, Job, limit=5, length=10, rule=Nasch(0), steps=1, **more)
 
     def test_options_have_names(self):
-        # Of `run(10)` nobody knows whether 10 are steps or threads.
+        # A reader of `run(10)` cannot know whether 10 is a number of steps or of threads.
         for call in JOB.run, JOB.snapshots, JOB.series, SWEEP.sweep:
             self.assertRaises(TypeError, call, 1)
 
-    def test_old_names_say_the_new_ones(self):
+    def test_old_names_name_the_new_ones(self):
         for name, new in ("pictures", "snapshots"), ("wait", "time_until"):
             self.rejects(RenamedError, f"a job has no `{name}` .* use `{new}", getattr, JOB, name)
         self.assertFalse(hasattr(JOB, "nothing"))
@@ -188,7 +188,7 @@ class Construction(unittest.TestCase):
         self.assertEqual((job.at, hash(job)), (replace(job).at, hash(replace(job))))
         self.assertEqual(pickle.loads(pickle.dumps(job.at)), job.at)
 
-    def test_programs_are_judged_where_they_are_said(self):
+    def test_a_program_is_checked_in_the_constructor(self):
         for program, error, message in (
             ("", ValueError, "the motion program is empty"), (" \n", ValueError, "is empty"),
             ("change\nstay\n", ValueError, "this is a change program, and a motion program is needed"),
@@ -217,7 +217,7 @@ class Construction(unittest.TestCase):
 
 
 class Words(unittest.TestCase):
-    def test_what_an_input_does(self):
+    def test_the_description_of_an_input(self):
         self.assertEqual(explain(JOB), explain(JOB.text()))
         self.assertIn("cause 1", explain("road 2\n"))
 

@@ -1,4 +1,4 @@
-"""Waiting for a condition. No test depends on how long something takes: the one limit is for what hangs."""
+"""Waiting for a condition. No test depends on elapsed time: the only limit is for a call that hangs."""
 import time
 
 LIMIT = 300  # seconds, because other work may slow everything down
