@@ -184,7 +184,7 @@ class Kept(unittest.TestCase):
         self.assertRaisesRegex(ParameterError, "must be the path of a folder", trlab.results, SWEEPS, cache=True)
         with tempfile.NamedTemporaryFile() as file:
             for cache in file.name, f"{file.name}/cache":
-                self.assertRaisesRegex(ParameterError, "in place of one or below a file", trlab.results, SWEEPS, cache=cache)
+                self.assertRaisesRegex(ParameterError, "is a file, or below one", trlab.results, SWEEPS, cache=cache)
 
     def test_a_read_only_cache_is_read_and_a_warning_says_that_nothing_is_kept(self):
         script = """

@@ -88,7 +88,7 @@ class RejectedInputError(TrlabError):
 
 class RuleError(TrlabError, ValueError):
     """A Python function that is not a rule, or whose program the verifier rejects. The message names the file, the line and the
-    expression, and says what to write instead; the attributes are `file`, `line` (from 1) and `message`, which does not repeat
+    expression, and how to write it; the attributes are `file`, `line` (from 1) and `message`, which does not repeat
     them."""
 
     def __init__(self, file: str, line: int, message: str) -> None:
@@ -100,7 +100,7 @@ class RuleError(TrlabError, ValueError):
 
 
 class IncompleteOutputError(TrlabError):
-    """An output of the program that is shorter or longer than its input allows, whatever the exit status is."""
+    """An output of the program that is shorter or longer than its input allows, for any exit status."""
 
 
 class ExitStatusError(TrlabError):

@@ -6,7 +6,7 @@
     exact.triangle(5, "3/20")                       # the flow without randomization
     exact.minimum_principle("000..0....", 3, 1000)  # how far each car goes without randomization
 
-The laws are proved; that this module computes what they say is tested, also against runs of the program. Results are fractions or
+The laws are proved; the computation in this module is tested, also against runs of the program. Results are fractions or
 whole numbers, which `float` converts. Lengths are in cells, times in steps, and a flow is in cars per step and lane. A wrong
 argument raises `ParameterError`. No other package is needed."""
 from ._exact.minimum import distances, minimum_principle, positions

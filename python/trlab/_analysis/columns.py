@@ -48,7 +48,7 @@ def derived(counts: pandas.DataFrame) -> pandas.DataFrame:
 
 
 def as_numbers(column: pandas.Series) -> Array:
-    """A column as floats, with NaN for what is missing. Raises `ValueError` if a value is not a real number or a flag."""
+    """A column as floats, with NaN for missing values. Raises `ValueError` if a value is not a real number or a flag."""
     types = pandas.api.types
     if types.is_object_dtype(column):
         is_right = all(value is None or isinstance(value, (Real, Decimal, numpy.bool_)) for value in column)

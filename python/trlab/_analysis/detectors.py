@@ -98,7 +98,7 @@ class _Detector:
             self.last = step
 
     def values(self, steps: int) -> tuple[Any, ...]:
-        """The values of a window of so many steps."""
+        """The values of a window of `every` steps."""
         count, passed = sum(self.speeds), [*enumerate(self.speeds)][1:]
         mean, harmonic = math.nan, math.nan
         if count:

@@ -1,6 +1,6 @@
 """Tidy frames of pandas: one row for each run, or for each window of it.
 
-The parameters of a study are the levels of the index, so that means know what they average over; measured values are the columns.
+The parameters of a study are the levels of the index, so that means know their levels; measured values are the columns.
 The last columns identify the run of the row (see `columns.IDENTITY`), or give the reason why there is none."""
 from __future__ import annotations
 

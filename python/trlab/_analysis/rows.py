@@ -17,7 +17,7 @@ Record = dict[str, Any]
 
 RESERVED = [*IDENTITY, "error", "requested_density"]
 
-# A result may repeat what is known of the road. It is compared, and then left out.
+# A result may repeat these values of the road. They are compared, and then left out.
 OF_THE_ROAD = ["density", "cars", "cells"]
 
 
@@ -147,7 +147,7 @@ def _check_roads(rows: Rows, roads: KnownRoads) -> None:
 
 
 def _check_levels(rows: Rows) -> None:
-    """Raises `FrameError` if a result has several rows that cannot be told apart."""
+    """Raises `FrameError` if a result has several rows that nothing distinguishes."""
     if len(rows.content) == 1 or rows.is_of_points:
         return
     if not rows.levels:

@@ -1,4 +1,4 @@
-"""Columns that leave their frame for an estimate: what their index still says."""
+"""Columns that leave their frame for an estimate: what their index still shows."""
 from __future__ import annotations
 
 from collections.abc import Iterable, Sized

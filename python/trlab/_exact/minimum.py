@@ -58,7 +58,7 @@ def distances(job: Job, step: Optional[int] = None) -> list[int]:
     found: list[int] = []
     for number in range(len(shots[0])):
         cells, gone = _driven([lanes[number] for lanes in shots])
-        # The minimum principle numbers the cars of a lane by their cells on the road where it begins.
+        # The minimum principle numbers the cars of a lane by their cells on the road at which it begins.
         later = dict(zip(sorted(cells), _distances_on(shots[-1][number], job.limit, time - simulated)))
         found += [far + later[cell] for cell, far in zip(cells, gone)]
     return found

@@ -10,7 +10,7 @@ from .._inputs.numbers import ALWAYS, MAX_CELLS, Probability, parts, probability
 from .._inputs.roads import Lane, lanes_of
 
 NEGLIGIBLE = 1e-22
-"""A term of a sum that is so much smaller than the largest one does not change the sum in double precision."""
+"""A term of a sum that is smaller than the largest one by this factor does not change the sum in double precision."""
 
 
 def braking_probability(brake: Probability) -> Fraction:

@@ -1,1 +1,1 @@
-"""Inputs: what trlab runs, checked when it is made."""
+"""Inputs: jobs and sweeps, which are checked when they are made."""

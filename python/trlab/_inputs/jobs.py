@@ -251,7 +251,7 @@ def _without_cache() -> AbstractContextManager[None]:
 
 
 def _is_true(found: Any) -> bool:
-    """The answer of a condition. Raises `ParameterError` if it is not a truth value of Python or numpy."""
+    """The result of a condition. Raises `ParameterError` if it is not a truth value of Python or numpy."""
     kind = getattr(getattr(found, "dtype", None), "kind", None)
     if not isinstance(found, bool) and not (kind == "b" and found.shape == ()):
         raise ParameterError(f"`condition` must return True or False, not {shown(found)}")

@@ -80,7 +80,7 @@ def windows_in(lines: Iterator[str]) -> Iterator[Window]:
     for line in lines:
         numbers = line.split(",")
         if len(numbers) != columns or not line.endswith("\n"):
-            # This says what is wrong.
+            # This raises the error with its reason.
             Table.read(Window, heading + line)
         yield Window._make(map(int, numbers))
 

@@ -27,7 +27,7 @@ class Asked(NamedTuple):
 
     @classmethod
     def snapshots(cls, steps: int, every: object, first: object, workers: object) -> Asked:
-        """Raises `ParameterError` if a number is not one that a run of so many steps can have."""
+        """Raises `ParameterError` if a number is not possible for a run of this number of steps."""
         threads = whole("workers", workers, 1, MAX_THREADS)
         return cls(whole("every", every, 1, max(MAX_STEPS, steps)), whole("first", first, 0, steps), threads)
 

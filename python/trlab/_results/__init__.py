@@ -1,1 +1,1 @@
-"""Results: what the program wrote, as rows, snapshots and trajectories."""
+"""Results: the output of the program, as rows, snapshots and trajectories."""

@@ -138,7 +138,7 @@ def _cars_on(snapshot: Snapshot, lanes: int, length: int) -> tuple[Array, Array]
 
 
 def _is_too_fast(cell: Array, came_from: Array, on_lane_0: int, length: int) -> bool:
-    """Whether a car drove further than its gap, so that it is not behind the cell where the car ahead of it was before the
+    """Whether a car drove further than its gap, so that it is not behind the cell that the car ahead of it had before the
     motion. Cars are in the order of their lanes and cells."""
     for on_lane in slice(0, on_lane_0), slice(on_lane_0, None):
         now, then = cell[on_lane], came_from[on_lane]

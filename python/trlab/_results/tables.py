@@ -19,7 +19,7 @@ if TYPE_CHECKING:
 
 
 class _Counted:
-    """What follows from the counts of any row. All counts are for all lanes together."""
+    """The values that follow from the counts of any row. All counts are for all lanes together."""
 
     __slots__ = ()
     cars: int

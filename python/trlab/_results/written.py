@@ -42,7 +42,7 @@ class Snapshot(NamedTuple):
 
 
 class WrittenSnapshots(Sequence[Snapshot]):
-    """Snapshots of a run as text. A `Snapshot` is made each time it is asked for.
+    """Snapshots of a run as text. A `Snapshot` is made at each access.
 
     The lanes of each step, all of `length` cells and a line feed, begin at its place in the text."""
 
@@ -119,7 +119,7 @@ def read_snapshots(text: bytes) -> Sequence[Snapshot]:
 
 
 def _cell_fault(lines: list[str], lanes: int) -> str:
-    """Says which lane, of so many between two headings, has a character that no cell has."""
+    """Describes the lane, one of `lanes` between two headings, that has a character that no cell has."""
     place = next(place for place, line in enumerate(lines) if place % (lanes + 1) and line.strip(CELLS.decode()))
     return f"line {place + 1} of the run has {_NO_CELL}: {_shown(lines[place])}"
 

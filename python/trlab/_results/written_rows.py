@@ -15,7 +15,7 @@ BLOCK = 1 << 18
 DIGITS = b"0123456789"
 AS_ZEROS, AS_ZERO_OR_ONE = (bytes.maketrans(DIGITS, digits) for digits in (10 * b"0", b"0" + 9 * b"1"))
 MOST_DIGITS = 18
-"""Numbers of so many digits are below 2**63. The program writes at most 13."""
+"""Numbers with this number of digits are below 2**63. The program writes at most 13."""
 
 TOO_LONG = (MOST_DIGITS + 1) * b"0"
 
@@ -24,7 +24,7 @@ HEADINGS = {"flow_millionths": "flow"}
 
 
 class WrittenRows(Sequence[Any]):
-    """The rows of a table that was read. Each is made when it is asked for. `numbers` are those of all rows, one after the
+    """The rows of a table that was read. Each is made at its first access. `numbers` are those of all rows, one after the
     other; `kind` is a named tuple of whole numbers."""
 
     def __init__(self, kind: Any, numbers: array[int]) -> None:
@@ -80,7 +80,7 @@ def _blocks(text: str, begin: int) -> Iterator[bytes]:
 
 
 def _is_of_rows(block: bytes, columns: int) -> bool:
-    """Whether each line of the block has so many numbers, without leading zeros and too many digits."""
+    """Whether each line of the block has `columns` numbers, without leading zeros and not too many digits."""
     rows = (b"," * (columns - 1) + b"\n") * block.count(b"\n")
     if not block.endswith(b"\n") or block.translate(None, DIGITS) != rows:
         return False

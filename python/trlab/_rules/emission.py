@@ -38,7 +38,7 @@ class Place(NamedTuple):
 
 @dataclass(eq=False)
 class Instruction:
-    """An instruction: the register that it writes, those that it reads, its numbers and names, and where it jumps.
+    """An instruction: the register that it writes, those that it reads, its numbers and names, and the target of its jump.
 
     A `difference` has a number if the translation assumes that it is not negative, which the verifier has to confirm."""
 

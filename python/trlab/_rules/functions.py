@@ -1,4 +1,4 @@
-"""The decorators, and what they make of a function."""
+"""The decorators, and the rules that they make of functions."""
 from __future__ import annotations
 
 import re
@@ -116,7 +116,7 @@ def _words_of(program: str) -> frozenset[int]:
 
 
 def verdict(text: str) -> Union[int, Refusal]:
-    """The verifier's answer to a program."""
+    """The verifier's verdict on a program."""
     try:
         answer = b"".join(run(Request(("check",), text))).decode()
     except RejectionError as rejection:

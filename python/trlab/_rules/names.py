@@ -1,4 +1,4 @@
-"""What the names of a function mean while it is translated: the car, constants, other functions and variables."""
+"""The meanings of a function's names while it is translated: the car, constants, other functions and variables."""
 from __future__ import annotations
 
 import ast
@@ -40,7 +40,7 @@ Value = Union[Number, Flag]
 
 @dataclass
 class Attempt:
-    """What earlier translations of the function have shown: the differences that may be negative, by their numbers, the variables
+    """Facts from earlier translations of the function: the differences that may be negative, by their numbers, the variables
     that may be, and those that are not always a flag. `shares` is that of `Emitter`."""
 
     shares: bool
@@ -65,7 +65,7 @@ class Variable:
 
 
 class Frame:
-    """A call of a function: its names, and where `return` continues (None: the end of the step)."""
+    """A call of a function: its names, and the place at which `return` continues (None: the end of the step)."""
 
     def __init__(self, function: Function, end: Optional[Label], result: Optional[Variable]) -> None:
         self.function, self.end, self.result = function, end, result
@@ -132,7 +132,7 @@ class Names:
         return Number(variable.plus, variable.minus or 0, variable.why)
 
     def named(self, node: ast.Name) -> Any:
-        """What a name means: the car, a constant, a function, or the value of a variable."""
+        """The meaning of a name: the car, a constant, a function, or the value of a variable."""
         frame, name = self.frames[-1], node.id
         if name in frame.assigned:
             variable = self.variable(name)

@@ -1,4 +1,4 @@
-"""Python that is not part of a rule, and what to write instead."""
+"""Python that is not part of a rule, and advice on how to write a rule without it."""
 from __future__ import annotations
 
 import ast
@@ -40,5 +40,5 @@ _INSTEAD = {
 
 
 def instead_of(part: ast.AST, otherwise: str) -> str:
-    """What to say of a statement, an expression or an operator."""
+    """The advice for a statement, an expression or an operator."""
     return _INSTEAD.get(type(part).__name__, otherwise)

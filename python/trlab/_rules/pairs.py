@@ -1,7 +1,7 @@
 """Whole numbers as pairs, because a register holds no negative number.
 
 A number is the difference of a positive and a negative part, of which one is always 0. A part that is known to be 0 costs
-nothing. So `max(x, 0)` is the positive part, `min` and `max` go by parts, and sums and comparisons are exact below 0."""
+nothing. So `max(x, 0)` is the positive part, `min` and `max` are taken part by part, and sums and comparisons are exact below 0."""
 from __future__ import annotations
 
 import ast
@@ -89,7 +89,7 @@ class Arithmetic:
         return Number(self._by("div", number.plus, by), minus, number.why)
 
     def remainder(self, number: Number, by: int) -> Number:
-        """What is left of the number without the multiple of the quotient; it is never negative."""
+        """The remainder of the number after the multiple of the quotient; it is never negative."""
         multiple = self.product(self.quotient(number, by), by)
         plus, minus = self.sides(summand(number) - summand(multiple))
         return Number(self.excess(plus, minus))
@@ -125,7 +125,7 @@ class Arithmetic:
         return found
 
     def compare(self, operator: ast.cmpop, terms: Sum, target: Label, when: bool) -> None:
-        """Jumps if `left operator right` is `when`, where the terms are right - left."""
+        """Jumps if `left operator right` is `when`; the terms are right - left."""
         if isinstance(operator, (ast.Gt, ast.GtE)):
             terms = ZERO - terms
         high, low = self.sides(terms)

@@ -16,10 +16,10 @@ from .._errors import RuleError
 DECORATORS = ("motion", "change")
 
 UNKNOWN = object()
-"""The value of a name that a file sets in a way that only running it would tell."""
+"""The value of a name that is known only when the file is run."""
 
 ReadError = (SyntaxError, ValueError, RecursionError, MemoryError)
-"""What Python raises for a text that it cannot read: also for zero bytes and thousands of brackets."""
+"""The exceptions of Python for a text that it cannot read: also for zero bytes and thousands of brackets."""
 
 
 class Function(NamedTuple):
@@ -52,7 +52,7 @@ class Function(NamedTuple):
 
 
 class Decorated:
-    """What a decorator makes of a function. Other functions may still call it."""
+    """A function after its decorator. Other functions may still call it."""
 
     def __init__(self, written: Function) -> None:
         self.written = written

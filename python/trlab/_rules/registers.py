@@ -144,7 +144,7 @@ def _copies(items: Sequence[Item]) -> dict[Register, list[Register]]:
 
 
 def _too_many(items: Sequence[Item]) -> TooManyError:
-    """Where the most values are needed at once."""
+    """The place at which the most values are needed at once."""
     pairs = [(it, after) for it, after in zip(items, _living(items)) if isinstance(it, Instruction)]
     it, after = max(pairs, key=lambda pair: len(pair[1]))
     return TooManyError(it.place, sorted({register.name for register in after}))

@@ -1,4 +1,4 @@
-"""From a function to an accepted program: translate it, ask the verifier, and translate it again with the answer."""
+"""From a function to an accepted program: translate it, verify it, and translate it again with the verdict."""
 from __future__ import annotations
 
 from collections.abc import Callable, Mapping
@@ -33,7 +33,7 @@ class Refusal(NamedTuple):
 
 
 Verify = Callable[[str], Union[int, Refusal]]
-"""The verifier's answer to a program: its budget, or the refusal."""
+"""The verifier's verdict on a program: its budget, or the rejection."""
 
 
 class Program(str):

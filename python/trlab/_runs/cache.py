@@ -41,7 +41,7 @@ class Cache:
         try:
             self.folder.mkdir(parents=True, exist_ok=True)
         except (FileExistsError, NotADirectoryError):
-            raise ParameterError(f"the cache needs the path of a folder, and {self.folder} is in place of one or below a file") from None
+            raise ParameterError(f"the cache needs the path of a folder, and {self.folder} is a file, or below one") from None
         remove_left(self.folder)
 
     def path(self, key: str) -> Path:

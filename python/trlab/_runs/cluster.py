@@ -261,7 +261,7 @@ def _all_in(place: Path, kind: Any, before: Mapping[str, tuple[str, ...]]) -> di
 
 
 def _read(place: Path, file: _File) -> Table[Any]:
-    """A table; raises `ResultFilesError` with its fault. An empty text stands for an unknown input."""
+    """A table; raises `ResultFilesError` with its fault. An empty text means an unknown input."""
     content = _content_of_result(place, file)
     try:
         table: Table[Any] = Table.read(kind_of(file.request.words), content)

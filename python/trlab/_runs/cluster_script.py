@@ -77,10 +77,10 @@ exit $status
 
 
 def script_of(folder: Path, program: str, inputs: int, per_task: int) -> str:
-    """The script for so many inputs, of which a task runs up to `per_task`. The folder has a name of one line."""
+    """The script for this number of inputs, of which a task runs up to `per_task`. The folder has a name of one line."""
     return _SCRIPT.format(
         folder=shlex.quote(str(folder)),
-        # Slurm replaces what follows a percent sign.
+        # Slurm replaces a percent sign and the character after it.
         output=shlex.quote(str(folder).replace("%", "%%") + "/slurm-%A_%a.out"),
         script=shlex.quote(str(folder / "array.sh")),
         program=shlex.quote(program),

@@ -23,7 +23,7 @@ from .systems import fits_native_programs
 _HERE = Path(__file__).resolve().parents[1]
 _PACKED = _HERE / "programs"
 _SCRIPT = _HERE.parents[1] / "trlab"
-# What Linux calls the features that a processor of level x86-64-v3 has beyond the oldest ones.
+# The names that Linux has for the features of a processor of level x86-64-v3 that the oldest ones lack.
 _V3 = set("cx16 lahf_lm pni popcnt sse4_1 sse4_2 ssse3 abm avx avx2 bmi1 bmi2 f16c fma movbe xsave".split())
 _LONGEST_ANSWER = 65536
 _PATIENCE = 60.0
@@ -124,7 +124,7 @@ def _features() -> set[str]:
 
 
 def _folders() -> Iterator[Path]:
-    """Where the unpacked program may be kept: the user's cache, or else a folder that this process removes."""
+    """The folders that may keep the unpacked program: the user's cache, or else a folder that this process removes."""
     home = os.environ.get("XDG_CACHE_HOME") or os.path.expanduser("~/.cache")
     if os.path.isabs(home):
         yield Path(home) / "trlab"

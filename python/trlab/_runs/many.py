@@ -177,7 +177,7 @@ def _running(
         try:
             with nullcontext() if executor is None else lease.held():
                 try:
-                    # Threads of our own always have an input at hand while the caller looks at a result.
+                    # Threads of our own always have a next input while the caller uses a result.
                     yield pool, lease, at_once if executor is not None else 2 * count
                 finally:
                     processes.stop()

@@ -145,7 +145,7 @@ def output_of(request: Request) -> Iterator[bytes]:
     """The complete output of the program in blocks, from a cache if it is there, or while the program runs.
 
     After the last block, these are raised: `RejectionError`, instead of the output, if the program rejects the input;
-    `ProgramError` if it ended with another error; `IncompleteOutputError`, whatever its exit status is, if the output does not
+    `ProgramError` if it ended with another error; `IncompleteOutputError`, for any exit status, if the output does not
     have the number of lines that follows from the input. If the iterator is closed early, the program is killed. With a cache the
     program has ended before the first block."""
     now = setting()

@@ -30,7 +30,7 @@ def exit_status(process: subprocess.Popen[bytes]) -> int:
     try:
         ended = os.waitid(os.P_PID, process.pid, os.WEXITED | os.WNOWAIT)
     except ChildProcessError:
-        # `Popen.kill` in another thread asks for the status first.
+        # `Popen.kill` in another thread takes the status first.
         if process.returncode is not None:
             return process.returncode
         raise ExitStatusError(
@@ -44,7 +44,7 @@ def exit_status(process: subprocess.Popen[bytes]) -> int:
 class Ending:
     """Has SIGTERM and SIGHUP call a function before they end this process, as long as there is a run.
 
-    Only signals that have their default action are caught, and only if the main thread asks for it, because Python runs
+    Only signals that have their default action are caught, and only on request of the main thread, because Python runs
     their handlers in that thread."""
 
     def __init__(self, stop: Callable[[], object]) -> None:

@@ -1,4 +1,4 @@
-"""What differs between operating systems. The package is tested on Linux; on macOS and Windows it is untested."""
+"""Differences between operating systems. The package is tested on Linux; on macOS and Windows it is untested."""
 from __future__ import annotations
 
 import os
@@ -29,7 +29,7 @@ def processors() -> int:
 
 
 def is_running(number: int) -> bool:
-    """Whether a process of this machine runs. On Windows, where asking for it would end it, each is taken to run."""
+    """Whether a process of this machine runs. On Windows, where the test would end it, each is taken to run."""
     if os.path.isdir("/proc/self"):
         return os.path.exists(f"/proc/{number}")
     if os.name == "nt":

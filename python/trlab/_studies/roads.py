@@ -1,4 +1,4 @@
-"""What is known of the roads of an input before it runs."""
+"""The values of an input's roads that are known before it runs."""
 from __future__ import annotations
 
 import json
@@ -38,7 +38,7 @@ def _digest(content: object) -> str:
 
 
 def _own_roads(input: Union[Job, Sweep]) -> list[str]:
-    """What the ensemble of each road says of cells that were given one by one: nothing for an initial state of trlab."""
+    """The part of each road's ensemble for cells that were given one by one: empty for an initial state of trlab."""
     if isinstance(input.start, InitialState):
         return [""] * (len(input.counts()) if isinstance(input, Sweep) else 1)
     roads = input.start if isinstance(input, Sweep) else [input.start]

@@ -159,7 +159,7 @@ def read_study(path: Union[str, Path], any_program: bool = False) -> Study:
 
 
 def _study_in(file: zipfile.ZipFile, size: int) -> Study:
-    """The study in an archive of so many bytes. Raises `StudyFileError`, or other errors if it is damaged."""
+    """The study in an archive of this number of bytes. Raises `StudyFileError`, or other errors if it is damaged."""
     members = file.infolist()
     names = [member.filename for member in members]
     _need(all(member.compress_type == zipfile.ZIP_STORED for member in members), "it is compressed")

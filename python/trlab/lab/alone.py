@@ -12,7 +12,7 @@ from .._runs.location import find_program
 from .scripts import HERE
 
 PLACES = HERE.parent / "programs" / "trlab-lab.html", HERE.parents[2] / "release" / "trlab-lab.html"
-"""Where the page is in an installed package and in a checkout."""
+"""The paths of the page in an installed package and in a checkout."""
 
 
 class Page(NamedTuple):

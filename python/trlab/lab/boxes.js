@@ -1,5 +1,5 @@
-// Boxes that you type numbers into. A box keeps its text while you type, and while it is rejected: then a message below it says
-// what to write instead. Escape brings back the number that the box had.
+// Boxes that you type numbers into. A box keeps its text while you type, and while it is rejected: then a message below it explains
+// which numbers are allowed. Escape brings back the number that the box had.
 
 import { NumberError } from "./numbers.js";
 
@@ -35,7 +35,7 @@ export function attempt(place, call) {
     place.words.textContent = fault.message;
   }
 }
-/** The box shows the number in force again, whatever was typed. */
+/** The box shows the number in force again, and no longer the typed text. */
 export function free(place) {
   kept.delete(place);
   place.removeAttribute("aria-invalid");

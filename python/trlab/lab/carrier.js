@@ -1,4 +1,4 @@
-// Who answers the requests of the page: the server of trlab-lab, or the program that the page itself contains.
+// The requests of the page go to the server of trlab-lab, or to the program that the page itself contains.
 
 import { Program } from "./program.js";
 
@@ -6,7 +6,7 @@ const program = Program.ofPage();
 /** Whether the page contains the program, and so needs no server. */
 export const isAlone = program !== null;
 
-/** The answer to a request, whose body is the input of a command of trlab. Raises its message if the request is refused. */
+/** The response to a request, whose body is the input of a command of trlab. Raises its message if the request is rejected. */
 export async function answer(path, body, signal) {
   const got = await (program ? program.answer(path, body, signal) : fetch(path, { method: "POST", body, signal }));
   if (!got.ok) throw new Error(await got.text());

@@ -1,10 +1,10 @@
-// Long roads, whose cells are narrower than pixels. A pixel stands for several cells then: it shows the mean speed of their cars, the
+// Long roads, whose cells are narrower than pixels. Then several cells share a pixel, which shows the mean speed of their cars, the
 // paler the fewer of the cells have a car. The slowest or the last of the cars would make every long road a jam.
 
 import { EMPTY, speedOf, upTo } from "./job.js";
 import { colour } from "./colours.js";
 
-/** Whether so many cells have to share pixels: a mark for each car would hide too many other cars. */
+/** Whether this number of cells has to share pixels: a mark for each car would hide too many other cars. */
 export const isTight = (cells, pixels) => cells > 1.5 * pixels;
 
 const SPEEDS = 200, STRENGTHS = 64, COLOURS = upTo((SPEEDS + 1) * (STRENGTHS + 1)).map(k => {

@@ -15,7 +15,7 @@ export const across = density => 34 + 316 * density;
 const safe = words => words.replace(/[&<>]/g, it => `&#${it.charCodeAt(0)};`);
 const words = (x, y, it, more) => tag("text", { x, y, fill: SOFT, "font-size": 11, ...more }, it);
 
-/** A road in words. Points of other roads than the present one are told apart by their shape. */
+/** A road in words. Points of roads other than the present one differ in shape. */
 const roadOf = ({ limit, length, lanes }) => `v_max ${limit}, ${length} cells${lanes === 2 ? " on each lane" : ""}`;
 const OTHERS = [ // the outlines of such points
   (x, y) => `M${x - 3} ${y - 3}h6v6h-6z`, (x, y) => `M${x} ${y - 4.5}l4.5 4.5l-4.5 4.5l-4.5 -4.5z`,
@@ -64,7 +64,7 @@ function drawMarks(what, path, up) {
     return drawMark(mark, { path, up, stroke, shape: OTHERS[other % OTHERS.length], label: mark.name && place < 0 });
   });
 }
-/** The axes with their scales, and what the thin and thick lines are. */
+/** The axes with their scales, and the meaning of thin and thick lines. */
 function drawAxes({ up, ground, most, top, exact }) {
   const sample = (x, name, stroke, width) => tag("path", { d: `M${x} ${ground + 28}h16`, stroke, "stroke-width": width }) + words(x + 21, ground + 32, name);
   return [

@@ -1,5 +1,5 @@
-// A disturbance by hand: the followed car brakes to a stop. Files have no line for one car, so the run goes on as a new job, whose
-// first road is the shown one with this car stopped: `trlab run` replays it.
+// A disturbance by the user: the followed car brakes to a stop. Files have no line for one car, so the run continues as a new
+// job, whose first road is the shown one with this car stopped: `trlab run` replays it.
 
 import { upTo } from "./job.js";
 
@@ -14,6 +14,6 @@ export function disturbed(job, film, car) {
     rules: [{ ...now, at: 0, live: false }, ...later],
   };
 }
-/** What the page says of it. */
+/** The sentence about it on the page. */
 export const disturbanceWords = ({ step, lane, cell }, lanes) =>
   `The car in ${lanes === 2 ? `lane ${lane}, ` : ""}cell ${cell} braked to a stop at step ${step}. A new run begins with that road, and the job file replays it.`;

@@ -198,7 +198,7 @@ export function rowsOf({ film, step }, width, height) {
   const high = Math.max(film.lanes, clamp(Math.round(width / film.length), 1, 8)), rows = Math.max(1, Math.floor(height / high));
   return { high, rows, top: Math.max(film.first, step - rows + 1) };
 }
-/** Whether a pixel of the diagram stands for several cells. */
+/** Whether several cells share a pixel of the diagram. */
 export const isMixed = ({ length }, width) => isTight(length, width * devicePixelRatio);
 /** Rows are kept in a canvas, with a dot for each cell or for each pixel; the oldest row is overwritten. */
 export class Rows {

@@ -3,7 +3,7 @@
 import { answer } from "./carrier.js";
 import { upTo } from "./job.js";
 
-/** What trlab says of an input: the object that `trlab explain --json` prints. */
+/** The explanation of an input: the object that `trlab explain --json` prints. */
 export const explain = async (kind, text) => (await answer(`explain/${kind}`, text)).json();
 /** The line of an error: that of the rejected instruction if a program is rejected; 0 if there is no error. */
 export const lineOf = error => +(/^line (\d+)/.exec(error?.reason?.instruction)?.[1] ?? error?.line ?? 0);

@@ -8,7 +8,7 @@ import { upTo } from "./job.js";
 const GAP_RULE = "rule own\nmotion\nget r0, limit\nget r1, gap\nmin r0, r0, r1\ngo r0\nend";
 /** A curve of a long ring has one point more than this. */
 const INTERVALS = 100;
-/** A term of a sum that is so much smaller than the largest one does not change the sum in double precision. */
+/** A term of a sum that is smaller than the largest one by this factor does not change the sum in double precision. */
 const NEGLIGIBLE = 1e-22;
 
 /** The curve of one lane: its `kind`, and its `points`, each with density and flow. It is the triangle for a rule without

@@ -64,7 +64,7 @@ def exported(text: str, title: str = "") -> str:
 
 
 def film_page() -> str:
-    """The page of a film, without what one film has: `@title@`, `@lead@`, `@job@` and `@run@`."""
+    """The page of any film, with `@title@`, `@lead@`, `@job@` and `@run@` as the places of the parts that differ."""
     script, style = joined("exported"), (HERE / "page.css").read_text("utf-8")
     return _PAGE.format(style=style, script=script, style_sum=sum_of(style), script_sum=sum_of(script), parts=_parts())
 

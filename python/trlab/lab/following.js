@@ -1,11 +1,11 @@
-// What the page says of the followed car: its gap, the car ahead, and why it drives as it does. The reason follows from the
+// The sentence about the followed car: its gap, the car ahead, and why it drives as it does. The reason follows from the
 // published rule and two snapshots; of a rule of one's own only the bound by the gap is known.
 
 import { EMPTY } from "./job.js";
 import { converted, lengthWords, speedWords } from "./units.js";
 
-/** The empty cells ahead of a car and the next car, which is null if the lane has no other car. `isThere(cell)` tells where
- * cars are. */
+/** The empty cells ahead of a car and the next car, which is null if the lane has no other car. `isThere(cell)` is whether
+ * a cell has a car. */
 function ahead(length, cell, isThere) {
   for (let gap = 0; gap < length - 1; gap++) if (isThere((cell + gap + 1) % length)) return { gap, next: (cell + gap + 1) % length };
   return { gap: length - 1, next: null };

@@ -14,7 +14,7 @@ export class Exit extends Error {
   }
 }
 
-/** What `input` and `put` throw if reading or writing fails: the program sees the error with this number, which is Linux's. */
+/** `input` and `put` throw this if reading or writing fails. The program sees the error with this number, which is Linux's. */
 export class StreamError extends Error {
   constructor(number) {
     super(`error ${number} of a stream`);
@@ -179,7 +179,7 @@ const OF_THE_END = {
 const ABORTED = 134;
 
 /** The host of one run of the program. `words` are the arguments. `input` is the bytes of standard input, or a call that puts bytes
- * into a buffer and returns how many, 0 at the end. `put(bytes, isError)` takes what the program writes.
+ * into a buffer and returns how many, 0 at the end. `put(bytes, isError)` takes the output of the program.
  *
  * `known` has the functions by their names, and may be changed before `importsOf`. */
 export function hostOf({ words, input, put, isTerminal = () => false }) {

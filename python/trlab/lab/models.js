@@ -1,4 +1,4 @@
-// What each model does, in two sentences, and the paper that it comes from.
+// Each model in two sentences, and the paper that it comes from.
 
 const MODELS = {
   nasch: {
@@ -23,7 +23,7 @@ const MODELS = {
   },
 };
 
-/** Tell about a model at the place where it is chosen. */
+/** Describe a model below the list from which it is chosen. */
 export function tellModel(name, place = document.getElementById("about")) {
   if (place.dataset.model === name) return;
   const { words, paper, link } = MODELS[name], anchor = document.createElement("a");

@@ -4,7 +4,7 @@ import { ALWAYS, decimalOf, parts } from "./checks.js";
 
 const WRITTEN = /^[-+]?(?:(\d+)\/(\d+)|(?:\d+\.?\d*|\.\d+)(?:e[-+]?\d{1,3})?)$/i;
 
-/** A text is not the number that is wanted; the message says what to write instead. */
+/** A text is not a valid number; the message names the numbers that are. */
 export class NumberError extends Error {}
 /** The number in a text. Raises a `NumberError` if it is not a number, or out of its range. */
 export function numberOf(text, { least = -Infinity, most = Infinity, isWhole = false } = {}) {

@@ -149,7 +149,7 @@ function rangeOf(name) {
   const [least, most] = { density: [0, 1], limit: [1, 35], length: [1, MAX_CELLS], lanes: [1, 2], steps: [0, 500000], cars: [0, job.length * job.lanes] }[name];
   return { least, most, isWhole: name !== "density" };
 }
-/** Boxes show these values of the job again, whatever was typed into them. */
+/** Boxes show these values of the job again, and no longer the typed text. */
 const release = (...names) => names.forEach(name => document.querySelectorAll(`[data-set=${name}]`).forEach(free));
 /** Set a value of the job as a text. Raises a `NumberError` if it is not one, and then nothing changes. */
 function set(name, text) {

@@ -1,5 +1,5 @@
-// The program in WebAssembly, if the page contains it. It answers the requests that a page with a server sends to trlab-lab:
-// each of them runs the program in a Worker of its own, with the body as standard input, and the answer is a stream of its
+// The program in WebAssembly, if the page contains it. It takes the requests that a page with a server sends to trlab-lab:
+// each of them runs the program in a Worker of its own, with the body as standard input, and the response is a stream of its
 // output.
 
 const RUNS = new Map([
@@ -53,7 +53,7 @@ export class Program {
   }
 }
 
-/** The answer to a request, as `fetch` gives it. A `Response` would hide the error of a run behind one of its own. */
+/** The response to a request, as `fetch` gives it. A `Response` would hide the error of a run behind one of its own. */
 class Answer {
   constructor(body) { Object.assign(this, { body, ok: true }); }
   async blob() {
@@ -92,7 +92,7 @@ class Run {
     else if (status === 0 || status === 1) this.end(() => control.close());
     else this.end(() => control.error(new Error(ENDINGS[status] ?? stopped(fault ?? `exit status ${status}`))));
   }
-  /** The page has read so much that there is room: the program continues, or runs again if it could not wait. */
+  /** The page has read enough for the buffer to have room: the program continues, or runs again if it could not wait. */
   pull(control) {
     if (this.worker) this.worker.postMessage({ taken: this.skip });
     else this.open(control);

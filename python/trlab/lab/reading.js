@@ -34,7 +34,7 @@ function numberOf(digits) {
   need(/^[0-9]+$/.test(digits), () => `the file has ${String(digits).slice(0, 80)} instead of a number`);
   return +digits;
 }
-/** A rule from the words after `rule`. What it does not have, such as the programs, stays as it was before. */
+/** A rule from the words after `rule`. Values that the line does not have, such as the programs, stay as they were before. */
 function ruleOf(at, [model, ...numbers], lines, before = { p: 0.25, q: 0.5, motion: "", change: "" }) {
   if (model !== "own") {
     const [p = before.p, q = before.q] = numbers.map(it => decimalOf(numberOf(it)));

@@ -7,7 +7,7 @@ import { attempt, free, isKept, watch } from "./boxes.js";
 import { numberOf } from "./numbers.js";
 
 const $ = id => document.getElementById(id);
-/** What a page without a server says instead of translating rules. */
+/** The message of a page without a server, which cannot translate rules. */
 export const WITHOUT_SERVER = "Rules in Python need the command trlab-lab of the Python package, whose server translates them. Here you can " +
   "write the programs below.";
 const KINDS = { motion: "Motion rule", change: "Lane-change rule" };
@@ -101,7 +101,7 @@ export class PythonRules {
     watch(number, id, set, () => number.value = this.values[rule]?.[name] ?? value);
     return box;
   }
-  /** The programs may have been changed by hand, or come from another job: then the functions are not theirs any more. */
+  /** The user may have changed the programs, or they come from another job: then the functions are not theirs any more. */
   compare(rule, lanes) {
     for (const box of $("parameters").children) box.hidden = lanes === 1 && box.dataset.kind === "change";
     if (!this.programs || this.said[0] !== "good") return;

@@ -13,7 +13,7 @@ Answer = dict[str, Any]
 
 
 def answer(text: bytes) -> bytes:
-    """The answer to a request of the page, both in JSON; raises `ValueError` if it is not a good one."""
+    """The response to a request of the page, both in JSON; raises `ValueError` if it is not a good one."""
     try:
         return json.dumps(translated(json.loads(text))).encode()
     except (LookupError, TypeError, AttributeError, ArithmeticError, RecursionError) as error:

@@ -49,7 +49,7 @@ QUESTIONS = {
     **{f"explain/{kind}": ["explain", "--json", kind] for kind in ("run", "sweep", "check")},
 }
 RULES = "rules"
-"""The request that Python answers, with short calls of the verifier: see `rules.answer`."""
+"""The request that Python handles, with short calls of the verifier: see `rules.answer`."""
 HEADERS = {
     "Cache-Control": "no-store",
     "Content-Security-Policy": "default-src 'none'; script-src 'self'; style-src 'self'; connect-src 'self'; "
@@ -70,7 +70,7 @@ def examples() -> dict[str, str]:
 
 
 def hosts_at(port: int) -> set[str]:
-    """The names by which browsers ask for this server. They leave out port 80."""
+    """The names that browsers use for this server. They leave out port 80."""
     names = {"127.0.0.1", "localhost"}
     return {f"{name}:{port}" for name in names} | (names if port == 80 else set())
 
@@ -289,7 +289,7 @@ class Page(BaseHTTPRequestHandler):
         self.end_headers()
 
     def send_error(self, code: int, message: Optional[str] = None, explain: Optional[str] = None) -> None:
-        """Answer a malformed request, or one of another method."""
+        """Respond to a malformed request, or to one of another method."""
         self.close_connection = True
         self.answer(code, f"{message or 'This request is not valid.'}\n".encode())
 

@@ -1,4 +1,4 @@
-"""Connections that have not shown the token yet: at most so many at a time, so that idle ones cannot shut the owner out."""
+"""Connections that have not shown the token yet: a bounded number at a time, so that idle ones cannot shut the owner out."""
 from __future__ import annotations
 
 import contextlib

@@ -19,7 +19,7 @@ const SYSTEMS = {
 /** The units that the page shows: "cells" or "road". */
 export const units = { now: "cells" };
 export const unitOf = kind => SYSTEMS[units.now][kind];
-/** A density, flow or speed in the shown unit, as a number and in words, with more digits if they are asked for. */
+/** A density, flow or speed in the shown unit, as a number and in words, with more digits on request. */
 export const converted = (kind, number) => number * unitOf(kind).times;
 export const shownAs = (kind, number, more = 0) => converted(kind, number).toFixed(unitOf(kind).digits + more);
 /** A speed in cells per step with its unit. */
