@@ -38,7 +38,7 @@ function refuse(why) {
     exit 1
 }
 
-# Adds neighbouring cars of one speed to the path of their lane and speed, from where the path ended before.
+# Adds neighbouring cars of one speed to the path of their lane and speed, from the end of the path before.
 function draw(lane, speed, x, run,  y) {
     y = steps - 1
     piece[lane, speed, y] = piece[lane, speed, y] \

@@ -11,10 +11,10 @@ BEGIN {
     split("trlab floor plain interpreter numba NumPy", shown, " ")
 }
 
-# The heading tells which column is whose.
+# The heading names the columns.
 $1 == "what" { for (k = 2; k <= NF; k++) column[$k] = k; next }
 
-# A rule by itself, with no other word behind it.
+# A rule by itself, without another word after it.
 $1 ~ /^[a-z]+[0-9 ]+$/ && $column["cells"] == 100000 && $column["cars"] == 30000 * $column["lanes"] {
     rule[++rules] = $1
     for (k = 1; k <= colors; k++) {
@@ -38,7 +38,7 @@ function text(x, y, anchor, what,  more) {
     printf "<text x=\"%.1f\" y=\"%.1f\" text-anchor=\"%s\"%s>%s</text>\n", x, y, anchor, more, what
 }
 
-# The bars of a rule below its name; returns where the next rule begins.
+# The bars of a rule below its name; returns the place of the next rule.
 function bars(r, y,  k) {
     text(left, y, "start", title(rule[r]), " font-weight=\"bold\"")
     y += 6

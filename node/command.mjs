@@ -4,7 +4,7 @@ import { readSync, writeSync } from "node:fs";
 import { isatty } from "node:tty";
 import { StreamError, runProgram } from "./program.mjs";
 
-/** What the program is told of other errors than those below: an error of input or output. */
+/** The number that the program gets for errors other than those below: an error of input or output. */
 const OTHER = 5;
 /** Linux's numbers of errors by their names: other systems have other numbers. */
 const NUMBERS = { EBADF: 9, EFAULT: 14, EISDIR: 21, EFBIG: 27, ENOSPC: 28, EPIPE: 32 };

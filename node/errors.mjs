@@ -16,7 +16,7 @@ export class RejectedInputError extends Error {
 
 const MEANING = { 2: "the arguments are invalid", 3: "memory ran out", 4: "reading the input or writing the output failed" };
 
-/** The program ended with an error other than a rejected input: its exit `status`, and what it wrote to standard error. */
+/** The program ended with an error other than a rejected input: its exit `status`, and its text on standard error. */
 export class ProgramError extends Error {
   name = "ProgramError";
   constructor(status, said) {

@@ -4,7 +4,7 @@ import { existsSync, readFileSync } from "node:fs";
 import { fileURLToPath } from "node:url";
 import { gunzipSync } from "node:zlib";
 
-/** Where a file is: beside this script in a package for npm, else in the Python package or in a checkout. */
+/** The place of a file: next to this script in a package for npm, otherwise in the Python package or in a checkout. */
 function placeOf(...places) {
   const found = places.map(it => new URL(it, import.meta.url)).find(it => existsSync(it));
   if (!found) throw new MissingProgramError(`there is no ${places[0].replace("./", "")}: release/make builds it in a checkout`);

@@ -17,7 +17,7 @@ export function snapshotsFrom(take) {
   };
 }
 
-/** The counts of a row, and what follows from them. */
+/** The counts of a row, and the values that follow from them. */
 class Row {
   constructor(names, numbers) {
     names.forEach((name, k) => this[name === "flow" ? "flowMillionths" : name] = numbers[k]);

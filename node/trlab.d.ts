@@ -1,4 +1,4 @@
-/** Types of trlab for Node: the functions take the text of a file, and return what the program prints. */
+/** Types of trlab for Node: the functions take the text of a file, and return the output of the program. */
 
 /** The text of a file, or its bytes. */
 export type Input = string | Uint8Array;
@@ -109,7 +109,7 @@ export interface Repair {
 
 /** An input that the program rejects. The message is the text of `trlab explain`. */
 export class RejectedInputError extends Error {
-  /** What the command prints, for example `fault line 5 cause 2`. */
+  /** The output of the command, for example `fault line 5 cause 2`. */
   readonly answer: string;
   /** The line, from 1; 0 if the input is too long. */
   readonly line: number;
@@ -134,7 +134,7 @@ export class RejectedInputError extends Error {
 export class ProgramError extends Error {
   /** The exit status: 2 for invalid arguments, 3 if memory ran out. */
   readonly status: number;
-  /** What the program wrote to standard error. */
+  /** The text of the program on standard error. */
   readonly said: string;
 }
 

@@ -1,4 +1,4 @@
-"""What the studies share: inputs and tables as files, runs side by side, frames of their results, means and figures."""
+"""Shared by the studies: inputs and tables as files, runs side by side, frames of their results, means and figures."""
 from __future__ import annotations
 
 import argparse
@@ -24,7 +24,7 @@ plt.style.use(Path(__file__).with_name("figures.mplstyle"))
 
 
 class Study(NamedTuple):
-    """The folder of a study, and what its script was asked for."""
+    """The folder of a study, and the options of its script."""
 
     folder: Path
     is_full: bool
@@ -44,7 +44,7 @@ class Study(NamedTuple):
     ) -> pandas.DataFrame:
         """A frame of the rows of a table: as its file has them, or after all inputs were run. See `frame_of`.
 
-        A run that was stopped or killed continues where it stopped when it is started again."""
+        A run that was stopped or killed continues from its last result when it is started again."""
         if not self.is_drawn_only:
             self.write_inputs(inputs)
             tables = self.results(inputs, call)

@@ -1,5 +1,5 @@
 # Reads the output of `trlab sweep` of `nasch` with limit 1 and the braking probability `q`. Prints the cars, the flow of
-# the stationary state on a ring of so many cells and cars, and the measured flow.
+# the stationary state on a ring with these numbers of cells and cars, and the measured flow.
 function choose(n, k) { return k < 0 || k > n ? 0 : k == 0 ? 1 : choose(n - 1, k - 1) * n / k }
 BEGIN { FS = "," }
 NR == 1 { next }

@@ -1,5 +1,5 @@
 # Draws docs/fastest.svg: how far twelve cars go from one initial road under rules that accelerate by at most one.
-# Run it at the top of the repository, where the folder study is:
+# Run it at the top of the repository, which has the folder study:
 #
 #   sh docs/laws/fastest.sh > study/fastest.svg
 set -e

@@ -1,5 +1,5 @@
 # Reads the output of `trlab run` on one lane with the limit `v`. Prints one line per step: how far the minimum principle
-# lets each car go until then, computed from the gaps of the first row alone. Cars are in the order of their first cells.
+# lets each car go until then, computed only from the gaps of the first row. Cars are in the order of their first cells.
 $1 == "step" { time = $2; next }
 time == 0 {
     cells = length($0)

@@ -1,4 +1,4 @@
-// The files of the package that are elsewhere in the checkout, and where they are in the package.
+// The files of the package that are elsewhere in the checkout, and their places in the package.
 
 const place = path => new URL(path, import.meta.url);
 export const FILES = [

@@ -42,7 +42,7 @@ test("each allocation fails in turn", { skip: missing }, () => {
       for (const name of ["rattle_alloc", "rattle_realloc"]) {
         const allowed = known[name];
         known[name] = (to, ...rest) => {
-          // No block has so many bytes, so that none is found.
+          // No block has this many bytes, so the allocation fails.
           if (++count !== number) return allowed(to, ...rest);
           refused = number;
           return known.rattle_alloc(to, 1n << 40n, 8n);
@@ -74,7 +74,7 @@ test("a stack that overflows is an error, and never a wrong output", { skip: mis
     const right = ended(words, text, ample);
     for (const power of [14, 15, 16, 17, 18, 19]) {
       for (const isFull of [false, true]) {
-        // With a memory of 4 GiB but for its end, the addresses below 0, where the stack overflows, are still outside.
+        // In a memory of 4 GiB without its end, the addresses below 0, into which the stack overflows, are still outside.
         const fill = (known, instance) => {
           const main = known.rattle_arg;
           known.rattle_arg = (...given) => {

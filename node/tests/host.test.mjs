@@ -122,7 +122,7 @@ test("input in pieces, from bytes and from a call", () => {
   }
 });
 
-test("output is copied, and errors are told apart", () => {
+test("output is copied, and errors are distinguished", () => {
   const written = [], { write, bytes } = started({ put: (piece, isError) => written.push([piece, isError]) });
   bytes(TEXT, 3).set([97, 98, 99]);
   assert.equal(write(1, TEXT, 3n), 3n);
@@ -153,12 +153,12 @@ test("errors of streams reach the program, and no others", () => {
   assert.throws(() => other.write(1, TEXT, 1n), /another fault/);
 });
 
-test("a write may be waited for", async () => {
+test("a write may have to wait", async () => {
   const { write } = started({ put: () => Promise.resolve() });
   assert.equal(await write(1, TEXT, 5n), 5n);
 });
 
-test("no thread is made, and nobody waits", () => {
+test("no thread is made, and no call waits", () => {
   const { pthread_create, syscall } = started();
   assert.equal(pthread_create(0, 0, 0, 0), 11);
   assert.equal(syscall(202n, 0, 1n), 0n);

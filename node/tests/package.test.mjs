@@ -1,4 +1,4 @@
-// The folder as a package of npm: it works away from the checkout, and packing leaves nothing behind.
+// The folder as a package of npm: it works away from the checkout, and packing leaves no files behind.
 
 import assert from "node:assert/strict";
 import { spawnSync } from "node:child_process";

@@ -87,13 +87,13 @@ test("invalid arguments", { skip: missing }, () => {
   assert.throws(() => explain(TWO_CARS, { as: "series" }), ParameterError);
 });
 
-test("the types name what the module exports", () => {
+test("the types name the exports of the module", () => {
   const types = readFileSync(new URL("../trlab.d.ts", import.meta.url), "utf8");
   const named = new Set([...types.matchAll(/^export (?:function|class) (\w+)/gm)].map(it => it[1]));
   assert.deepEqual([...named].sort(), Object.keys(trlab).sort());
 });
 
-test("the example prints what its page says", { skip: missing }, () => {
+test("the example prints the output on its page", { skip: missing }, () => {
   const printed = execFileSync(process.execPath, [fileURLToPath(new URL("../example.mjs", import.meta.url))], { encoding: "utf8" });
   const page = readFileSync(new URL("../README.md", import.meta.url), "utf8");
   assert.ok(page.includes("```text\n" + printed + "```"), printed);

@@ -8,7 +8,7 @@ import threading
 from typing import NamedTuple
 
 HERE = os.path.dirname(os.path.abspath(__file__))
-# What else is asked of a text that belongs to a command. The native program reports the progress of several runners in any order.
+# Further calls for an input of a command. The native program reports the progress of several runners in any order.
 MORE = {
     "check": ["explain check", "explain --json check"],
     "run": [

@@ -1,7 +1,7 @@
 #!/usr/bin/env python3
 """Rewrite the LLVM module of the program for WebAssembly with 32-bit addresses: `narrow.py < WIDE.ll > NARROW.ll`.
 
-rattle makes the module for a machine whose pointers have 64 bits, and decides where each value is in memory, in bytes. These
+rattle makes the module for a machine whose pointers have 64 bits, and decides the place of each value in memory, in bytes. These
 places stay as they are: a pointer in memory keeps its eight bytes, of which the upper four are zeros. So it is stored as a number
 of 64 bits, and loaded as one; a pair that a function returns has such a number instead of each pointer; and a constant has four
 more bytes after each pointer. Everything else means the same with pointers of either size, because each line must have one of the
@@ -33,7 +33,7 @@ ARGUMENT = rf"(?:{PLAIN}{ATTRIBUTES} {VALUE}|ptr{ATTRIBUTES} {POINTER})"
 ARGUMENTS = rf"\((?:{ARGUMENT}(?:, {ARGUMENT})*)?\)"
 PARAMETER = rf"{TYPE}{ATTRIBUTES}(?: {LOCAL})?"
 PARAMETERS = rf"\((?:{PARAMETER}(?:, {PARAMETER})*)?(?:, \.\.\.)?\)"
-# What is known of a value. A fact about a pointer is dropped, because it would be said of a number.
+# Facts about a value. A fact about a pointer is dropped, because it does not hold of the number that replaces the pointer.
 FACTS = r"(?:, !(?:noundef|range|nonnull|dereferenceable|align) !\d+)*"
 LANES = r"<\d+ x i32> (?:zeroinitializer|<i32 \d+(?:, i32 \d+)*>)"
 
@@ -43,7 +43,7 @@ SAME = [
     r"(?:;.*)?", rf"{NAME}:(?: +;.*)?", r"\}", r'source_filename = "rattle"', r"![\w.]+ = .*",
     rf"{GLOBAL} = private (?:unnamed_addr )?(?:constant|global) \[\d+ x i8\] (?:c\"[^\"]*\"|zeroinitializer), align \d+",
     rf"    i\d+ -?\d+, label {LOCAL}", r"  \]",
-    # Memory, but for pointers.
+    # Memory, except for pointers.
     rf"  {LOCAL} = alloca (?:{PLAIN}|\[\d+ x i8\]), align \d+",
     rf"  {LOCAL} = load (?:volatile )?{PLAIN}, ptr {POINTER}, align \d+{FACTS}",
     rf"  store {PLAIN} {VALUE}, ptr {POINTER}, align \d+",
@@ -89,7 +89,7 @@ CONSTANT = re.compile(rf"({GLOBAL} = private constant) <\{{ (.*?) \}}> <\{{ (.*)
 IN_CONSTANT = re.compile(rf"(ptr) ({POINTER})|(\[\d+ x i8\]) (c\"[^\"]*\"|zeroinitializer)")
 TYPES_IN_CONSTANT = re.compile(r"(?:ptr|\[\d+ x i8\])(?:, (?:ptr|\[\d+ x i8\]))*")
 ATTRIBUTE_LINE = re.compile(r"attributes (#\d+) = \{ (.*) \}")
-# What is said of the processor and its stack, which WebAssembly has in its own way, and what only rattle reads.
+# Attributes of the processor and its stack, which WebAssembly has in its own way, and one that only rattle reads.
 OF_PROCESSOR = re.compile(r'"(?:probe-stack|stack-probe-size|target-cpu|rattle-sig)"="[^"]*"')
 OF_FUNCTION = re.compile(
     r"(?:nounwind|alwaysinline|inlinehint|noinline|cold|noreturn|nobuiltin|nocallback|nofree|nosync|speculatable|willreturn|nocreateundeforpoison"
@@ -101,7 +101,7 @@ OF_OTHER_PROCESSORS = re.compile(r"@llvm\.(?:x86|aarch64)\.")
 
 
 class UnknownForm(Exception):
-    """A line whose form is not known, so that it is not known what it means for pointers of 32 bits."""
+    """A line of an unknown form, whose meaning for pointers of 32 bits is therefore unknown."""
 
 
 def with_numbers(text):
@@ -110,7 +110,7 @@ def with_numbers(text):
 
 
 def without_processor(words):
-    """The attributes of a function but for those of the processor."""
+    """The attributes of a function, without those of the processor."""
     kept = OF_PROCESSOR.sub("", words).split()
     # The words of one attribute may have spaces in its brackets.
     if not re.fullmatch(rf"(?:{OF_FUNCTION.pattern}(?: |$))*", " ".join(kept)):

@@ -1,4 +1,4 @@
-// What the C library says of the processor. The native program for x86-64-v3 ends at its start if a feature of this level is missing.
+// The C library's report on the processor. The native program for x86-64-v3 ends at its start if it lacks a feature of this level.
 // Here it needs none of them: narrow.py drops the level, and clang compiles for WebAssembly. So every feature is reported as there.
 
 struct features {

@@ -33,7 +33,7 @@ def branches(is_full):
 
 
 def last_half(job):
-    """What is counted in the second half of a run."""
+    """The counts of the second half of a run."""
     return job.series(every=job.steps // 2, first=job.steps // 2)
 
 
@@ -83,7 +83,7 @@ def print_branches(runs):
 
 
 def measured_lives(study):
-    """The lives that were measured, as a file has them or anew: a frame with `text`, `length` and `life`."""
+    """The lives that were measured, from a file or from new runs: a frame with `text`, `length` and `life`."""
     file = study.folder / "lives.csv"
     if not study.is_drawn_only:
         jobs = lives(study.is_full)

@@ -84,7 +84,7 @@ def by_elimination(rows: Sequence[Row]) -> list[Fraction]:
 
 
 def eliminated(left: list[Row], last: int, to_others: Fraction) -> Row:
-    """Leaves out the last state: the others go straight to where it leads. Returns how often each of them came to it,
+    """Leaves out the last state: the others go straight to its next states. Returns how often each of them came to it,
     as a share of the times that it left."""
     share: Row = {}
     for state in range(last):
@@ -121,7 +121,7 @@ def by_iteration(rows: Sequence[Row], accuracy: float = 1e-16) -> list[float]:
 
 
 def expected_distance(found: Chain, steps: int) -> float:
-    """The mean of the cells driven in the step after so many, from the first state."""
+    """The mean of the cells driven in the step after `steps` steps from the first state."""
     into, now = arrows(found.rows), [1.0] + [0.0] * (len(found.rows) - 1)
     for _ in range(steps):
         now = step(now, into)
@@ -129,7 +129,7 @@ def expected_distance(found: Chain, steps: int) -> float:
 
 
 def stationary(found: Chain, most_states: int = MAX_STATES) -> Means:
-    """The means of the stationary state, as fractions if the chain has at most so many states."""
+    """The means of the stationary state, as fractions if the chain has at most `most_states` states."""
     shares: Sequence[Number]
     if len(found.rows) <= most_states:
         shares = by_elimination(found.rows)

@@ -46,6 +46,6 @@ def stationary_road(p: float, length: int, cars: int, numbers: Random) -> list[O
 
 
 def parts(whole: int, count: int, numbers: Random) -> list[int]:
-    """A whole number cut into so many parts of 1 at least; all ways of cutting are equally likely."""
+    """A whole number cut into `count` parts, each at least 1; all ways of cutting are equally likely."""
     cuts = [0, *sorted(numbers.sample(range(1, whole), count - 1)), whole]
     return [right - left for left, right in zip(cuts, cuts[1:])]

@@ -1,6 +1,6 @@
 """The models as their papers define them, with exact probabilities.
 
-A model has a motion: the new speed of a car, by what the car sees. On two lanes it also has a lane change, which all
+A model has a motion: the new speed of a car, by its view. On two lanes it also has a lane change, which all
 cars decide at once before the motion. Nothing here is taken from trlab; both follow the papers."""
 from __future__ import annotations
 
@@ -13,7 +13,7 @@ Odds = dict[int, Fraction]
 
 
 class Seen(NamedTuple):
-    """What a driver sees at the start of a motion, in cells and in cells per step."""
+    """The view of a driver at the start of a motion, in cells and in cells per step."""
 
     speed: int
     gap: int  # empty cells up to the next car ahead
@@ -21,7 +21,7 @@ class Seen(NamedTuple):
 
 
 class Side(NamedTuple):
-    """What a driver sees before a lane change. The cell beside the car is empty."""
+    """The view of a driver before a lane change. The side cell is empty."""
 
     speed: int
     gap: int

@@ -1,4 +1,4 @@
-"""Exact solutions beside trlab: small rings solved in fractions, and v_max = 1 on rings of any length.
+"""Exact solutions compared with trlab: small rings solved in fractions, and v_max = 1 on rings of any length.
 
 About two minutes of CPU time; --full takes more and longer runs and solves all small rings in fractions."""
 from fractions import Fraction

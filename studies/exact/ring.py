@@ -17,7 +17,7 @@ EMPTY = "."
 
 
 class Outcome(NamedTuple):
-    """One way in which a step can go."""
+    """One possible outcome of a step."""
 
     probability: Fraction
     state: State
@@ -64,7 +64,7 @@ def motions(state: State, model: Any) -> Iterator[Outcome]:
 
 
 def side(state: State, number: int, cell: int) -> Side:
-    """What a car sees before a lane change."""
+    """The view of a car before a lane change."""
     lane, other = state[number], state[1 - number]
     back = gap(other, cell, -1)
     return Side(int(lane[cell]), gap(lane, cell), leader(lane, cell), gap(other, cell), back, number)
@@ -92,7 +92,7 @@ def lane_changes(state: State, model: Any) -> Iterator[Outcome]:
 
 
 def steps(state: State, model: Any) -> Iterator[Outcome]:
-    """All ways in which a step can go; several may end in the same state."""
+    """All possible outcomes of a step; several may end in the same state."""
     for changed in lane_changes(state, model):
         for moved in motions(changed.state, model):
             yield Outcome(changed.probability * moved.probability, moved.state, moved.distance, changed.changes)

@@ -1,4 +1,4 @@
-"""The rings of the study: each model by its definition, and the rule of trlab that has to do the same."""
+"""The rings of the study: each model by its definition, and the rule of trlab that has to agree with it."""
 from __future__ import annotations
 
 from fractions import Fraction
@@ -18,7 +18,7 @@ CAREFUL_CHANGE = Own((HERE / "careful.rule").read_text(), (HERE / "careful_chang
 
 
 class Ring(NamedTuple):
-    """A small ring: its model and rule, and so many cars on so many cells."""
+    """A small ring: its model and rule, and its numbers of cars and cells."""
 
     name: str
     model: Any

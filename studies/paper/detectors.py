@@ -1,4 +1,4 @@
-"""Detectors: flow and occupancy per minute, and the mean speeds of a detector beside the mean speed on the road."""
+"""Detectors: flow and occupancy per minute, and the mean speeds of a detector compared with the mean speed on the road."""
 from pathlib import Path
 
 import matplotlib.pyplot as plt

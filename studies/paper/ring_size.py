@@ -1,4 +1,4 @@
-"""How high is the maximum flow of a long road? Small rings carry more: the peaks of three rings beside the published maximum."""
+"""How high is the maximum flow of a long road? Small rings carry more: the peaks of three rings, and the published maximum."""
 from pathlib import Path
 
 import matplotlib.pyplot as plt

@@ -17,7 +17,7 @@ def make(density, seed, key):
 
 
 def measured(job):
-    """What is measured in the second half of a run: a column for each name."""
+    """The measurements of the second half of a run: a column for each name."""
     snapshots = job.run(first=1000)
     trajectories = snapshots.trajectories()
     jams = [jam for jam in trajectories.jams() if not jam.is_older]

@@ -22,7 +22,7 @@ SHOWN = ["1/30", "1/10", "3/20", "1/6", "1/5", "2/5", "4/5"]  # the densities of
 
 
 def inputs(is_full):
-    """A sweep for each chance: each density, so many times."""
+    """A sweep for each braking probability: each density, REPETITIONS times."""
     length = 10 * LENGTH if is_full else LENGTH
     shape = {"limit": LIMIT, "length": length, "warm": WARM, "measure": MEASURE, "densities": REPETITIONS * DENSITIES}
     return {
@@ -50,7 +50,7 @@ def settling():
 
 
 def second_half(job):
-    """What is counted in the second half of a run."""
+    """The counts of the second half of a run."""
     return last_steps(job.steps // 2)(job)
 
 
