@@ -1,4 +1,4 @@
--- Every text is a program or has a first fault, and this fault is never that memory ran out.
+-- Every text is a program or has a first fault, and this fault is never a failed allocation.
 use Rattle.std.proofs.Common.{◌≡◌, ◌≢◌, ℕ, suc, ◌+◌, ◌-◌, ◌<◌, ◌≤◌, Bool, true, false, ◌&&◌, ◌==◌, if◌then◌else◌, nat_le, nat_lt, List, [], ◌∷◌, length, All, Option, Some, None, Result, Ok, Err, MatchResult, refl, arith, length-append, leb-true, ltb-true, codes}
 use Rattle.std.specs.Prelude.{ok_or}
 use Rattle.std.specs.Str.Parse.{digits_value}
@@ -25,7 +25,7 @@ use Rattle.trlab_asm.specs.declared.fault.Why.{Why}
 use Rattle.trlab_asm.specs.declared.fault.Why.TheVariants.{Memory, Number, Operand, TooLong, Word}
 use Rattle.trlab_asm.specs.declared.fault.AsmFault.{AsmFault}
 
--- a result has a property, or is a fault other than that memory ran out
+-- a result has a property, or is a fault other than a failed allocation
 abbrev Gives : {A : Type 0} → (A → Type 0) → Result A Why → Type 0
 Gives P (Ok x) = P x
 Gives P (Err why) = why ≢ Memory

@@ -114,7 +114,7 @@ lane_more lane roads first done road old now new is here cars distance stopped a
         let same : of x.cars x.distance x.stopped ≡ of y.cars y.distance y.stopped = cc (p, q, r) in
         same
 
--- so many windows are complete
+-- this number of windows is complete
 pub whole_windows : (every from steps : ℕ) → 1 ≤ every → (k : ℕ) → (k < (steps - from) / every) ↔ (from + (k + 1) * every ≤ steps)
 whole_windows every from steps some k = (ends, fits)
   where

@@ -105,7 +105,7 @@ same_rank bytes fault.Trailing fault.Trailing e f g = refl
 same_rank bytes fault.Memory fault.Memory e f g = refl
 same_rank _ _ _ e _ _ = absurd (omega arith)
 
--- two first faults are equal, or memory runs out
+-- two first faults are equal, or an allocation failed
 pub one_fault : (bytes : List ℕ) (f g : CodeFault) → IsFirstCodeFault bytes f → IsFirstCodeFault bytes g → f ≢ fault.Memory → g ≢ fault.Memory → f ≡ g
 one_fault bytes f g first second p q =
     elim (cases_order (rank f) (rank g)) [
@@ -116,7 +116,7 @@ one_fault bytes f g first second p q =
       ]
     ]
 
--- whether a fault is that memory runs out
+-- whether a fault is a failed allocation
 pub cases_memory : (f : CodeFault) → (f ≡ fault.Memory) ⊎ (f ≢ fault.Memory)
 cases_memory fault.Memory = inl refl
 cases_memory _ = inr (λ e. cc)

@@ -148,7 +148,7 @@ spells_or_not version row =
       | inr other ↦ inr (λ h. let e = same h.0 h.1.0 in let f : row ≡ instr_bytes i = rw e h.1.0 in let t = (bytes_eq-Decides row (instr_bytes i)).1 f in cc)
     ]
 
--- some fault of the bytes is the first one, and it is not that memory ran out
+-- some fault of the bytes is the first one, and it is not a failed allocation
 abbrev Faulty : List ℕ → Type 0
 Faulty bytes = (f : CodeFault) × (IsFirstCodeFault bytes f × (f ≢ fault.Memory))
 
