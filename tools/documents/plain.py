@@ -15,7 +15,7 @@ LITERAL = re.compile(r'"((?:[^"\\]|\\.)*)"', re.S)
 MESSAGE = re.compile(r'\b(?:say|fail|echo) "([^"]*)"')
 DOCUMENTED = ast.Module, ast.ClassDef, ast.FunctionDef
 GUIDES = "README TUTORIAL CHEATSHEET FAQ PROGRAMS PYTHON STUDIES LAWS LAWS_BY_EXAMPLE LAB ERRORS SPEED".split()
-FOLDERS = "examples studies studies/1992 studies/1996 studies/1998 studies/exact studies/paper studies/triangle".split()
+FOLDERS = "cases examples node studies studies/1992 studies/1996 studies/1998 studies/exact studies/paper studies/triangle".split()
 PAGES = ["README.md", *(f"docs/{name}.md" for name in GUIDES), *(f"{name}/README.md" for name in FOLDERS)]
 # Blocks, code, links, and headings, which may be questions.
 NO_PROSE = re.compile(r"^```.*?^```$|`[^`]*`|\]\([^)]*\)|^#[^\n]*$", re.M | re.S)

@@ -1,28 +1,35 @@
-"""Are the sources in plain English, and does each name mean one thing? Comments of src/ and specs/ may use few of the
-words that often replace a noun or a condition, and none of the phrases in DIALECT. A type of the crates has a name that
-no other type has, and so has a definition of specs/, but for the names in TWICE."""
+"""Are the sources in plain English, and does each name mean one thing? The prose of sources, scripts, tests and proofs (see
+remarks.py) may use few of the words that often replace a noun or a condition, and none of the words in DIALECT. A type of
+the crates has a name that no other type has, and so has a definition of specs/, except for the names in TWICE."""
 import collections
+import contextlib
 import os
 import re
 
 from finder import TOP
 from plain import STAND_INS, content, files_below
+from remarks import remarks
+from standing import known_files
 
-COMMENT = re.compile(r"^\s*(?:///?|//!|--) ?(.*)$", re.M)
 CODE = re.compile(r"`[^`]*`")
 EXAMPLE = re.compile(r"^ *//[/!] ```(?:text)?\n(.*?)^ *//[/!] ```$", re.M | re.S)
 DOC_MARK = re.compile(r"^ *//[/!]", re.M)
 REMARK = re.compile(r"//.*$", re.M)
+# Each of these words hides a noun, a verb or a condition.
 DIALECT = re.compile(
-    r"\b(?:so many|so much|go(?:es)? by|tells?|hand(?:s|ed)? (?:on|back)|whoever|in vain|by the clock|anew|mends?|"
-    r"memory (?:ran|runs) out|where an? \w+ (?:fails|was refused)|in place of)\b",
+    r"\b(?:so many|so much|go(?:es)? by|tells?|told|stands?|alone|hand(?:s|ed)? (?:on|back)|whoever|in vain|by the clock|anew|"
+    r"mends?|where an? \w+ (?:fails|was refused)|in place of)\b",
     re.I,
 )
+# In the crates this is called a failed allocation.
+OUT_OF_MEMORY = re.compile(r"\bmemory (?:ran|runs) out\b", re.I)
 TYPE = re.compile(r"^\s*(?:pub(?:\([a-z]+\))? )?(?:struct|enum|trait) (\w+)", re.M)
 DEFINITION = re.compile(r"^(?:(?:abbrev|unfoldable|opaque) )*pub (?:record |data )?(\w+)(?= |$)", re.M)
 NO_DEFINITION = {"mod", "use", "record", "data"}
-# Stand-ins per 1000 words of comments; pages may have MAX_STAND_INS.
-MAX_IN_COMMENTS = 10
+# Stand-ins per 1000 words of prose in sources; pages may have MAX_STAND_INS.
+MAX_IN_SOURCES = 2
+# The prose of these is not read yet.
+LATER = {"test", "tools"}
 # Names that still mean two things. Rename one and take it out; add none.
 TWICE = {"Rejection"}
 
@@ -36,16 +43,40 @@ def sources(folder, ending):
     return [path for path in files_below("crates", ending) if f"{os.sep}{folder}{os.sep}" in path and "/out/" not in path]
 
 
-def comments_are_plain():
-    words = collections.defaultdict(list)
-    for path in [*sources("src", ".rt"), *sources("specs", ".antt")]:
-        words[crate_of(path)].append(CODE.sub(" ", " ".join(COMMENT.findall(content(path)))))
-    for crate, texts in sorted(words.items()):
-        text = " ".join(texts)
-        share = 1000 * len(STAND_INS.findall(text)) / max(1, len(text.split()))
-        yield share <= MAX_IN_COMMENTS, f"comments of {crate}: {share:.1f} of 1000 words are what, alone, told, stand or where"
-        old = collections.Counter(found.lower() for found in DIALECT.findall(text))
-        yield not old, f"comments of {crate} have {dict(old)}"
+def area_of(name):
+    """The crate of a file; otherwise its folder at the top, or the one below python/."""
+    first, *rest = name.split("/")
+    if first == "crates" and rest:
+        return rest[0]
+    return f"python/{rest[0]}" if first == "python" and len(rest) > 1 else first
+
+
+def prose_by_area():
+    """The prose of each area: places and words."""
+    found = collections.defaultdict(list)
+    for name in known_files():
+        with contextlib.suppress(UnicodeDecodeError):
+            for line, words in remarks(name, content(name)):
+                found[area_of(name)].append((f"{name}:{line}", CODE.sub(" ", words)))
+    return found
+
+
+def places(pattern, prose):
+    """The first places with these words, for a message."""
+    found = [f"{words[0]} ({place})" for place, text in prose if (words := pattern.search(text))]
+    return ", ".join(found[:3])
+
+
+def prose_is_plain():
+    for area, prose in sorted(prose_by_area().items()):
+        if area not in LATER:
+            text = "\n".join(words for _, words in prose)
+            share = 1000 * len(STAND_INS.findall(text)) / max(1, len(text.split()))
+            is_plain = share <= MAX_IN_SOURCES
+            yield is_plain, f"{area}: {share:.1f} of 1000 words are like {'' if is_plain else places(STAND_INS, prose)}"
+            for pattern in (DIALECT, OUT_OF_MEMORY) if area.startswith("trlab_") else (DIALECT,):
+                is_free = not pattern.search(text)
+                yield is_free, f"{area} has words like {'' if is_free else places(pattern, prose)}"
 
 
 def names_are_of_one_thing():
@@ -87,6 +118,6 @@ def examples_are_compiled():
 
 
 def verdicts():
-    yield from comments_are_plain()
+    yield from prose_is_plain()
     yield from examples_are_compiled()
     yield from names_are_of_one_thing()

@@ -152,7 +152,7 @@ def _check_levels(rows: Rows) -> None:
         return
     if not rows.levels:
         raise FrameError(
-            f"the result has {len(rows.content)} rows that cannot be told apart: return a frame with a named index, for example "
+            f"the result has {len(rows.content)} rows that nothing distinguishes: return a frame with a named index, for example "
             '`frame.rename_axis("passing")`'
         )
     if len(set(zip(*(_values(rows, name) for name in rows.levels)))) < len(rows.content):

@@ -1,0 +1,69 @@
+"""The prose of a source: comments, docstrings, titles of cases, names of tests and of wrong bodies, and messages."""
+import ast
+import io
+import os
+import re
+import tokenize
+
+HASH = re.compile(r"^\s*#(?!!) ?(.*)$", re.M)
+SLASHES = re.compile(r"^\s*(?://[/!]?|/\*+|\*(?= |$)) ?(.*)$", re.M)
+COMMENTS = {
+    ".antt": re.compile(r"^\s*-- ?(.*)$", re.M),
+    # With the titles of cases.
+    ".cases": re.compile(r"^(?:#|==) ?(.*)$", re.M),
+    **dict.fromkeys((".awk", ".sh", ".toml"), HASH),
+    **dict.fromkeys((".c", ".js", ".mjs", ".rs", ".rt", ".ts"), SLASHES),
+}
+NAMES = {".edit": re.compile(r"^# (\w+)$", re.M), ".rt": re.compile(r"#\[test\]\s*(?:pub )?fn (\w+)")}
+LITERAL = re.compile(r"""(["`])((?:(?!\1)[^\\\n]|\\.)*)\1""")
+HAS_MESSAGES = {".js", ".mjs", ".sh"}
+# A string is a message if it has four words in a row.
+MESSAGE = re.compile(r"[A-Za-z]\w+(?:,? [a-z]+){3}")
+# Scripts without an ending name their language in the first line.
+FIRST_LINE = re.compile(r"#!.*\b(python3|bash|sh|node)\b")
+ENDINGS = {"python3": ".py", "bash": ".sh", "sh": ".sh", "node": ".mjs"}
+
+
+def kind_of(name, text):
+    """The ending of the files in the language of this one."""
+    ending, script = os.path.splitext(name)[1], FIRST_LINE.match(text)
+    return ENDINGS[script[1]] if script and not ending else ending
+
+
+def found_by(pattern, text):
+    """The line and the last group of each match."""
+    for found in pattern.finditer(text):
+        yield text.count("\n", 0, found.start(found.lastindex)) + 1, found[found.lastindex]
+
+
+def is_text(node):
+    return isinstance(node, ast.Constant) and isinstance(node.value, str)
+
+
+def of_python(text):
+    tree = ast.parse(text)
+    documents = {node.value for node in ast.walk(tree) if isinstance(node, ast.Expr) and is_text(node.value)}
+    for node in ast.walk(tree):
+        if node in documents or is_text(node) and "\n" not in node.value and MESSAGE.search(node.value):
+            yield node.lineno, node.value
+        if isinstance(node, ast.FunctionDef) and node.name.startswith("test_"):
+            yield node.lineno, node.name.replace("_", " ")
+    for token in tokenize.generate_tokens(io.StringIO(text).readline):
+        if token.type == tokenize.COMMENT and not token.string.startswith("#!"):
+            yield token.start[0], token.string
+
+
+def remarks(name, text):
+    """The line and the words of each piece of prose; none in a file of another kind."""
+    kind = kind_of(name, text)
+    if kind == ".py":
+        yield from of_python(text)
+    if kind in COMMENTS:
+        yield from found_by(COMMENTS[kind], text)
+    if kind in NAMES:
+        yield from ((line, found.replace("_", " ")) for line, found in found_by(NAMES[kind], text))
+    if kind in HAS_MESSAGES:
+        yield from ((line, found) for line, found in found_by(LITERAL, text) if MESSAGE.search(found))
+    # The file of a wrong body has its name.
+    if kind == ".edit" and os.path.basename(os.path.dirname(name)) == "must-fail":
+        yield 1, os.path.basename(name).removesuffix(kind).replace("_", " ")
