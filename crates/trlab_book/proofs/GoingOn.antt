@@ -252,7 +252,7 @@ module _ {L : Type 0} {ledger : Ghosts L} where
       record { on = both.on; stage = both.stage; no_job = omega arith; full = end.full }
   ended_after s t u count (Err fault) a b c go end = record { on = goes_on a b c go.on end.on; stage = tt; no_job = tt; full = end.full }
 
-  -- a runner that goes on has not ended with a fault
+  -- a runner that continues has not ended with a fault
   pub ended_none : (s t : Stage) (a b : Desk L ledger) → Goes s t a b → EndsAt s t 0 (Ok tt) a b
   ended_none s t a b go = let rises = none_rises a b go.on in record { on = go.on; stage = go.stage; no_job = omega arith; full = λ e. absurd (cc e) }
 

@@ -14,7 +14,7 @@ use Rattle.trlab_strands.specs.declared.knowledge.Noted.{Noted}
 use Rattle.trlab_book.specs.LeasesEnd.{IsEndedIn, LeasesEnd, ends_lease, is_lease_of, is_order_of}
 use Rattle.trlab_book.specs.Turns.{Astray, Free, Has, Stage, Through, Turn, after_giving_back, after_ordering, is_of_turn, last_stage, stage_after, with_lease}
 
--- nothing leads back from calls that are not those of a runner
+-- after a call that no runner makes, no further calls complete the log of a runner
 astray : (events : List (Noted Event)) → last_stage Astray events ≡ Through → ⊥
 astray [] is = cc
 astray (made ∷ events) is = astray events is

@@ -70,7 +70,7 @@ read_says Says text input says (inl same) is = subst (λ (t : List ℕ). TextPar
 read_says Says text input says (inr long) is =
     rw (lt-ltb TEXT_LIMIT (length input) long.1) (rw (lt-ltb TEXT_LIMIT (length text) long.0) at is)
 
--- a property of every text holds for the remaining text, if there is one
+-- a property of every text holds of an optional text
 pub if_told : (P : List ℕ → Type 0) (left : Option (List ℕ)) → ((text : List ℕ) → P text) → IfSome left P
 if_told P None holds = tt
 if_told P (Some text) holds = holds text

@@ -1,4 +1,4 @@
--- One worker drives the roads of each text that is not refused.
+-- One worker drives the roads of each text that is not rejected.
 use Rattle.std.proofs.Common.{◌∙◌, ℕ, Bool, List, ap, false, true≢false, sym, subst, length}
 use Rattle.std.specs.Prelude.{Result, Ok, Err, IfOk}
 use Rattle.trlab_diagram.specs.declared.point.Point.{Point}

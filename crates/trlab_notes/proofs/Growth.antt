@@ -113,7 +113,7 @@ trust_side false false (Implies i) (Between a b) f h e = absurd h
 trust_side false false Nothing t f h e = absurd (cc e)
 trust_side false false (Between a b) t f h e = absurd (cc e)
 
--- a larger maximum on both sides
+-- more knowledge of the side cell, for both values
 pub more_side : (p q p' q' : Bool) (s t : AbstractValue) → (IsTrue p' → IsTrue q') → (IsTrue q → IsTrue q') → IsNoMorePrecise (with_side p s) (with_side q t) →
     IsNoMorePrecise (with_side p' s) (with_side q' t)
 more_side p q p' q' Nothing t f g h = tt

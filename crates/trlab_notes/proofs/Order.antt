@@ -11,7 +11,7 @@ use Rattle.trlab_notes.specs.Notes.{Note, same_variable, with_side, value_with_s
 use Rattle.trlab_notes.specs.Order.{join_values, join, IsNoMorePrecise, IsNoStronger}
 use Rattle.trlab_notes.proofs.Fits.{and_left, and_right}
 
--- if one value has a range, so does the other, and it is wider
+-- if the first value has a range, the second has a range within it
 abbrev pub Wider : AbstractValue → AbstractValue → Type 0
 Wider (Between lo hi) (Between least most) = (lo ≤ least) × (most ≤ hi)
 Wider (Between lo hi) _ = ⊥

@@ -73,7 +73,7 @@ due_within n cars k a r d =
       | inr high ↦ let e = d.past high in omega (arith, e)
     ]
 
--- if the first car from a place on is behind that place, the place is empty
+-- if the first car from a place on is further on, the place is empty
 pub due_none : (n : ℕ) (cars : List LaneCar) (x k a : ℕ) → IsSortedFrom 0 n cars → IsFirstFrom cars x k → IsDue n cars k a → x < a → cell_at cars x ≡ None
 due_none n cars x k a r s d later = sought_none n cars x k r s (λ low e. let h = d.here low in omega (arith, h, e, later))
 

@@ -1,4 +1,4 @@
--- The cars of a sorted list that cross.
+-- The cars of a sorted list that change lanes.
 use Rattle.std.proofs.Common.{◌≡◌, ℕ, ◌+◌, ◌<◌, ◌≤◌, Bool, true, false, cond, Some, None, List, [], ◌∷◌, ◌++◌, length, get_or, refl, sym, ◌∙◌, ap, subst, inl, inr, arith}
 use Rattle.std.proofs.lemmas.Bool.{cases_eq}
 use Rattle.trlab_road.specs.LaneCars.{LaneCar}

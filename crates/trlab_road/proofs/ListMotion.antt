@@ -37,8 +37,7 @@ parted_kth n cars k r h = record {
   after = λ j low within. rises_order 0 n cars k j r (omega arith) within;
 }
 
--- a car's answer within the gap leads to a place before the next car's, and the last car's to one before
--- the first car's
+-- an answer within the gap leads to a place before the next car; the last car's answer, to one before the first car
 module _ (n : ℕ) (cars : List LaneCar) (answer : ℕ → ℕ) (r : IsSortedFrom 0 n cars) (fits : LaneFits answer (cells_of n cars)) where
   pub before_next : (k : ℕ) → k + 1 < length cars → place_of cars k + answer (place_of cars k) < place_of cars (k + 1)
   before_next k h =

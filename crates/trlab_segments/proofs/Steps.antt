@@ -39,7 +39,7 @@ each_later : (plan : Plan) (counter counter' : ℕ) (views : List TicketKnowledg
 each_later plan counter counter' views id w more mine others =
     each_set (IsSoundDrawer plan counter') views id w mine (λ j u _ e. later plan counter counter' u more (others j u e))
 
--- the counter goes on by one, and the number is the drawer's
+-- the counter increases by one, and the number is the drawer's
 takes : (plan : Plan) (counter : ℕ) (views : List TicketKnowledge) (id : ℕ) (v : TicketKnowledge) → get_elem? views id ≡ some v → v.has_ended ≡ false → 0 < v.passes → counter < plan.count
     → AreSoundDrawers plan counter views → AreSoundDrawers plan (counter + 1) (set views id (with_ticket v counter))
 takes plan counter views id v at unended some_pass less r = let w = with_ticket v counter in let mine = r.each id v at in record {

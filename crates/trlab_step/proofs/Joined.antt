@@ -68,7 +68,7 @@ crosses_begin change dice road = (
   record { side_empty = λ k below. absurd (omega (arith, below)) },
 )
 
--- if the cars of two parts cross only to empty cells, so do both together
+-- if the cars of two parts change lanes only to empty cells, so do both together
 free_join : (road : Cells) (from middle : ℕ) (first second : List Bool) → middle ≡ from + length first
     → CrossingsFitPart road from first → CrossingsFitPart road middle second
     → CrossingsFitPart road from (first ++ second)

@@ -32,7 +32,7 @@ some_force (entry ∷ later) step is =
     let begins = is.0 in
     (unwrap_or (in_force later step) entry.1, rw (le-leb entry.0 step (omega arith)) refl)
 
--- a run goes on from its road at a step to the next road under the rule in force
+-- a run continues from its road at a step to the next road under the rule in force
 pub run_goes_on : RunContinues
 run_goes_on seed sheet step road next sum tally rule comes under is =
     (road, sum, rule, tally, comes, record { under = under; next = is; counted = refl })

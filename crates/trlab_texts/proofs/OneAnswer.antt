@@ -96,7 +96,7 @@ with_more : {A : Type 0} (P Q : A → Type 0) (found : Result (A × Rest) Fault)
 with_more P Q (Ok found) more fine = more found.0 fine
 with_more P Q (Err fault) more fine = fine
 
--- the values have a further property
+-- the values have any property that follows from the required one
 pub part_with : {A : Type 0} {P Q : A → Type 0} {Says : Result (A × Rest) Fault → Type 0} → ((x : A) → P x → Q x) → OnePart P Says → OnePart Q Says
 part_with {A} {P} {Q} more part =
     let one = part.one in

@@ -1,5 +1,4 @@
--- Passages of a detector are apart: in v + 1 consecutive steps, where v is v_max, not every step has a
--- passage.
+-- In v_max + 1 consecutive steps, not every step has a passage of a detector.
 use Rattle.std.proofs.Common.{◌≡◌, ℕ, zero, suc, ◌+◌, ◌-◌, ◌<◌, ◌≤◌, true, cond, is_some, Some, None, length, refl, sym, ◌∙◌, ap, subst, inl, inr, arith, Bool}
 use Rattle.std.specs.Prelude.{count_by, nat_le}
 use Rattle.std.proofs.lemmas.Bool.{cases_lt, le-leb, lt-leb}

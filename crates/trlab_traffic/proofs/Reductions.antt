@@ -1,4 +1,4 @@
--- Rules that act alike: slow starts with the same probability as other cars, and lane changes with
+-- Rules that act alike: slow starts with the braking probability of all cars, and lane changes with
 -- probability 0.
 use Rattle.std.proofs.Common.{◌≡◌, ℕ, zero, suc, ◌+◌, ◌<◌, ◌&&◌, Bool, true, false, cond, Option, Some, None, List, [], ◌∷◌, length, get_or, refl, sym, ◌∙◌, ap, subst, arith, if◌then◌else◌}
 use Rattle.std.specs.Prelude.{MatchOption, count_by, nat_eq, nat_lt, slice_index}

@@ -33,7 +33,7 @@ use Rattle.trlab_traffic.specs.Rows.{RowMeasuresFlow, RowsAgree, RunSatisfiesCon
 use Rattle.trlab_traffic.specs.Rule184.{digit, is_taken}
 use Rattle.trlab_verify.specs.CheckedProgram.{CheckedProgram}
 
--- a place has the same number of cars on both lanes, together, after the lane change
+-- together the two cells of a place have as many cars after the lane change as before
 cell_balance : (c d : Bool) (own beside : Cell) → (c ≡ true → is_some own ≡ true → beside ≡ None) → (d ≡ true → is_some beside ≡ true → own ≡ None)
     → digit (is_some (cell_after_change c d own beside)) + digit (is_some (cell_after_change d c beside own)) ≡ digit (is_some own) + digit (is_some beside)
 cell_balance true true None None one other = refl

@@ -24,7 +24,7 @@ use Rattle.trlab_traffic.proofs.Capacities.{speeds_total, may_move}
 use Rattle.trlab_traffic.proofs.NaschMoves.{answered, motion_alone}
 use Rattle.std.specs.Prelude.{slice_index}
 
--- two sums, one of them no greater, and by no more than one each
+-- two values for a car: the first is at most the second, and at most one smaller
 record Below (f g : Car → ℕ) (car : Car) : Type 0 where
   least : f car ≤ g car
   most : g car ≤ f car + 1

@@ -197,7 +197,7 @@ module _ (t q : ℕ) where
   behind_each false (true ∷ ring) = let rest = behind_each true ring in omega (arith, rest)
   behind_each true (true ∷ ring) = let rest = behind_each true ring in omega (arith, rest)
 
-  -- a blocked car is behind the next car, which therefore has a taken cell behind it
+  -- each blocked car is the taken cell behind the next car
   blocked_behind : (first own : Bool) (ring : Ring) → blocked first (own ∷ ring) ≡ taken_behind own ring + bit (last_of own ring && first)
   blocked_behind first own [] = omega arith
   blocked_behind first false (false ∷ ring) = let rest = blocked_behind first false ring in omega (arith, rest)

@@ -124,7 +124,7 @@ total_swap f m (suc n) =
     let rest = total_swap (λ x y. f x (suc y)) m n in
     omega (arith, split, rest)
 
--- the number of numbers below another
+-- how many numbers are below another
 pub total_below : (v n : ℕ) → total (λ z. below z v) n ≡ min v n
 total_below v zero = omega arith
 total_below v (suc n) =

@@ -43,7 +43,7 @@ module _ (V : Variable → Type 0) (closed : Closed V) where
   keeps_here t true None (Some n) h k = absurd h
   keeps_here t true (Some m) None h k = absurd h
 
-  -- a table that checks at the variables V, as far as b
+  -- a table that checks at the variables V, up to b
   pub record Below (kind : Kind) (code : List Instr) (note : ℕ → Note) (b : ℕ) : Type 0 where
     pub first : On V (note 0) (entry kind)
     pub ahead : (pc q : ℕ) → Follows code pc q → (pc < q) × (q < length code)
@@ -174,7 +174,7 @@ module _ (kind : Kind) (program : Program) (note : ℕ → Note) (checks : Check
         | inr jumps ↦ target_ahead (target i) (length code) pc q c.forward c.within jumps
       ]
 
-  -- as far as any b
+  -- up to any b
   pub below : (b : ℕ) → Below All_variables all_closed kind code note b
   below b = record {
     first = on_all _ _ checks.first;

@@ -29,7 +29,7 @@ known_two (Between a b) (Implies i) same k h = omega arith
 known_two Nothing t same k h = omega arith
 known_two (Implies i) t same k h = omega arith
 
--- the greater of two levels, one of which is known
+-- the larger of two levels, one of which is known
 known_max : (s t : AbstractValue) (same : Bool) (j k : ℕ) → level_between s t same j ≤ 2 → k ≤ 2 → level_between s t same (max j k) ≤ 2
 known_max (Between a b) (Between c d) true j k h l = omega arith
 known_max (Between a b) (Between c d) false j k h l = grind arith

@@ -34,7 +34,7 @@ module _ (kind : Kind) (code : List Instr) (q : ℕ) where
         | inr jumps ↦ rw jumps (under_new n (add_note (incoming kind code k q) (next_note_to k s.before s.instr q)))
       ])
 
-  -- and no weaker than a note that is no stronger than any note that was sent
+  -- and no weaker than a note that is no stronger than each note that was sent
   over_edge : (l : Note) (old new : Option Note) → IfSome old (IsNoStronger l) → IfSome new (IsNoStronger l) → IfSome (add_note old new) (IsNoStronger l)
   over_edge l old None h k = h
   over_edge l None (Some n) h k = join_most l n n k k

@@ -11,6 +11,6 @@ invariant-loop-block l = HaveMovedAhead l.speeds l.from l.fn.cars l.cars (MOVED_
 abbrev pub invariant-loop-k : goal.invariant-loop-k
 invariant-loop-k l = HaveMovedAhead l.speeds l.from l.fn.cars l.cars (l.at + l.k)
 
--- and those behind all blocks
+-- and the cars after all blocks
 abbrev pub invariant-loop-index : goal.invariant-loop-index
 invariant-loop-index l = HaveMovedAhead l.speeds l.from l.fn.cars l.cars l.index
