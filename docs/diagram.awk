@@ -67,7 +67,7 @@ function add_point(across, up) {
 function across(x) { return left + (right - left) * x / width }
 function up(y) { return bottom - (bottom - top) * y / height }
 
-# The step between marks for values up to a greatest one: 1, 2 or 5 times a power of ten, 4 to 10 marks.
+# The step between marks for values up to a maximum: 1, 2 or 5 times a power of ten, 4 to 10 marks.
 function mark_step(greatest,  step) {
     for (step = 1000; step * 4 > greatest; step /= 10) { }
     return greatest / step > 20 ? step * 5 : greatest / step > 10 ? step * 2 : step

@@ -30,7 +30,7 @@ def slow_to_start(car, p=0.01, p0=0.5):
 
 @trlab.motion
 def cruise_control(car, p=0.5):
-    """Nagel and Paczuski (1995): nobody brakes at random who drives freely at the limit."""
+    """Nagel and Paczuski (1995): a driver who drives freely at the limit does not brake at random."""
     if car.speed == car.limit and car.gap >= car.limit:
         return car.limit
     v = min(car.speed + 1, car.limit, car.gap)

@@ -33,7 +33,7 @@ class Study(NamedTuple):
     @classmethod
     def by_words(cls, script: str, about: str) -> Study:
         words = argparse.ArgumentParser(description=about.split("\n")[0])
-        words.add_argument("--full", action="store_true", help="the long run, which writes into full/ beside it")
+        words.add_argument("--full", action="store_true", help="the long run, which writes into its folder full/")
         words.add_argument("--draw", action="store_true", help="runs nothing, takes the tables that are there")
         asked = words.parse_args()
         here = Path(script).resolve().parent
@@ -65,7 +65,7 @@ class Study(NamedTuple):
         return self.folder / "outputs.parts"
 
     def write_inputs(self, inputs: Mapping[str, Union[Job, Sweep]]) -> None:
-        """Writes inputs beside the tables, a sweep of several as NAME.sweep, NAME_1.sweep and so on; of jobs that differ
+        """Writes inputs next to the tables, a sweep of several as NAME.sweep, NAME_1.sweep and so on; of jobs that differ
         in their key only those of key 1."""
         place = self.folder / "texts"
         place.mkdir(parents=True, exist_ok=True)

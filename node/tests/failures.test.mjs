@@ -55,7 +55,7 @@ test("each allocation fails in turn", { skip: missing }, () => {
       assert.ok(status === MEMORY || status === 0, `${words}, allocation ${number}: ${status}`);
       if (status === 0) assert.equal(output, right.output);
       else needed.add(number);
-      assert.ok(right.output.startsWith(output), `${words}, allocation ${number}: the output is no prefix`);
+      assert.ok(right.output.startsWith(output), `${words}, allocation ${number}: the output is not a prefix`);
     }
     assert.ok(needed.size > 0);
   }

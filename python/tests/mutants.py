@@ -316,7 +316,7 @@ def first_failure(mutant: "tuple[str, str, str]") -> str:
             del sys.modules[name]
         sys.path.insert(0, folder)
         os.chdir(folder)
-        # A failure is enough: nobody needs the smallest example of it.
+        # A failure is enough, without the smallest example of it.
         hypothesis.settings.register_profile("quick", phases=[hypothesis.Phase.generate])
         hypothesis.settings.load_profile("quick")
         with open(os.devnull, "w") as nowhere:

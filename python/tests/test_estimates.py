@@ -158,7 +158,7 @@ class Peaks(unittest.TestCase):
         found = self.peaks(40, lambda x: 0.318 - (x - 0.09) ** 2, runs=5, noise=0.01)
         self.assertLess(len(found), 2)
 
-    def test_a_peak_beside_a_plateau(self):
+    def test_a_peak_next_to_a_plateau(self):
         def flow(x):
             return 0.318 - (20 * (x - 0.086) ** 2 if x < 0.086 else 0.006 * (1 - math.exp(-((x - 0.086) / 0.015) ** 2)))
 
@@ -315,7 +315,7 @@ class Lifetimes(unittest.TestCase):
         self.assertEqual((found.observed, found.mean), (lives.observed.sum(), lives.time.sum() / lives.observed.sum()))
         self.assertEqual(found.observed + found.censored, 12)
 
-    def test_a_mean_of_censored_times_is_refused(self):
+    def test_a_mean_of_censored_times_is_rejected(self):
         lives = runs_of([{"seed": 0, "time": 3, "observed": True}, {"seed": 1, "time": 5, "observed": False}], ["seed"])
         self.assertRaisesRegex(FrameError, "trlab.lifetime", trlab.means, lives, "seed")
         self.assertEqual(trlab.means(lives.assign(observed=True), "seed").time[0], 4)

@@ -70,7 +70,7 @@ class Arrays(Folder):
         wanted = "wrong.job has no result, trlab ended with status 1: fault line 5 cause 4\n"
         self.assertEqual((self.task(script, 1), self.results()), ((1, wanted), ["good.csv"]))
 
-    def test_an_output_that_is_cut_off_is_no_result(self):
+    def test_an_output_that_is_cut_off_is_not_a_result(self):
         cuts = Path(self.place) / "cuts"
         ending = f'[ "$1" = --version ] || exit $(cat "{self.place}/status")'
         cuts.write_text(f'#!/bin/sh\n"{find_program()}" "$@" | head -c 60\n{ending}\n')

@@ -334,7 +334,7 @@ class Strangers(unittest.TestCase):
         road = {"jam": "0" * 8 + "." * 92, "free": ("5" + "." * 9) * 8 + "." * 20}[start]
         return Job(limit=5, rule=Nasch(0.25), start=road, steps=40, key=key)
 
-    def test_roads_with_different_cells_are_no_repetitions(self):
+    def test_roads_with_different_cells_are_not_repetitions(self):
         frame = Grid(self.roads, start=["jam", "free"], seed=range(3)).run(call=lambda job: job.series(every=40))
         runs = trlab.per_run(frame)
         self.assertEqual(list(trlab.means(runs, over="seed").n), [3, 3])

@@ -258,7 +258,7 @@ class Clusters(unittest.TestCase):
         self.assertRaisesRegex(FrameError, "there is no result at .* and 1 more", trlab.means, frame, "seed")
         self.assertRaisesRegex(ParameterError, "'p_9' is not an input", grid.frame, {"p_9": late})
 
-    def test_a_grid_that_was_stopped_goes_on(self):
+    def test_a_grid_that_was_stopped_continues(self):
         with tempfile.TemporaryDirectory() as folder:
             for _ in Grid(job, **JOBS).results(call=last, cache=folder):
                 break

@@ -171,7 +171,7 @@ class Studies(unittest.TestCase):
         points = [point for job in jobs.values() for point in random_starts.last_steps(20)(job)]
         self.assertEqual(points, list(replace(sweep, start=random_cells(5)).sweep()))
 
-    def test_a_table_of_other_inputs_is_refused(self):
+    def test_a_table_of_other_inputs_is_rejected(self):
         module = script("1992")
         tables = shared.read_tables(STUDIES / "1992" / "table.csv", Point)
         denser = {name: replace(sweep, densities=[0.5] * 5) for name, sweep in module.inputs(False).items()}

@@ -46,14 +46,14 @@ def turned_cells(snapshots):
 
 
 def stopped_neighbours(snapshots, step, lane, cell):
-    """The stopped cars beside a stopped one, ahead and behind, and the same car one step later if it is stopped."""
+    """The stopped cars next to a stopped one, ahead and behind, and the same car one step later if it is stopped."""
     length, lanes = len(snapshots[0].lanes[0]), len(snapshots[0].lanes)
     yield step, lane, (cell + 1) % length
     yield step, lane, (cell - 1) % length
     if step + 1 < len(snapshots):
         yield step + 1, lane, cell
         side = lanes - 1 - lane
-        # The car changed lanes if a car is beside its cell now, and was not before.
+        # The car changed lanes if there is a car in its side cell now, and was none before.
         if snapshots[step].lanes[side][cell] == "." and snapshots[step + 1].lanes[side][cell] == "0":
             yield step + 1, side, cell
 
@@ -141,7 +141,7 @@ class Paths(unittest.TestCase):
                     driven = [now - then for now, then in zip(paths.distance[row], paths.distance[row - 1])]
                     self.assertEqual(driven, list(paths.speed[row]))
 
-    def test_nobody_overtakes_on_one_lane(self):
+    def test_no_car_overtakes_on_one_lane(self):
         for job in ONE_LANE[:3]:
             snapshots = job.run()
             paths = snapshots.trajectories()
@@ -260,7 +260,7 @@ class Paths(unittest.TestCase):
             ]
             self.assertAlmostEqual(paths.speed_correlation(places, later), moments[0] / math.sqrt(moments[1] * moments[2]))
         self.assertEqual(paths.speed_correlation(), 1)
-        # The speeds of the initial state are no result.
+        # The speeds of the initial state are not a result.
         other = Snapshots([Snapshot(0, (ONE_LANE[0].run()[0].lanes[0].replace("0", "5"),)), *ONE_LANE[0].run()[1:]])
         self.assertEqual(other.trajectories().speed_correlation(1, 1), paths.speed_correlation(1, 1))
         self.assertTrue(math.isnan(ONE_LANE[0].run()[:1].trajectories().speed_correlation()))

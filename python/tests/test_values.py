@@ -112,7 +112,7 @@ class Construction(unittest.TestCase):
             self.rejects(TypeError, "cars must be a list with a number for each point", Sweep, **{**sweep, "cars": values})
             self.rejects(TypeError, "densities must be a list", Sweep, **{**sweep, "cars": None, "densities": values})
 
-    def test_the_greatest_numbers_are_those_of_the_program(self):
+    def test_the_largest_numbers_are_those_of_the_program(self):
         words = ["limit 35", "length 100000", "lanes 1", "rule nasch 0", "warm 0", "measure 1", "cars 100000"]
         self.assertTrue(ask(["sweep"], "\n".join(["sweep 1", "key " + 64 * "0", *words])))
         for word in "limit 36", "length 100001", "measure 500001", "cars 100001":

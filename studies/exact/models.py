@@ -26,7 +26,7 @@ class Side(NamedTuple):
     speed: int
     gap: int
     leader: int
-    gap_other: int  # empty cells on the other lane up to the next car ahead, without the cell beside the car
+    gap_other: int  # empty cells on the other lane up to the next car ahead, without the side cell
     gap_back: int  # the same down to the next car behind
     lane: int
 

@@ -15,7 +15,7 @@ def make(density, seed, key):
 
 
 def hour(job):
-    """One row of a detector for the whole measurement, with the mean speed on the road beside it."""
+    """One row of a detector for the whole measurement, together with the mean speed on the road."""
     detector, road = job.detectors(cells=[500], every=2400, first=1000).iloc[0], job.series(every=2400, first=1000)[0]
     return {
         "occupancy": detector.occupancy, "flow_by_harmonic": detector.flow / detector.harmonic_mean_speed,

@@ -28,7 +28,7 @@ DERIVED = ["density", "flow", "speed", "stopped_share", "change_rate"]
 
 RANGES = {"density": 1, "requested_density": 1, "flow": 1, "speed": 35, "stopped_share": 1, "change_rate": 1, "occupancy": 1,
           "time_mean_speed": 35, "harmonic_mean_speed": 35}
-"""The greatest value that a column of this name can have in the units of trlab. The least is 0."""
+"""The largest value that a column of this name can have in the units of trlab. The smallest is 0."""
 
 PER_CAR = ["speed", "stopped_share", "change_rate"]
 """The values per car, which are NaN without cars."""

@@ -24,7 +24,7 @@ class OnRoad:
 
     def ahead(self, places: int = 1) -> Array:
         """The number of the car `places` places ahead on the same lane, which is a ring: of n cars, n places ahead is the car
-        itself. On one lane nobody overtakes, so it is the same in all steps."""
+        itself. On one lane no car overtakes, so it is the same in all steps."""
         whole("places", places, 0)
         lane, cell = self.lane.astype(numpy.int64), self.cell.astype(numpy.int64)
         cars = cell.shape[-1]
@@ -77,7 +77,7 @@ def follow(snapshots: Iterable[Snapshot]) -> Iterator[Cars]:
     """Iterate over the cars in consecutive snapshots of one run, and keep only one step, for runs of any length:
 
         cars = trlab.follow(job.snapshots(first=1000))
-        next(cars)  # nobody has driven yet
+        next(cars)  # no car has driven yet
         distance = sum(now.speed.sum() for now in cars)
 
     A car at speed v came from the cell v behind it, of its own lane or of the other one. If both cells were occupied, it came

@@ -8,7 +8,7 @@ from typing import NamedTuple, NoReturn, Optional, Union
 from .._errors import RuleError
 
 GREATEST = 2**32 - 1
-"""The greatest number of a register."""
+"""The largest number of a register."""
 
 ENDS = ("jump", "go", "cross", "stay")
 """Instructions that never continue with the next one."""

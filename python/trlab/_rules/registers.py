@@ -81,8 +81,8 @@ def _living(items: Sequence[Item]) -> list[set[Register]]:
 
 
 def _without_unread(items: Sequence[Item]) -> list[Item]:
-    """The items without instructions whose result nobody reads. A difference stays, because the translation assumed that it is not
-    negative, perhaps in order to leave it out, and the verifier has to confirm this."""
+    """The items without instructions whose result is not read. A difference stays, because the translation assumed that it is not
+    negative, possibly in order to leave it out, and the verifier has to confirm this."""
     while True:
         pairs = zip(items, _living(items))
         kept = [it for it, after in pairs if isinstance(it, Label) or it.to in {None, *after} or it.difference is not None]

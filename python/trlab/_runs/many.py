@@ -24,7 +24,7 @@ Input = TypeVar("Input")
 Name = TypeVar("Name")
 Result = TypeVar("Result")
 
-# The processes of the runs that go on in this process, by the path of their lease.
+# The processes of the runs that continue in this process, by the path of their lease.
 _RUNS: dict[str, Processes] = {}
 after_fork(_RUNS.clear)
 

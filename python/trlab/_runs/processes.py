@@ -166,7 +166,7 @@ def run(request: Request) -> Generator[bytes, None, int]:
                 process.stdout.close()
                 status = exit_status(process)
             except BaseException:
-                # Also if the caller is interrupted or wants no more: the program does not go on without a reader.
+                # Also if the caller is interrupted or wants no more: the program does not continue without a reader.
                 process.kill()
                 raise
             finally:

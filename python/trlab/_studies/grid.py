@@ -148,7 +148,7 @@ class Grid:
 
         if options.get("call") is None and any(isinstance(input, Job) for input in self.inputs.values()):
             raise ParameterError(f"say what to measure in each job, for example {MEASURE}")
-        # A frame is checked result by result. If one is wrong, the others must not go on.
+        # A frame is checked result by result. If one is wrong, the others must not continue.
         with closing(cast(Any, self.results(**options))) as found:
             frame = tidy(found, self.names, self._runs, options.get("errors") == "keep")
         frame.attrs["trlab"] = self._versions()
