@@ -13,11 +13,11 @@ use Rattle.trlab_jobs.specs.Shapes.{all_steps}
 use Rattle.trlab_jobs.specs.Stored.{IsStoredSweep, CanSpreadOn}
 use Rattle.trlab_jobs.specs.Sweep.{Setup, Sweep, ParsesAsSweep}
 use Rattle.trlab_jobs.proofs.OneSweep.{one_thing, says_stored}
-use Rattle.trlab_traffic.specs.Triangle.{all_cells as cells_of_road, max_distance, empty_cells, lane_cells}
-use Rattle.trlab_traffic.proofs.Capacities.{run_stays_under_triangle}
-use Rattle.trlab_traffic.proofs.EvenFlows.{even_cars_flow_on_triangle}
-use Rattle.trlab_traffic.proofs.Moving.{run_goes_by_moving_cars, run_keeps_below_peak}
+use Rattle.trlab_traffic.specs.Terms.{all_cells as cells_of_road, max_distance, empty_cells, lane_cells}
 use Rattle.trlab_traffic.proofs.RoomAhead.{taken_or_empty}
+use Rattle.trlab_traffic.proofs.Capacities.{run_stays_under_triangle}
+use Rattle.trlab_traffic.proofs.Moving.{run_goes_by_moving_cars, run_keeps_below_peak}
+use Rattle.trlab_traffic.proofs.EvenCars.{even_cars_flow_on_triangle}
 use Rattle.trlab_campaign.specs.Triangle.{DiagramIsTriangle, IsAtMostPeak, IsOnTriangle, IsUnderTriangle, AsksForTriangle}
 use Rattle.trlab_campaign.specs.Triangle.{HasBoundedMovingSpeed, SweepsBoundMovingSpeed, SweepsDoNotExceedPeak, SweepsStayUnderTriangle}
 use Rattle.trlab_campaign.specs.SweepOutput.{ArePoints, IsPoint, point_seed, sweep_sheet}

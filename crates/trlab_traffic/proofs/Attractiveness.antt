@@ -22,19 +22,16 @@ use Rattle.trlab_step.specs.Laws.{IsLegalLike}
 use Rattle.trlab_step.specs.Next.{IsNext}
 use Rattle.trlab_step.specs.Run.{IsRoadAt, dice_at}
 use Rattle.trlab_step.proofs.RunLaws.{road_at_is_one}
-use Rattle.trlab_traffic.specs.Attractiveness.{IsFurther, IsOrdered, LeadsFollowSpeeds, RunKeepsOrder, StepKeepsOrder, seed_from}
-use Rattle.trlab_traffic.specs.Overtaking.{IsNextOf}
-use Rattle.trlab_traffic.specs.Runs.{always}
-use Rattle.trlab_traffic.proofs.AnyRule.{answers_fit, next_legal_like}
-use Rattle.trlab_traffic.proofs.Courses.{gap_of, moved, moved_gap, moved_stands}
-use Rattle.trlab_traffic.proofs.Fastest.{brakes_more}
-use Rattle.trlab_traffic.proofs.Freely.{one_rule}
-use Rattle.trlab_traffic.proofs.Going.{one_speed, run_like}
-use Rattle.trlab_traffic.proofs.NaschMoves.{answered, motion_alone}
-use Rattle.trlab_traffic.proofs.NextCars.{each_car_has_next, next_car_is_one, step_keeps_next_car}
-use Rattle.trlab_traffic.proofs.Numbering.{choose}
-use Rattle.trlab_traffic.proofs.Places.{ahead_more}
+use Rattle.trlab_traffic.specs.Terms.{seed_from, always}
+use Rattle.trlab_traffic.specs.Following.{IsNextOf}
+use Rattle.trlab_traffic.specs.Comparison.{IsFurther, IsOrdered, LeadsFollowSpeeds, RunKeepsOrder, StepKeepsOrder}
+use Rattle.trlab_traffic.proofs.Lanes.{ahead_more}
+use Rattle.trlab_traffic.proofs.Steps.{answers_fit, next_legal_like, answered, motion_alone}
+use Rattle.trlab_traffic.proofs.FreeFlow.{one_rule}
 use Rattle.trlab_traffic.proofs.Slower.{more_happens}
+use Rattle.trlab_traffic.proofs.Gaps.{each_car_has_next, next_car_is_one, step_keeps_next_car}
+use Rattle.trlab_traffic.proofs.Courses.{gap_of, moved, moved_gap, moved_stands, one_speed, run_like, choose}
+use Rattle.trlab_traffic.proofs.Fastest.{brakes_more}
 
 -- a car has only one lane and place
 same_place : (f : ℕ → ℕ → ℕ) (road : Cells) (car other : Car) → IsLegal road → IsAt road car → IsAt road other → car.number ≡ other.number → f car.lane car.place ≡ f other.lane other.place

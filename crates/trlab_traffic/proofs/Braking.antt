@@ -26,18 +26,15 @@ use Rattle.trlab_step.specs.Laws.{IsLegalLike}
 use Rattle.trlab_step.specs.Published.{happens_to}
 use Rattle.trlab_step.specs.Run.{ComesTo, IsRoadAt, Seed, Sheet, dice_at}
 use Rattle.trlab_step.proofs.RunLaws.{road_at_is_one}
-use Rattle.trlab_traffic.specs.Braking.{AddsUpTo, BrakingCosts, BrakingCostsRuns, BrakingCostsRunsWithLaneChanges, BrakingCostsRunsWithSlowStarts, BrakingCostsSteps, BrakingCostsStepsWithLaneChanges, EachRunHasBraked, HasBraked, braking_cars, braking_cars_with_gap}
-use Rattle.trlab_traffic.specs.Runs.{StaysInLane, always}
-use Rattle.trlab_traffic.specs.Triangle.{all_cells, empty_cells}
-use Rattle.trlab_traffic.proofs.AnyRule.{answers_fit, middle_like}
-use Rattle.trlab_traffic.proofs.Capacities.{distance_counted, distance_uncounted, middle_cells, next_cells, same_empty, speeds_total}
-use Rattle.trlab_traffic.proofs.DetectingRuns.{counted_so, uncounted_so}
-use Rattle.trlab_traffic.proofs.Freely.{one_rule}
-use Rattle.trlab_traffic.proofs.Going.{run_like}
-use Rattle.trlab_traffic.proofs.NaschMoves.{answered, motion_alone}
-use Rattle.trlab_traffic.proofs.Numbering.{sum_of_standing}
+use Rattle.trlab_traffic.specs.Terms.{StaysInLane, always, all_cells, empty_cells}
+use Rattle.trlab_traffic.specs.Bounds.{AddsUpTo, BrakingCosts, BrakingCostsRuns, BrakingCostsRunsWithLaneChanges, BrakingCostsRunsWithSlowStarts, BrakingCostsSteps, BrakingCostsStepsWithLaneChanges, EachRunHasBraked, HasBraked, braking_cars, braking_cars_with_gap}
+use Rattle.trlab_traffic.proofs.Lanes.{below_not, below_so, total}
+use Rattle.trlab_traffic.proofs.Steps.{answers_fit, middle_like, answered, motion_alone}
 use Rattle.trlab_traffic.proofs.RoomAhead.{lanes_room}
-use Rattle.trlab_traffic.proofs.Sums.{below_not, below_so, total}
+use Rattle.trlab_traffic.proofs.Capacities.{distance_counted, distance_uncounted, middle_cells, next_cells, same_empty, speeds_total}
+use Rattle.trlab_traffic.proofs.FreeFlow.{one_rule}
+use Rattle.trlab_traffic.proofs.Courses.{run_like, sum_of_standing}
+use Rattle.trlab_traffic.proofs.DetectingRuns.{counted_so, uncounted_so}
 
 -- a sum of sums
 sum_two : (f g : Car → ℕ) (xs : List Car) → sum_by (λ (c : Car). f c + g c) xs ≡ sum_by f xs + sum_by g xs

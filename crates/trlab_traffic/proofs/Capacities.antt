@@ -24,8 +24,9 @@ use Rattle.trlab_step.specs.Next.{IsLaneChangePhase, IsNext, total_speed}
 use Rattle.trlab_step.specs.Run.{ComesTo, Seed, Sheet, dice_at, tally_sum}
 use Rattle.trlab_step.proofs.NextLaws.{like_itself, like_next}
 use Rattle.trlab_step.proofs.SumsOverCars.{total_speed-moved}
-use Rattle.trlab_traffic.specs.Triangle.{IsDistanceUnderTriangle, RunStaysUnderTriangle, StepStaysUnderTriangle, all_cells, empty_cells, lane_cells}
-use Rattle.trlab_traffic.proofs.AnyRule.{answers_fit, middle_like, next_legal_like}
+use Rattle.trlab_traffic.specs.Terms.{all_cells, empty_cells, lane_cells}
+use Rattle.trlab_traffic.specs.Bounds.{IsDistanceUnderTriangle, RunStaysUnderTriangle, StepStaysUnderTriangle}
+use Rattle.trlab_traffic.proofs.Steps.{answers_fit, middle_like, next_legal_like}
 use Rattle.trlab_traffic.proofs.RoomAhead.{lanes_room, taken_or_empty}
 
 -- the value of a function for the k-th car

@@ -3,14 +3,14 @@
 use Rattle.std.proofs.Common.{◌≡◌, ℕ, ◌+◌, ◌<◌, ◌≤◌, Bool, true, false, length, refl, sym, ap, subst, arith}
 use Rattle.trlab_road.specs.Cells.{Lane, lane_car_count, lane_of}
 use Rattle.trlab_road.specs.Gaps.{ahead}
-use Rattle.trlab_traffic.specs.Classification.{Rule184ClassifiesDensity}
-use Rattle.trlab_traffic.specs.Rule184.{digit, is_taken}
-use Rattle.trlab_traffic.proofs.Digits.{digit_at}
-use Rattle.trlab_traffic.proofs.Heights.{window, window_last}
-use Rattle.trlab_traffic.proofs.Places.{ahead_none}
-use Rattle.trlab_traffic.proofs.Readiness.{Leaping, Suffices, lane_at_once, near_few, near_some}
-use Rattle.trlab_traffic.proofs.Regimes.{slow_moves_by}
+use Rattle.trlab_traffic.specs.Terms.{is_taken}
+use Rattle.trlab_traffic.specs.LimitOne.{Rule184ClassifiesDensity, digit}
+use Rattle.trlab_traffic.proofs.Lanes.{ahead_none}
 use Rattle.trlab_traffic.proofs.RoomAhead.{lane_taken_or_empty}
+use Rattle.trlab_traffic.proofs.Regimes.{slow_moves_by}
+use Rattle.trlab_traffic.proofs.Heights.{digit_at, window, window_last}
+use Rattle.trlab_traffic.proofs.Readiness.{Leaping, Suffices, near_few, near_some}
+use Rattle.trlab_traffic.proofs.Relaxation.{lane_at_once}
 
 not_both : (a b : Bool) → digit a + digit b ≤ 1 → a ≡ true → b ≡ false
 not_both a false most is = refl

@@ -2,11 +2,9 @@
 use Rattle.std.proofs.Common.{◌≡◌, ◌≢◌, ℕ, zero, suc, ◌+◌, ◌*◌, ◌<◌, Bool, true, false, not, ◌&&◌, cond, nat_eq, [], ◌∷◌, length, get_or, refl, sym, ◌∙◌, ap, inl, inr, arith}
 use Rattle.std.specs.Prelude.{count_by}
 use Rattle.std.proofs.lemmas.Bool.{cases_eq, eq-eqb, ne_eqb}
-use Rattle.trlab_traffic.specs.ExactFlow.{RingsAreClustered, choose, clustered_rings, splits}
-use Rattle.trlab_traffic.specs.Rings.{Ring, size}
-use Rattle.trlab_traffic.specs.Stationary.{all_rings, free_cars}
-use Rattle.trlab_traffic.proofs.Chains.{bit}
-use Rattle.trlab_traffic.proofs.RingSums.{rings, rings_same, rings_sum, size_is, trues}
+use Rattle.trlab_traffic.specs.LimitOne.{Ring, size}
+use Rattle.trlab_traffic.specs.Stationary.{RingsAreClustered, choose, clustered_rings, splits, all_rings, free_cars}
+use Rattle.trlab_traffic.proofs.Chains.{bit, rings, rings_same, rings_sum, size_is, trues}
 use Rattle.trlab_traffic.proofs.Stationary.{free, free_is}
 
 -- are two numbers equal? By recursion

@@ -12,13 +12,12 @@ use Rattle.trlab_road.specs.Motion.{Fits, LaneFits, LaneMoves}
 use Rattle.trlab_road.specs.Standing.{standing_from, standing_from_lane}
 use Rattle.trlab_road.proofs.MotionLaws.{on_lane}
 use Rattle.trlab_road.proofs.Ring.{car_in, inside}
-use Rattle.trlab_traffic.specs.Detector.{DetectorsCountDistance, StepSatisfiesContinuity, all_passages, cars_ahead_of, passages, passes, place_before_motion, cells_ahead_to}
-use Rattle.trlab_traffic.specs.Rule184.{digit, is_taken}
-use Rattle.trlab_traffic.proofs.AnyRule.{answers_fit}
-use Rattle.trlab_traffic.proofs.LanesApart.{any_lane}
-use Rattle.trlab_traffic.proofs.NaschMoves.{motion_alone}
-use Rattle.trlab_traffic.proofs.Places.{ahead_back, ahead_below, ahead_more, ahead_none, ahead_swap, back_ahead, gap_below}
-use Rattle.trlab_traffic.proofs.Sums.{below, below_not, below_so, cell_sum, in_cell, is, is_not, is_so, sum_of_cells, sum_range, total, total_at, total_balance, total_below, total_none, total_same, total_swap, total_turned, weight}
+use Rattle.trlab_traffic.specs.Terms.{is_taken}
+use Rattle.trlab_traffic.specs.LimitOne.{digit}
+use Rattle.trlab_traffic.specs.Detectors.{DetectorsCountDistance, StepSatisfiesContinuity, all_passages, cars_ahead_of, passages, passes, place_before_motion, cells_ahead_to}
+use Rattle.trlab_traffic.proofs.Lanes.{ahead_back, ahead_below, ahead_more, ahead_none, ahead_swap, back_ahead, gap_below, below, below_not, below_so, cell_sum, in_cell, is, is_not, is_so, sum_of_cells, sum_range, total, total_at, total_balance, total_below, total_none, total_same, total_swap, total_turned, weight}
+use Rattle.trlab_traffic.proofs.Steps.{answers_fit, motion_alone}
+use Rattle.trlab_traffic.proofs.Influence.{any_lane}
 
 -- the distance to the cell that a car goes to
 way_gone : (n p v : ℕ) → p < n → v < n → cells_ahead_to n p (ahead n p v) ≡ v

@@ -12,21 +12,16 @@ use Rattle.trlab_step.specs.declared.tally.StepTally.{StepTally}
 use Rattle.trlab_step.specs.Next.{IsNext}
 use Rattle.trlab_step.specs.Run.{ComesTo, Seed, Sheet, dice_at, IsRoadAt}
 use Rattle.trlab_step.proofs.RunLaws.{force_all, road_at_is_one}
-use Rattle.trlab_traffic.specs.Triangle.{lane_empty_cells}
-use Rattle.trlab_traffic.specs.Detector.{all_passages, cars_ahead_of, passages}
-use Rattle.trlab_traffic.specs.DetectorRuns.{DetectorsHaveCounted, DifferByAtMost, DetectorCountExists, DetectorHasCounted, DetectorMeasuresFlow, DetectorsAgree, DetectorsAgreeByCars, DetectorsCountRun, RunSatisfiesContinuity}
-use Rattle.trlab_traffic.specs.Rule184.{is_taken}
-use Rattle.trlab_traffic.specs.Runs.{EachRule, StaysInLane}
+use Rattle.trlab_traffic.specs.Terms.{lane_empty_cells, is_taken, EachRule, StaysInLane}
+use Rattle.trlab_traffic.specs.Detectors.{all_passages, cars_ahead_of, passages, DetectorsHaveCounted, DifferByAtMost, DetectorCountExists, DetectorHasCounted, DetectorMeasuresFlow, DetectorsAgree, DetectorsAgreeByCars, DetectorsCountRun, RunSatisfiesContinuity}
+use Rattle.trlab_traffic.proofs.Lanes.{one_sum, run_lanes, below, below_not, below_so, sum_range, total, total_add, total_balance, total_below, total_last, total_none, total_same, total_turned}
+use Rattle.trlab_traffic.proofs.Steps.{motion_alone}
+use Rattle.trlab_traffic.proofs.RoomAhead.{lane_taken_or_empty}
 use Rattle.trlab_traffic.proofs.Capacities.{distance_counted, distance_uncounted}
+use Rattle.trlab_traffic.proofs.Courses.{total_le}
+use Rattle.trlab_traffic.proofs.Influence.{any_lane}
 use Rattle.trlab_traffic.proofs.Detecting.{detectors_count_distance, step_is_continuous}
 use Rattle.trlab_traffic.proofs.FewCars.{empty_too, few, run_cars}
-use Rattle.trlab_traffic.proofs.LanesApart.{any_lane}
-use Rattle.trlab_traffic.proofs.NaschMoves.{motion_alone}
-use Rattle.trlab_traffic.proofs.Numbering.{total_le}
-use Rattle.trlab_traffic.proofs.OneLane.{one_sum}
-use Rattle.trlab_traffic.proofs.RoomAhead.{lane_taken_or_empty}
-use Rattle.trlab_traffic.proofs.RunLanes.{run_lanes}
-use Rattle.trlab_traffic.proofs.Sums.{below, below_not, below_so, sum_range, total, total_add, total_balance, total_below, total_last, total_none, total_same, total_turned}
 
 pub count_exists : DetectorCountExists
 count_exists seed sheet zero road sum l x comes = (0, refl)

@@ -5,15 +5,13 @@ use Rattle.std.specs.List.{range_with_len}
 use Rattle.std.proofs.Math.Nat.{pow-succ'}
 use Rattle.std.proofs.lemmas.Bool.{cases_eq}
 use Rattle.trlab_bounds.specs.declared.programs.TheConstants.{CERTAIN}
-use Rattle.trlab_traffic.specs.ExactFlow.{FlowIsExact, choose, clustered_rings, distance_weight, splits}
-use Rattle.trlab_traffic.specs.Rings.{Ring, moves, size, moving_cars}
-use Rattle.trlab_traffic.specs.Stationary.{all_rings, braking_weight, free_cars, stationary_weight}
-use Rattle.trlab_traffic.proofs.Chains.{bit, leaves}
-use Rattle.trlab_traffic.proofs.Clusters.{falses, no_empty, nothing, picked_ring, ring_count, same, same_is, same_not, same_self}
+use Rattle.trlab_traffic.specs.LimitOne.{Ring, moves, size, moving_cars}
+use Rattle.trlab_traffic.specs.Stationary.{FlowIsExact, choose, clustered_rings, distance_weight, splits, all_rings, braking_weight, free_cars, stationary_weight}
+use Rattle.trlab_traffic.proofs.Lanes.{sum_range, total, total_at, total_none, total_same}
+use Rattle.trlab_traffic.proofs.Chains.{bit, leaves, rings, rings_add, rings_same, rings_sum, rings_times, set_weight, sets, sets_add, sets_same, sets_sum, sets_times, size_is, trues}
 use Rattle.trlab_traffic.proofs.RingSteps.{moves_is}
-use Rattle.trlab_traffic.proofs.RingSums.{rings, rings_add, rings_same, rings_sum, rings_times, set_weight, sets, sets_add, sets_same, sets_sum, sets_times, size_is, trues}
 use Rattle.trlab_traffic.proofs.Stationary.{bit_is, blocked_or_free, braking_is, chosen, free, free_is, sets_weigh}
-use Rattle.trlab_traffic.proofs.Sums.{sum_range, total, total_at, total_none, total_same}
+use Rattle.trlab_traffic.proofs.Clusters.{falses, no_empty, nothing, picked_ring, ring_count, same, same_is, same_not, same_self}
 
 -- the cars of a chain that move
 abbrev movers : Bool → Ring → Ring → ℕ

@@ -26,10 +26,10 @@ use Rattle.trlab_step.specs.Next.{IsLaneChangePhase, IsMotionPhase, crossing_car
 use Rattle.trlab_step.specs.Run.{dice_at}
 use Rattle.trlab_step.proofs.Parts.{same_view}
 use Rattle.trlab_step.proofs.RunLaws.{force_all}
-use Rattle.trlab_traffic.specs.Symmetry.{IgnoresLane, RickertIgnoresLane, RunIsSymmetric, StepIsSymmetric, exchange_lanes, reads_lane}
+use Rattle.trlab_traffic.specs.Invariance.{IgnoresLane, RickertIgnoresLane, RunIsSymmetric, StepIsSymmetric, exchange_lanes, reads_lane}
+use Rattle.trlab_traffic.proofs.Lanes.{middle_lanes, next_lanes, run_lanes}
 use Rattle.trlab_traffic.proofs.Homogeneity.{same_seen}
 use Rattle.trlab_traffic.proofs.LaneUnread.{lane_is_not_read}
-use Rattle.trlab_traffic.proofs.RunLanes.{middle_lanes, next_lanes, run_lanes}
 
 -- a lane of the exchanged road is the other one of the road
 lane_exchanged : (road : Cells) (l : ℕ) → l < 2 → lane_of (exchange_lanes road) l ≡ lane_of road (other_lane l)

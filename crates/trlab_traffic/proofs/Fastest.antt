@@ -24,13 +24,13 @@ use Rattle.trlab_rules.specs.StandardRules.{IsNasch}
 use Rattle.trlab_step.proofs.AnswersExist.{motion_view_is_view}
 use Rattle.trlab_step.proofs.PartLaws.{one_answer_each}
 use Rattle.trlab_step.proofs.RunLaws.{force_all}
-use Rattle.trlab_traffic.specs.Fastest.{IsNoFaster, GapProgramReachesSpeedAtOnce, NaschAcceleratesByAtMostOne, NobodyBeatsGap, NobodyBeatsNasch, RandomizationSlowsRuns, SlowStartsSlowRuns, AcceleratesByAtMostOne, VdrAcceleratesByAtMostOne, gap_program}
-use Rattle.trlab_traffic.specs.Runs.{EachRule, StaysInLane, always}
-use Rattle.trlab_traffic.proofs.Courses.{gap_of, started}
-use Rattle.trlab_traffic.proofs.Freely.{one_rule}
-use Rattle.trlab_traffic.proofs.NaschMoves.{never}
-use Rattle.trlab_traffic.proofs.Races.{no_faster}
+use Rattle.trlab_traffic.specs.Terms.{EachRule, StaysInLane, always}
+use Rattle.trlab_traffic.specs.Comparison.{IsNoFaster, GapProgramReachesSpeedAtOnce, NaschAcceleratesByAtMostOne, NobodyBeatsGap, NobodyBeatsNasch, RandomizationSlowsRuns, SlowStartsSlowRuns, AcceleratesByAtMostOne, VdrAcceleratesByAtMostOne, gap_program}
+use Rattle.trlab_traffic.proofs.Steps.{never}
+use Rattle.trlab_traffic.proofs.FreeFlow.{one_rule}
 use Rattle.trlab_traffic.proofs.Slower.{more_happens}
+use Rattle.trlab_traffic.proofs.Courses.{gap_of, started}
+use Rattle.trlab_traffic.proofs.Races.{no_faster}
 
 -- a sheet of one rule has the properties of the rule
 pub always_so : (P : Programs → Type 0) (rule : Programs) → P rule → EachRule P (always rule)

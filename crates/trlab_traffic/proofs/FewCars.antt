@@ -9,17 +9,15 @@ use Rattle.trlab_road.proofs.Ring.{apart_within_gaps}
 use Rattle.trlab_step.specs.declared.tally.StepTally.{StepTally}
 use Rattle.trlab_step.specs.Run.{ComesTo, Seed, Sheet, dice_at}
 use Rattle.trlab_step.proofs.RunLaws.{force_all}
-use Rattle.trlab_traffic.specs.Triangle.{lane_empty_cells}
-use Rattle.trlab_traffic.specs.Detector.{cars_ahead_of}
-use Rattle.trlab_traffic.specs.Rule184.{digit, is_taken}
-use Rattle.trlab_traffic.specs.Runs.{EachRule, StaysInLane}
-use Rattle.trlab_traffic.proofs.AnyRule.{answers_fit}
-use Rattle.trlab_traffic.proofs.Detecting.{any_lane_fits}
-use Rattle.trlab_traffic.proofs.Digits.{taken_total}
-use Rattle.trlab_traffic.proofs.LanesApart.{any_lane}
-use Rattle.trlab_traffic.proofs.NaschMoves.{motion_alone}
+use Rattle.trlab_traffic.specs.Terms.{lane_empty_cells, is_taken, EachRule, StaysInLane}
+use Rattle.trlab_traffic.specs.LimitOne.{digit}
+use Rattle.trlab_traffic.specs.Detectors.{cars_ahead_of}
+use Rattle.trlab_traffic.proofs.Lanes.{sum_range, total, total_last, total_same, total_turned}
+use Rattle.trlab_traffic.proofs.Steps.{answers_fit, motion_alone}
 use Rattle.trlab_traffic.proofs.RoomAhead.{lane_taken_or_empty}
-use Rattle.trlab_traffic.proofs.Sums.{sum_range, total, total_last, total_same, total_turned}
+use Rattle.trlab_traffic.proofs.Influence.{any_lane}
+use Rattle.trlab_traffic.proofs.Heights.{taken_total}
+use Rattle.trlab_traffic.proofs.Detecting.{any_lane_fits}
 
 -- a part of a sum of ones and zeros
 record Part (w : ℕ → ℕ) (k n : ℕ) : Type 0 where

@@ -25,10 +25,10 @@ use Rattle.trlab_step.specs.Next.{IsLaneChangePhase, IsMotionPhase, crossing_car
 use Rattle.trlab_step.specs.Run.{ComesTo, Seed, Sheet, dice_at}
 use Rattle.trlab_step.proofs.NextLaws.{like_itself, like_next}
 use Rattle.trlab_step.proofs.Parts.{same_view}
-use Rattle.trlab_traffic.specs.Homogeneity.{RunIsHomogeneous, StepIsHomogeneous, rotate_road, rotate_lane}
-use Rattle.trlab_traffic.proofs.AnyRule.{next_legal_like}
-use Rattle.trlab_traffic.proofs.Turning.{gap_turned, headspeed_turned, lane_crosses_turned, lane_moves_turned, lane_turned, side_turned, sideback_turned, sidegap_turned, turned_at, turned_car}
-use Rattle.trlab_traffic.proofs.TurnedSums.{sum_turned}
+use Rattle.trlab_traffic.specs.Terms.{rotate_road, rotate_lane}
+use Rattle.trlab_traffic.specs.Invariance.{RunIsHomogeneous, StepIsHomogeneous}
+use Rattle.trlab_traffic.proofs.Steps.{next_legal_like}
+use Rattle.trlab_traffic.proofs.Rotation.{gap_turned, headspeed_turned, lane_crosses_turned, lane_moves_turned, lane_turned, side_turned, sideback_turned, sidegap_turned, turned_at, turned_car, sum_turned}
 
 -- a place of the rotated road, as a place of the road
 abbrev place_before : ℕ → Cells → ℕ → ℕ → ℕ

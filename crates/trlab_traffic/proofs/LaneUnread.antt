@@ -11,7 +11,7 @@ use Rattle.trlab_code.specs.declared.instruction.Variable.TheVariants as variabl
 use Rattle.trlab_code.specs.declared.instruction.Register.{Register}
 use Rattle.trlab_code.specs.declared.view.View.{View}
 use Rattle.trlab_code.specs.Machine.{Answer, At, Done, Effect, EndsFrom, EndsWith, Ends, Falls, Flag, Goes, Jumps, MachineState, Sticks, Store, Stuck, Value, Writes, allows, effect, end_if, execute, jump_if, on_any, on_flag, on_number, variable_number, start, state_after, step, update, write_difference, write_u32, Number}
-use Rattle.trlab_traffic.specs.Symmetry.{reads_lane}
+use Rattle.trlab_traffic.specs.Invariance.{reads_lane}
 
 -- two stores differ only in the lane
 record Alike (s t : Store) : Type 0 where

@@ -7,13 +7,12 @@ use Rattle.trlab_road.specs.Cells.{Cell, Lane, at, lane_car_count}
 use Rattle.trlab_road.specs.Gaps.{ahead, gap}
 use Rattle.trlab_road.specs.Motion.{IsClearAhead, LaneFits, LaneMoves}
 use Rattle.trlab_road.proofs.Ring.{blocked, clear_within_gap, inside}
-use Rattle.trlab_traffic.specs.Rule184.{digit, is_taken}
-use Rattle.trlab_traffic.proofs.GapsAfter.{left_free}
-use Rattle.trlab_traffic.proofs.Digits.{digit_at, digits_again, digits_total}
-use Rattle.trlab_traffic.proofs.Heights.{height, last_of, rises_fast, rises_slowly, window, window_has, window_last, window_none, window_slides}
-use Rattle.trlab_traffic.proofs.Places.{ahead_none, ahead_once, clear_is_gap}
-use Rattle.trlab_traffic.proofs.Sums.{total_last, total_same}
+use Rattle.trlab_traffic.specs.Terms.{is_taken}
+use Rattle.trlab_traffic.specs.LimitOne.{digit}
+use Rattle.trlab_traffic.proofs.Lanes.{ahead_none, ahead_once, clear_is_gap, total_last, total_same}
+use Rattle.trlab_traffic.proofs.Gaps.{left_free}
 use Rattle.trlab_traffic.proofs.Wolfram.{gap_none, gap_some}
+use Rattle.trlab_traffic.proofs.Heights.{digit_at, digits_again, digits_total, height, last_of, rises_fast, rises_slowly, window, window_has, window_last, window_none, window_slides}
 
 -- a digit of 1 is a car, and one of 0 an empty cell
 pub one_is_car : (lane : Lane) (x : ℕ) → 1 ≤ digit (is_taken lane x) → (car : ℕ × ℕ) × (at lane x ≡ Some car)

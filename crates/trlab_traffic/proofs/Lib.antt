@@ -1,29 +1,16 @@
--- places, sums and lanes
-pub mod Places
-pub mod Sums
-pub mod OneLane
-pub mod RunLanes
--- any rule, and the rule of 1992
-pub mod AnyRule
-pub mod NaschMoves
+-- lanes and steps
+pub mod Lanes
+pub mod Steps
 -- how far cars go
 pub mod RoomAhead
 pub mod Capacities
 pub mod Moving
-pub mod Changing
-pub mod Freely
-pub mod SlowStarts
+pub mod FreeFlow
 pub mod Slower
 -- cars that follow one another
-pub mod GapsAfter
-pub mod LaneGaps
-pub mod Jamming
-pub mod NextCars
+pub mod Gaps
 pub mod Queues
-pub mod Outflow
 -- runs that are compared, car by car
-pub mod Numbering
-pub mod Going
 pub mod Courses
 pub mod Races
 pub mod Fastest
@@ -32,21 +19,17 @@ pub mod Newell
 -- lane changes
 pub mod SafeChanges
 -- symmetries
-pub mod Turning
-pub mod TurnedSums
+pub mod Rotation
 pub mod Homogeneity
 pub mod LaneUnread
 pub mod Exchanging
-pub mod LanesApart
-pub mod LightCone
-pub mod Certainties
+pub mod Influence
 pub mod Pigeonhole
-pub mod Periods
+pub mod Determinism
 -- rules that act like others
 pub mod Reductions
 pub mod Wolfram
 -- the stationary state with v_max = 1
-pub mod RingSums
 pub mod Chains
 pub mod RingSteps
 pub mod Stationary
@@ -54,24 +37,23 @@ pub mod RingMotion
 pub mod RingWords
 pub mod Clusters
 pub mod ExactFlow
+pub mod Hops
 pub mod Uniqueness
 -- the fundamental diagram without randomization
 pub mod Regimes
-pub mod EvenGaps
-pub mod EvenFlows
+pub mod EvenCars
 pub mod Speeding
-pub mod Digits
 pub mod Heights
 pub mod Leaping
 pub mod Readiness
+pub mod Relaxation
 pub mod Waves
 pub mod Classification
 -- the counts of detectors
 pub mod Detecting
-pub mod OnePassage
 pub mod FewCars
 pub mod DetectingRuns
-pub mod Headways
+pub mod Passages
 pub mod Rows
 -- random braking
 pub mod Braking

@@ -19,19 +19,15 @@ use Rattle.trlab_step.specs.declared.tally.StepTally.{StepTally}
 use Rattle.trlab_step.specs.Laws.{IsLegalLike}
 use Rattle.trlab_step.specs.Run.{ComesTo, IsRoadAt, IsSheet, Seed, Sheet, dice_at, in_force, no_tally}
 use Rattle.trlab_step.proofs.RunLaws.{force_all, road_at_is_one}
-use Rattle.trlab_traffic.specs.Fastest.{ReachesSpeedAtOnce}
-use Rattle.trlab_traffic.specs.Gone.{HasGone}
-use Rattle.trlab_traffic.specs.Newell.{MinimumPrinciple, MinimumPrincipleGivesDistance, MinimumPrincipleLater, NobodyBeatsMinimumPrinciple, Rule184MinimumPrinciple, gaps_ahead, newell_distance, smallest_to}
-use Rattle.trlab_traffic.specs.Runs.{EachRule, StaysInLane, always}
-use Rattle.trlab_traffic.specs.Waves.{AcceleratesIn}
-use Rattle.trlab_traffic.proofs.AnyRule.{answers_fit}
-use Rattle.trlab_traffic.proofs.Courses.{Course, Start, course_of_start, course_on, gap_of, moved, started, within_gap}
+use Rattle.trlab_traffic.specs.Terms.{EachRule, StaysInLane, always}
+use Rattle.trlab_traffic.specs.Following.{HasGone}
+use Rattle.trlab_traffic.specs.Comparison.{ReachesSpeedAtOnce}
+use Rattle.trlab_traffic.specs.Waves.{MinimumPrinciple, MinimumPrincipleGivesDistance, MinimumPrincipleLater, NobodyBeatsMinimumPrinciple, Rule184MinimumPrinciple, gaps_ahead, newell_distance, smallest_to, AcceleratesIn}
+use Rattle.trlab_traffic.proofs.Steps.{answers_fit, motion_alone, never}
+use Rattle.trlab_traffic.proofs.FreeFlow.{one_rule}
+use Rattle.trlab_traffic.proofs.Courses.{Course, Start, course_of_start, course_on, gap_of, moved, started, within_gap, each_car_has_gone, go_distance, gone_is_one, run_like, choose, sum_of_standing}
 use Rattle.trlab_traffic.proofs.Fastest.{always_so, answer_is, no_brake}
-use Rattle.trlab_traffic.proofs.Freely.{one_rule}
-use Rattle.trlab_traffic.proofs.Going.{each_car_has_gone, go_distance, gone_is_one, run_like}
-use Rattle.trlab_traffic.proofs.NaschMoves.{motion_alone, never}
-use Rattle.trlab_traffic.proofs.Numbering.{choose, sum_of_standing}
-use Rattle.trlab_traffic.proofs.Readiness.{cells_suffice, lane_of_run}
+use Rattle.trlab_traffic.proofs.Relaxation.{cells_suffice, lane_of_run}
 
 -- the minimum of some numbers is at most each of them
 pub smallest_least : (f : ℕ → ℕ) (n j : ℕ) → j ≤ n → smallest_to n f ≤ f j

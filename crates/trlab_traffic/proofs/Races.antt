@@ -9,14 +9,11 @@ use Rattle.trlab_step.specs.Answers.{AnswersSpeed}
 use Rattle.trlab_step.specs.Laws.{IsLegalLike}
 use Rattle.trlab_step.specs.Run.{ComesTo, Seed, Sheet, dice_at, in_force}
 use Rattle.trlab_step.proofs.RunLaws.{force_all}
-use Rattle.trlab_traffic.specs.Fastest.{IsNoFaster}
-use Rattle.trlab_traffic.specs.Gone.{HasGone}
-use Rattle.trlab_traffic.specs.Runs.{EachRule, StaysInLane}
-use Rattle.trlab_traffic.proofs.AnyRule.{answers_fit}
-use Rattle.trlab_traffic.proofs.Courses.{Course, course_of_start, course_on, gap_of, gap_on, moved, Start, within_gap}
-use Rattle.trlab_traffic.proofs.Going.{go_distance, gone_is_one, run_like}
-use Rattle.trlab_traffic.proofs.NaschMoves.{motion_alone}
-use Rattle.trlab_traffic.proofs.Numbering.{total_le}
+use Rattle.trlab_traffic.specs.Terms.{EachRule, StaysInLane}
+use Rattle.trlab_traffic.specs.Following.{HasGone}
+use Rattle.trlab_traffic.specs.Comparison.{IsNoFaster}
+use Rattle.trlab_traffic.proofs.Steps.{answers_fit, motion_alone}
+use Rattle.trlab_traffic.proofs.Courses.{Course, course_of_start, course_on, gap_of, gap_on, moved, Start, within_gap, go_distance, gone_is_one, run_like, total_le}
 
 -- the answers of two cars with the same number, one in each run, at one step
 pub record Pair (seed : Seed) (slow fast : Sheet) (step : ℕ) (road other : Cells) (a b : Car) (v w : ℕ) : Type 0 where

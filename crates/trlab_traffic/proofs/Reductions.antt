@@ -30,10 +30,9 @@ use Rattle.trlab_step.specs.Run.{ComesTo, Seed, dice_at}
 use Rattle.trlab_step.proofs.AnswersExist.{change_view_is_view, motion_view_is_view}
 use Rattle.trlab_step.proofs.NextLaws.{like_itself, like_next}
 use Rattle.trlab_step.proofs.PartLaws.{one_answer_each, one_crossing_each}
-use Rattle.trlab_traffic.specs.Reduction.{HaveSameSteps, RickertReducesToNasch, SameStepsGiveSameRuns, VdrReducesToNasch}
-use Rattle.trlab_traffic.proofs.AnyRule.{middle_like, next_legal_like}
-use Rattle.trlab_traffic.proofs.Freely.{in_force_one, one_rule}
-use Rattle.trlab_traffic.proofs.NaschMoves.{never}
+use Rattle.trlab_traffic.specs.Invariance.{HaveSameSteps, RickertReducesToNasch, SameStepsGiveSameRuns, VdrReducesToNasch}
+use Rattle.trlab_traffic.proofs.Steps.{middle_like, next_legal_like, never}
+use Rattle.trlab_traffic.proofs.FreeFlow.{in_force_one, one_rule}
 
 -- motion programs with the same speeds move the cars alike
 module _ (f g : View → List ℕ → ℕ) (motion other : CheckedProgram) (by_f : ComputesSpeed f motion.program) (by_g : ComputesSpeed g other.program)

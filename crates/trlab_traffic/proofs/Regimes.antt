@@ -18,13 +18,12 @@ use Rattle.trlab_step.specs.Laws.{IsLegalLike}
 use Rattle.trlab_step.specs.Next.{IsNext}
 use Rattle.trlab_step.specs.Run.{ComesTo, Seed, dice_at}
 use Rattle.trlab_step.proofs.NextLaws.{like_itself, like_next}
-use Rattle.trlab_traffic.specs.Fastest.{ReachesSpeedAtOnce}
-use Rattle.trlab_traffic.proofs.AnyRule.{answers_fit, next_legal_like}
+use Rattle.trlab_traffic.specs.Comparison.{ReachesSpeedAtOnce}
+use Rattle.trlab_traffic.proofs.Lanes.{sum_at_cars, sum_of_lanes, total}
+use Rattle.trlab_traffic.proofs.Steps.{answers_fit, next_legal_like, answered, motion_alone, safe_motion}
 use Rattle.trlab_traffic.proofs.Capacities.{distance_counted, distance_uncounted, speeds_total}
-use Rattle.trlab_traffic.proofs.Freely.{one_more, one_rule}
-use Rattle.trlab_traffic.proofs.LaneGaps.{motion_keeps_lane_cars}
-use Rattle.trlab_traffic.proofs.NaschMoves.{answered, motion_alone, safe_motion}
-use Rattle.trlab_traffic.proofs.Sums.{sum_at_cars, sum_of_lanes, total}
+use Rattle.trlab_traffic.proofs.FreeFlow.{one_more, one_rule}
+use Rattle.trlab_traffic.proofs.Gaps.{motion_keeps_lane_cars}
 
 -- a regime of a lane of a run in which each car's new speed follows from its speed and its gap: a property
 -- of the lane at a step, and the distance of all its cars from some step on

@@ -16,14 +16,12 @@ use Rattle.trlab_rules.specs.Rules.{Programs}
 use Rattle.trlab_rules.specs.StandardRules.{IsNasch}
 use Rattle.trlab_step.specs.declared.tally.StepTally.{StepTally}
 use Rattle.trlab_step.specs.Next.{IsMotionPhase, IsNext}
-use Rattle.trlab_traffic.specs.Rings.{NaschGoesByRings, NaschStepsRings, brakes, braking_set, draw, draws_of, is_in, is_taken_after, moves, moving_cars, ring_of}
 use Rattle.std.specs.Prelude.{sum_by}
 use Rattle.trlab_road.specs.Standing.{standing_from}
-use Rattle.trlab_traffic.proofs.AnyRule.{answers_fit}
+use Rattle.trlab_traffic.specs.LimitOne.{NaschGoesByRings, NaschStepsRings, brakes, braking_set, draw, draws_of, is_in, is_taken_after, moves, moving_cars, ring_of}
+use Rattle.trlab_traffic.proofs.Lanes.{by_lane, sum_of_cells, sum_of_lanes, sum_range, total, total_same, weight, ahead_behind, ahead_none, behind_ahead}
+use Rattle.trlab_traffic.proofs.Steps.{answers_fit, answered, motion_alone}
 use Rattle.trlab_traffic.proofs.Capacities.{speeds_total}
-use Rattle.trlab_traffic.proofs.Sums.{by_lane, sum_of_cells, sum_of_lanes, sum_range, total, total_same, weight}
-use Rattle.trlab_traffic.proofs.NaschMoves.{answered, motion_alone}
-use Rattle.trlab_traffic.proofs.Places.{ahead_behind, ahead_none, behind_ahead}
 use Rattle.trlab_traffic.proofs.Wolfram.{gap_none, gap_some}
 
 -- a lane and its ring

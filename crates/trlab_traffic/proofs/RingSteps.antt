@@ -4,10 +4,9 @@ use Rattle.std.proofs.Math.Nat.{mod_self, add-mod_right}
 use Rattle.std.proofs.lemmas.Bool.{cases_lt}
 use Rattle.std.proofs.lemmas.List.FromFn.{fill_by_all}
 use Rattle.trlab_road.specs.Gaps.{ahead, behind}
-use Rattle.trlab_traffic.specs.Rings.{Ring, StepsKeepCars, is_in, moves, is_taken_after, ring_after}
+use Rattle.trlab_traffic.specs.LimitOne.{Ring, StepsKeepCars, is_in, moves, is_taken_after, ring_after}
 use Rattle.trlab_traffic.specs.Stationary.{is_same}
-use Rattle.trlab_traffic.proofs.Chains.{bit, kept, leaves}
-use Rattle.trlab_traffic.proofs.RingSums.{size_is, trues}
+use Rattle.trlab_traffic.proofs.Chains.{bit, kept, leaves, size_is, trues}
 
 -- the cells after a step of a chain: `came` is whether a car comes before it, and `first` is the cell ahead
 -- of it

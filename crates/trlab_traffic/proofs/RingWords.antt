@@ -12,13 +12,12 @@ use Rattle.trlab_bounds.specs.declared.programs.TheConstants.{CERTAIN}
 use Rattle.trlab_words.specs.Chances.{happens_on}
 use Rattle.trlab_words.specs.Words.{random_word}
 use Rattle.trlab_words.proofs.RandomWords.{random_word_small}
-use Rattle.trlab_traffic.specs.Rings.{CarWords, Ring, braking_set, draws_of, ring_after, ring_of, size}
+use Rattle.trlab_traffic.specs.LimitOne.{CarWords, Ring, braking_set, draws_of, ring_after, ring_of, size}
 use Rattle.trlab_traffic.specs.Stationary.{DrawsAreCounted, StepWeightsCountWords, WeightsAreStationaryOverWords, all_draws, braking_weight, is_same, stationary_weight, step_weight, word_count}
-use Rattle.trlab_traffic.proofs.Chains.{bit}
-use Rattle.trlab_traffic.proofs.RingSums.{rings_same, rings_sum, rings_times, set_weight, sets, sets_add, sets_same, sets_sum, sets_times, size_is, sum_of_map, trues}
+use Rattle.trlab_traffic.proofs.Lanes.{below, sum_range, total, total_below, total_same}
+use Rattle.trlab_traffic.proofs.Chains.{bit, rings_same, rings_sum, rings_times, set_weight, sets, sets_add, sets_same, sets_sum, sets_times, size_is, sum_of_map, trues}
 use Rattle.trlab_traffic.proofs.RingSteps.{cells, cells_kept, leaving, same_size}
 use Rattle.trlab_traffic.proofs.Stationary.{bit_is, braking_is, chosen, step_is, weights_are_stationary}
-use Rattle.trlab_traffic.proofs.Sums.{below, sum_range, total, total_below, total_same}
 
 -- a sum by a test
 weighed : (h : ℕ → Bool) (a b n : ℕ) → total (λ x. cond (h x) a b) n + total (λ x. bit (h x)) n * b ≡ total (λ x. bit (h x)) n * a + n * b

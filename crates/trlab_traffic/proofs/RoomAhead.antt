@@ -11,7 +11,8 @@ use Rattle.trlab_road.specs.Motion.{IsClearAhead}
 use Rattle.trlab_road.specs.Standing.{standing_from, standing_from_lane}
 use Rattle.trlab_road.proofs.Ring.{blocked, car_in, inside}
 use Rattle.trlab_road.proofs.StandingOrder.{lane_car_count-some}
-use Rattle.trlab_traffic.specs.Triangle.{CellsAreTakenOrEmpty, lane_cells, lane_empty_cells}
+use Rattle.trlab_traffic.specs.Terms.{lane_cells, lane_empty_cells}
+use Rattle.trlab_traffic.specs.Bounds.{CellsAreTakenOrEmpty}
 
 pub empty-none : (cells : Lane) → lane_empty_cells (None ∷ cells) ≡ suc (lane_empty_cells cells)
 empty-none cells = let e = sum_by-cons (λ (c : Cell). cond (is_none c) 1 0) None cells in omega (arith, e)

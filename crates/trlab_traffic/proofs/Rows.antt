@@ -14,24 +14,20 @@ use Rattle.trlab_step.proofs.RunLaws.{road_at_is_one}
 use Rattle.trlab_step.specs.Next.{IsLaneChangePhase}
 use Rattle.trlab_step.specs.Run.{ComesTo, Seed, Sheet, dice_at, IsRoadAt}
 use Rattle.trlab_step.specs.declared.tally.StepTally.{StepTally}
-use Rattle.trlab_traffic.proofs.AnyRule.{answers_fit, crossings_free}
-use Rattle.trlab_traffic.proofs.Capacities.{distance_counted, distance_uncounted}
-use Rattle.trlab_traffic.proofs.Changing.{run_cells, two_sum}
-use Rattle.trlab_traffic.proofs.Detecting.{any_lane_fits, stretch_is_continuous, detectors_count_distance, way_reaches}
-use Rattle.trlab_traffic.proofs.DetectingRuns.{counted_so, counts_on, none_counted, count_exists, few_cars, road_before, uncounted_so}
-use Rattle.trlab_traffic.proofs.FewCars.{few, stretch}
-use Rattle.trlab_traffic.proofs.Going.{run_like}
-use Rattle.trlab_traffic.proofs.LanesApart.{any_lane}
-use Rattle.trlab_traffic.proofs.Places.{ahead_below}
-use Rattle.trlab_traffic.proofs.RoomAhead.{taken_or_empty}
-use Rattle.trlab_traffic.proofs.RunLanes.{run_lanes, middle_lanes}
-use Rattle.trlab_traffic.proofs.Sums.{by_lane, sum_range, total, total_add, total_none, total_same, total_swap}
-use Rattle.trlab_traffic.specs.Triangle.{empty_cells, lane_empty_cells}
-use Rattle.trlab_traffic.specs.Detector.{cars_ahead_of, passages, all_passages, cells_ahead_to}
-use Rattle.trlab_traffic.specs.DetectorRuns.{DifferByAtMost, DetectorHasCounted}
-use Rattle.trlab_traffic.specs.Rows.{RowMeasuresFlow, RowsAgree, RunSatisfiesContinuityByRows, StepIsContinuousByRows, cars_ahead_of_row, row_passages}
-use Rattle.trlab_traffic.specs.Rule184.{digit, is_taken}
 use Rattle.trlab_verify.specs.CheckedProgram.{CheckedProgram}
+use Rattle.trlab_traffic.specs.Terms.{empty_cells, lane_empty_cells, is_taken}
+use Rattle.trlab_traffic.specs.LimitOne.{digit}
+use Rattle.trlab_traffic.specs.Detectors.{cars_ahead_of, passages, all_passages, cells_ahead_to, DifferByAtMost, DetectorHasCounted, RowMeasuresFlow, RowsAgree, RunSatisfiesContinuityByRows, StepIsContinuousByRows, cars_ahead_of_row, row_passages}
+use Rattle.trlab_traffic.proofs.Lanes.{ahead_below, run_lanes, middle_lanes, by_lane, sum_range, total, total_add, total_none, total_same, total_swap}
+use Rattle.trlab_traffic.proofs.Steps.{answers_fit, crossings_free}
+use Rattle.trlab_traffic.proofs.RoomAhead.{taken_or_empty}
+use Rattle.trlab_traffic.proofs.Capacities.{distance_counted, distance_uncounted}
+use Rattle.trlab_traffic.proofs.Moving.{run_cells, two_sum}
+use Rattle.trlab_traffic.proofs.Courses.{run_like}
+use Rattle.trlab_traffic.proofs.Influence.{any_lane}
+use Rattle.trlab_traffic.proofs.Detecting.{any_lane_fits, stretch_is_continuous, detectors_count_distance, way_reaches}
+use Rattle.trlab_traffic.proofs.FewCars.{few, stretch}
+use Rattle.trlab_traffic.proofs.DetectingRuns.{counted_so, counts_on, none_counted, count_exists, few_cars, road_before, uncounted_so}
 
 -- together the two cells of a place have as many cars after the lane change as before
 cell_balance : (c d : Bool) (own beside : Cell) → (c ≡ true → is_some own ≡ true → beside ≡ None) → (d ≡ true → is_some beside ≡ true → own ≡ None)

@@ -29,14 +29,11 @@ use Rattle.trlab_step.specs.declared.tally.StepTally.{StepTally}
 use Rattle.trlab_step.specs.Answers.{AnswersCrossings, change_view_of, motion_view_of}
 use Rattle.trlab_step.specs.Next.{IsLaneChangePhase, IsMotionPhase, IsNext, stopped_cars, total_speed}
 use Rattle.trlab_step.proofs.AnswersExist.{change_view_is_view}
-use Rattle.trlab_traffic.specs.SafeChanges.{ChangesSafely, HasSafeChanges, IsNoSlowerStep, IsSafeToCross, RickertChangesSafely, SafeChangesCostNobody, SafeChangesCostNobodyInVdr}
-use Rattle.trlab_traffic.proofs.AnyRule.{crossings_free, middle_like, next_legal_like}
-use Rattle.trlab_traffic.proofs.Going.{one_speed}
-use Rattle.trlab_traffic.proofs.NaschMoves.{answered, motion_alone}
-use Rattle.trlab_traffic.proofs.Numbering.{choose, sum_of_standing, total_le}
-use Rattle.trlab_traffic.proofs.Places.{ahead_back, clear_is_gap, gap_below}
+use Rattle.trlab_traffic.specs.Comparison.{ChangesSafely, HasSafeChanges, IsNoSlowerStep, IsSafeToCross, RickertChangesSafely, SafeChangesCostNobody, SafeChangesCostNobodyInVdr}
+use Rattle.trlab_traffic.proofs.Lanes.{ahead_back, clear_is_gap, gap_below, total}
+use Rattle.trlab_traffic.proofs.Steps.{crossings_free, middle_like, next_legal_like, answered, motion_alone}
 use Rattle.trlab_traffic.proofs.Slower.{stops_too}
-use Rattle.trlab_traffic.proofs.Sums.{total}
+use Rattle.trlab_traffic.proofs.Courses.{one_speed, choose, sum_of_standing, total_le}
 
 -- the first cells of a path are empty
 clear_way : (lane : Lane) (way : ℕ → ℕ) (j : ℕ) → 1 ≤ j → j ≤ clear_cells lane way → at lane (way j) ≡ None

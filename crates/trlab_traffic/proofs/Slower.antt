@@ -7,7 +7,7 @@ use Rattle.trlab_road.proofs.MotionInOrder.{answer_at, moves_by}
 use Rattle.trlab_road.specs.Motion.{Fits, Moves, in_order}
 use Rattle.trlab_machine.specs.declared.dice.Dice.{Dice}
 use Rattle.std.proofs.Common.{◌≡◌, ℕ, suc, ◌+◌, ◌/◌, ◌≤◌, Bool, true, false, List, [], ◌∷◌, length, get_or, refl, sym, ◌∙◌, ap, inl, inr, arith, cond, map, None, if◌then◌else◌}
-use Rattle.std.specs.Prelude.{All, sum_by, nat_eq}
+use Rattle.std.specs.Prelude.{All, sum_by, nat_eq, slice_index}
 use Rattle.std.proofs.lemmas.Bool.{cases_lt, le-ltb, lt-ltb, cases_eq, eq-eqb, ne_eqb}
 use Rattle.std.proofs.lemmas.List.Sums.{sum_by-cons}
 use Rattle.trlab_words.specs.Chances.{happens_on}
@@ -18,11 +18,9 @@ use Rattle.trlab_road.specs.Standing.{standing}
 use Rattle.trlab_road.proofs.StandingOrder.{length-standing_from_lane, standing_cell, in_order_at}
 use Rattle.trlab_rules.specs.Published.{brake, nasch_speed, safe_speed, vdr_braking_chance, vdr_speed}
 use Rattle.trlab_step.specs.Answers.{motion_view_of, AnswersSpeeds}
-use Rattle.trlab_traffic.specs.Randomization.{RandomizationSlowsSteps, IsNoFasterStep, SlowStartsSlowSteps}
-use Rattle.trlab_traffic.proofs.AnyRule.{answers_fit}
+use Rattle.trlab_traffic.specs.Comparison.{RandomizationSlowsSteps, IsNoFasterStep, SlowStartsSlowSteps}
+use Rattle.trlab_traffic.proofs.Steps.{answers_fit, answered, motion_alone}
 use Rattle.trlab_traffic.proofs.Capacities.{speeds_total, may_move}
-use Rattle.trlab_traffic.proofs.NaschMoves.{answered, motion_alone}
-use Rattle.std.specs.Prelude.{slice_index}
 
 -- two values for a car: the first is at most the second, and at most one smaller
 record Below (f g : Car → ℕ) (car : Car) : Type 0 where

@@ -12,23 +12,19 @@ use Rattle.trlab_road.proofs.MotionLaws.{on_lane}
 use Rattle.trlab_road.proofs.Ring.{car_in, clear_within_gap}
 use Rattle.trlab_step.specs.Run.{ComesTo, IsRoadAt, dice_at}
 use Rattle.trlab_step.proofs.RunLaws.{force_all}
-use Rattle.trlab_traffic.specs.Diagram.{QueueReachesTriangleNoSooner}
+use Rattle.trlab_traffic.specs.Terms.{StaysInLane, empty_cells}
 use Rattle.trlab_traffic.specs.Jams.{stopped_car}
-use Rattle.trlab_traffic.specs.Newell.{gaps_ahead}
-use Rattle.trlab_traffic.specs.Runs.{StaysInLane}
-use Rattle.trlab_traffic.specs.Triangle.{empty_cells}
-use Rattle.trlab_traffic.proofs.AnyRule.{answers_fit}
-use Rattle.trlab_traffic.proofs.Braking.{run_cells}
-use Rattle.trlab_traffic.proofs.Capacities.{distance_counted, run_stays_under_triangle, same_empty, speeds_total}
-use Rattle.trlab_traffic.proofs.Courses.{gap_of, moved, started, within_gap}
-use Rattle.trlab_traffic.proofs.DetectingRuns.{same_each}
-use Rattle.trlab_traffic.proofs.Going.{one_speed, run_like}
-use Rattle.trlab_traffic.proofs.NaschMoves.{motion_alone}
-use Rattle.trlab_traffic.proofs.Newell.{cars_at, nobody_beats_minimum, smallest_least}
-use Rattle.trlab_traffic.proofs.Numbering.{sum_of_standing, total_le}
-use Rattle.trlab_traffic.proofs.Queues.{queue_waits}
+use Rattle.trlab_traffic.specs.Diagram.{QueueReachesTriangleNoSooner}
+use Rattle.trlab_traffic.specs.Waves.{gaps_ahead}
+use Rattle.trlab_traffic.proofs.Lanes.{total}
+use Rattle.trlab_traffic.proofs.Steps.{answers_fit, motion_alone}
 use Rattle.trlab_traffic.proofs.RoomAhead.{lanes_room}
-use Rattle.trlab_traffic.proofs.Sums.{total}
+use Rattle.trlab_traffic.proofs.Capacities.{distance_counted, run_stays_under_triangle, same_empty, speeds_total}
+use Rattle.trlab_traffic.proofs.Queues.{queue_waits}
+use Rattle.trlab_traffic.proofs.Courses.{gap_of, moved, started, within_gap, one_speed, run_like, sum_of_standing, total_le}
+use Rattle.trlab_traffic.proofs.Newell.{cars_at, nobody_beats_minimum, smallest_least}
+use Rattle.trlab_traffic.proofs.DetectingRuns.{same_each}
+use Rattle.trlab_traffic.proofs.Braking.{run_cells}
 
 -- sums of which one value is smaller, and none larger
 total_less : (f g : ℕ → ℕ) (n k : ℕ) → ((i : ℕ) → i < n → f i ≤ g i) → k < n → f k < g k → total f n < total g n

@@ -18,14 +18,12 @@ use Rattle.trlab_road.proofs.EvenRoads.{even_count, even_legal, no_fault}
 use Rattle.trlab_road.proofs.MotionLaws.{on_lane}
 use Rattle.trlab_road.proofs.Ring.{car_in, clear_within_gap}
 use Rattle.trlab_road.proofs.StandingOrder.{lane_car_count-some}
-use Rattle.trlab_traffic.specs.Triangle.{lane_cells}
-use Rattle.trlab_traffic.specs.FreeFlow.{IsInFreeFlow}
-use Rattle.trlab_traffic.specs.Metastable.{IsRing, IsStopped, TwoFlowsAtOneDensity}
-use Rattle.trlab_traffic.proofs.EvenGaps.{gap_low, who}
-use Rattle.trlab_traffic.proofs.OneLane.{one_sum}
-use Rattle.trlab_traffic.proofs.Places.{clear_is_gap, gap_below}
+use Rattle.trlab_traffic.specs.Terms.{lane_cells}
+use Rattle.trlab_traffic.specs.FreeFlow.{IsInFreeFlow, IsRing, IsStopped, TwoFlowsAtOneDensity}
+use Rattle.trlab_traffic.proofs.Lanes.{one_sum, clear_is_gap, gap_below}
 use Rattle.trlab_traffic.proofs.RoomAhead.{cars-none}
-use Rattle.trlab_traffic.proofs.SlowStarts.{slow_starts_keep_free_flow, slow_starts_keep_jams}
+use Rattle.trlab_traffic.proofs.FreeFlow.{slow_starts_keep_free_flow, slow_starts_keep_jams}
+use Rattle.trlab_traffic.proofs.EvenCars.{gap_low, who}
 
 -- a cell, with its car at a speed
 abbrev sped : ℕ → Cell → Cell

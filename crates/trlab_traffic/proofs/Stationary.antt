@@ -3,12 +3,11 @@ use Rattle.std.proofs.Common.{◌≡◌, ℕ, zero, suc, ◌+◌, ◌-◌, ◌*�
 use Rattle.std.specs.Bool.{beq}
 use Rattle.std.proofs.Math.Nat.{pow-succ', pow-zero}
 use Rattle.trlab_bounds.specs.declared.programs.TheConstants.{CERTAIN}
-use Rattle.trlab_traffic.specs.Rings.{Ring, is_free_car, ring_after, size}
+use Rattle.trlab_traffic.specs.LimitOne.{Ring, is_free_car, ring_after, size}
 use Rattle.trlab_traffic.specs.Stationary.{StepWeightsAddUp, WeightsAreStationary, braking_weight, free_cars, is_same, stationary_weight, step_weight}
-use Rattle.trlab_traffic.proofs.Chains.{all_chains, bit, chain, chains_sum, closed, cell_weight, closed_empty, closed_taken, kept, leaves, own_weight, product}
+use Rattle.trlab_traffic.proofs.Lanes.{sum_range, total, total_same}
+use Rattle.trlab_traffic.proofs.Chains.{all_chains, bit, chain, chains_sum, closed, cell_weight, closed_empty, closed_taken, kept, leaves, own_weight, product, IsCarSet, draw_weight, rings, rings_add, rings_same, rings_sets_swap, rings_sum, rings_times, sets, sets_add, sets_same, sets_sum, sets_times, set_weight, size_is, trues}
 use Rattle.trlab_traffic.proofs.RingSteps.{cells, cells_long, leaving, next_on_ring, ring_after_is}
-use Rattle.trlab_traffic.proofs.RingSums.{IsCarSet, draw_weight, rings, rings_add, rings_same, rings_sets_swap, rings_sum, rings_times, sets, sets_add, sets_same, sets_sum, sets_times, set_weight, size_is, trues}
-use Rattle.trlab_traffic.proofs.Sums.{sum_range, total, total_same}
 
 -- the blocked and the free cars of a chain, after which `first` is the cell ahead
 abbrev pub blocked : Bool → Ring → ℕ

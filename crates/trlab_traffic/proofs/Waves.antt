@@ -16,19 +16,18 @@ use Rattle.trlab_step.specs.Next.{IsNext}
 use Rattle.trlab_step.specs.Published.{car_after_motion}
 use Rattle.trlab_step.specs.Run.{ComesTo, IsRoadAt, Seed, dice_at, in_force}
 use Rattle.trlab_step.proofs.RunLaws.{road_at_is_one}
-use Rattle.trlab_traffic.specs.Rule184.{digit, is_taken}
-use Rattle.trlab_traffic.specs.Runs.{always}
+use Rattle.trlab_traffic.specs.Terms.{is_taken, always}
 use Rattle.trlab_traffic.specs.Waves.{AcceleratesIn, AccelerationEnds, CongestedCarsCloseGaps, FreeFlowMovesAhead, IsCongested, IsDilute, JamsMoveBack, LaneHasRelaxed, PatternIsPeriodic, PatternMovesAhead, PatternMovesBack}
-use Rattle.trlab_traffic.proofs.Digits.{taken_total}
-use Rattle.trlab_traffic.proofs.Freely.{one_rule}
-use Rattle.trlab_traffic.proofs.GapsAfter.{next_taken}
-use Rattle.trlab_traffic.proofs.Numbering.{total_le}
-use Rattle.trlab_traffic.proofs.Places.{ahead_below, ahead_more, ahead_none}
-use Rattle.trlab_traffic.proofs.Readiness.{Leaping, Suffices, by_gap, by_limit, cells_suffice, lane_at_once, lane_of_run, more_suffice, ready}
-use Rattle.trlab_traffic.proofs.Regimes.{MovesBy, at_once_by, gap_moves_by, nasch_moves_by, slow_moves_by}
+use Rattle.trlab_traffic.specs.LimitOne.{digit}
+use Rattle.trlab_traffic.proofs.Lanes.{ahead_below, ahead_more, ahead_none, run_lanes, total, total_turned}
 use Rattle.trlab_traffic.proofs.RoomAhead.{lane_taken_or_empty}
-use Rattle.trlab_traffic.proofs.RunLanes.{run_lanes}
-use Rattle.trlab_traffic.proofs.Sums.{total, total_turned}
+use Rattle.trlab_traffic.proofs.FreeFlow.{one_rule}
+use Rattle.trlab_traffic.proofs.Gaps.{next_taken}
+use Rattle.trlab_traffic.proofs.Courses.{total_le}
+use Rattle.trlab_traffic.proofs.Regimes.{MovesBy, at_once_by, gap_moves_by, nasch_moves_by, slow_moves_by}
+use Rattle.trlab_traffic.proofs.Heights.{taken_total}
+use Rattle.trlab_traffic.proofs.Readiness.{Leaping, Suffices, by_gap, by_limit, ready}
+use Rattle.trlab_traffic.proofs.Relaxation.{cells_suffice, lane_at_once, lane_of_run, more_suffice}
 
 -- numbers, each at most its partner, whose sum is that of their partners, are equal to them
 same_values : (f g : ℕ → ℕ) (n : ℕ) → ((x : ℕ) → x < n → f x ≤ g x) → total f n ≡ total g n → (x : ℕ) → x < n → f x ≡ g x

@@ -6,10 +6,10 @@ use Rattle.trlab_road.specs.Cells.{Cell, Cells, Lane, at, cell, lane_of}
 use Rattle.trlab_road.specs.Gaps.{ahead, behind, gap}
 use Rattle.trlab_road.specs.Motion.{LaneMoves}
 use Rattle.trlab_road.proofs.Ring.{car_in, clear_within_gap, inside}
-use Rattle.trlab_traffic.specs.Holes.{EmptyCellsFollowRule184}
-use Rattle.trlab_traffic.specs.Rule184.{Rule184HasParticleHoleSymmetry, IsElementaryStep, NaschIsRule184, elementary_rule, is_taken}
-use Rattle.trlab_traffic.proofs.NaschMoves.{SafeMotion, safe_motion}
-use Rattle.trlab_traffic.proofs.Places.{ahead_behind, ahead_none, behind_ahead, clear_is_gap}
+use Rattle.trlab_traffic.specs.Terms.{is_taken}
+use Rattle.trlab_traffic.specs.LimitOne.{EmptyCellsFollowRule184, Rule184HasParticleHoleSymmetry, IsElementaryStep, NaschIsRule184, elementary_rule}
+use Rattle.trlab_traffic.proofs.Lanes.{ahead_behind, ahead_none, behind_ahead, clear_is_gap}
+use Rattle.trlab_traffic.proofs.Steps.{SafeMotion, safe_motion}
 
 pub empty_cells_go_back : Rule184HasParticleHoleSymmetry
 empty_cells_go_back true true true = refl

@@ -1,19 +1,19 @@
 -- The fundamental diagram of the Nagel-Schreckenberg model without randomization is a triangle: the flow of
--- one lane reaches min(v_max * density, 1 - density), and keeps this value.
+-- one lane reaches min(v_max * density, 1 - density), and keeps this value. Laws: `nasch_reaches_triangle`,
+-- `rule_184_reaches_triangle`, `gap_reaches_triangle`, `even_cars_flow_on_triangle`.
 use Rattle.std.specs.Prelude.{◌≡◌, ℕ, ◌+◌, ◌-◌, ◌*◌, ◌<◌, ◌≤◌, length, min, sum_by}
 use Rattle.trlab_road.specs.declared.car.Car.{Car}
+use Rattle.trlab_road.specs.Cells.{Cells, IsAt, lane_of, cars}
 use Rattle.trlab_road.specs.Gaps.{gap}
 use Rattle.trlab_road.specs.Legal.{IsLegal}
-use Rattle.trlab_road.specs.Cells.{Cells, IsAt, cars, lane_of}
-use Rattle.trlab_road.specs.Spreading.{CanSpread, IsEvenlySpaced}
+use Rattle.trlab_road.specs.Spreading.{IsEvenlySpaced, CanSpread}
 use Rattle.trlab_rules.specs.Rules.{Programs}
 use Rattle.trlab_rules.specs.StandardRules.{IsNasch}
 use Rattle.trlab_step.specs.declared.tally.StepTally.{StepTally}
 use Rattle.trlab_step.specs.Run.{Seed, Sheet, ComesTo}
-use Rattle.trlab_traffic.specs.Triangle.{empty_cells, max_distance, lane_max_distance}
-use Rattle.trlab_traffic.specs.Fastest.{ReachesSpeedAtOnce}
-use Rattle.trlab_traffic.specs.Queues.{IsQueued}
-use Rattle.trlab_traffic.specs.Runs.{EachRule, StaysInLane, always, counted_steps}
+use Rattle.trlab_traffic.specs.Terms.{EachRule, StaysInLane, always, counted_steps, empty_cells, lane_max_distance, max_distance}
+use Rattle.trlab_traffic.specs.Jams.{IsQueued}
+use Rattle.trlab_traffic.specs.Comparison.{ReachesSpeedAtOnce}
 
 -- the flow of a run is on the triangle, min(v_max * density, 1 - density): per counted step its distance
 -- is v_max times the number of cars, or the number of empty cells, whichever is smaller

@@ -1,4 +1,4 @@
-use Rattle.trlab_traffic.proofs.Jamming.{car_without_gap_stops}
+use Rattle.trlab_traffic.proofs.Gaps.{car_without_gap_stops}
 use Rattle.trlab_traffic.proofs.laws.car_without_gap_stops.Goals as goal
 
 pub returns : goal.returns

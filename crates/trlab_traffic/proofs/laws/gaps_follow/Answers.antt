@@ -1,4 +1,4 @@
-use Rattle.trlab_traffic.proofs.GapsAfter.{gaps_follow}
+use Rattle.trlab_traffic.proofs.Gaps.{gaps_follow}
 use Rattle.trlab_traffic.proofs.laws.gaps_follow.Goals as goal
 
 pub returns : goal.returns

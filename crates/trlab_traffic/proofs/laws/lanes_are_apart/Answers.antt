@@ -1,4 +1,4 @@
-use Rattle.trlab_traffic.proofs.LanesApart.{run_keeps_lanes_apart, step_keeps_lanes_apart}
+use Rattle.trlab_traffic.proofs.Influence.{run_keeps_lanes_apart, step_keeps_lanes_apart}
 use Rattle.trlab_traffic.proofs.laws.lanes_are_apart.Goals as goal
 
 pub returns : goal.returns
