@@ -3,7 +3,7 @@ use Rattle.trlab_notes.specs.Stored.{note_of}
 use Rattle.trlab_notes.specs.Transfer.{next_note}
 use Rattle.trlab_verify.specs.TableForm.{meaning_at}
 use Rattle.trlab_verify.proofs.Forms.{sent_in, sent_out}
-use Rattle.trlab_verify.proofs.check.checks_next.Goals as goal
+use Rattle.trlab_verify.proofs.for_embedders.checks_next.Goals as goal
 
 pub returns-in-Some : goal.returns-in-Some
 returns-in-Some c =

@@ -4,7 +4,7 @@ use Rattle.trlab_notes.specs.Transfer.{jump_note}
 use Rattle.trlab_notes.specs.Order.{IsNoStronger}
 use Rattle.trlab_verify.specs.TableForm.{meaning_at}
 use Rattle.trlab_verify.proofs.Forms.{sent_in, sent_out}
-use Rattle.trlab_verify.proofs.check.checks_target.Goals as goal
+use Rattle.trlab_verify.proofs.for_embedders.checks_target.Goals as goal
 
 pub returns-else-to-table : goal.returns-else-to-table
 returns-else-to-table c =

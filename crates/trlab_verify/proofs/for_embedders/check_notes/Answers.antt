@@ -15,7 +15,7 @@ use Rattle.trlab_verify.proofs.Checking.{as_table, at_same, by_notes}
 use Rattle.trlab_verify.proofs.Runs.{sound}
 use Rattle.trlab_verify.proofs.Bounded.{checked_two}
 use Rattle.trlab_verify.proofs.Forms.{under_settled, under_note}
-use Rattle.trlab_verify.proofs.check.check_notes.Goals as goal
+use Rattle.trlab_verify.proofs.for_embedders.check_notes.Goals as goal
 
 -- the table is that of the notes that are handed in
 listed : (kind : Kind) (form : List Form) (pc : ℕ) → pc < length form → meaning_at kind form pc ≡ note_in (table_of kind form) pc

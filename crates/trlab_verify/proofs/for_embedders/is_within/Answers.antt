@@ -4,7 +4,7 @@ use Rattle.trlab_notes.specs.Stored.{note_of}
 use Rattle.trlab_notes.specs.Order.{IsNoStronger}
 use Rattle.trlab_verify.specs.TableForm.{meaning}
 use Rattle.trlab_verify.proofs.Forms.{over_settled, over_note}
-use Rattle.trlab_verify.proofs.check.is_within.Goals as goal
+use Rattle.trlab_verify.proofs.for_embedders.is_within.Goals as goal
 
 pub returns-in-Some : goal.returns-in-Some
 returns-in-Some c =

@@ -9,8 +9,8 @@ use Rattle.trlab_verify.specs.TableForm.{meaning_at}
 use Rattle.trlab_notes.specs.declared.reasons.Reason.{Reason}
 use Rattle.trlab_notes.proofs.Steps.{clear}
 use Rattle.trlab_verify.proofs.Forms.{shown, checked_at}
-use Rattle.trlab_verify.proofs.check.checks_at.Goals as goal
-use Rattle.trlab_verify.proofs.check.checks_at.Goals.{else-pc-gt0-via-then-pc-gt0+else-not-is_reached, else-pc-gt0-via-else-pc-gt0}
+use Rattle.trlab_verify.proofs.for_embedders.checks_at.Goals as goal
+use Rattle.trlab_verify.proofs.for_embedders.checks_at.Goals.{else-pc-gt0-via-then-pc-gt0+else-not-is_reached, else-pc-gt0-via-else-pc-gt0}
 
 none_is : (o : Option Reason) → false ≡ is_some o → o ≡ None
 none_is None e = refl

@@ -1,5 +1,8 @@
 //! Checks tables of notes without allocating. A table that checks is a certificate: it proves that its program is
 //! safe, no matter how the table was computed (docs/VERIFIER.md).
+//!
+//! Programs that embed trlab call this, and so do its tests. trlab itself computes the notes of a program, so it has no
+//! table to check.
 
 ghost use Rattle.std.specs.Prelude.{◌≡◌, ◌↔◌, ℕ, suc, ◌<◌, ◌≤◌, ◌||◌, ◌&&◌, All, IfSome, IsTrue, Some, false, length, nat_eq, slice_get};
 ghost use Rattle.trlab_code.specs.declared.instruction.Instr.{Instr as AnInstr};
