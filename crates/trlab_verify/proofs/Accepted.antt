@@ -11,9 +11,8 @@ use Rattle.trlab_code.specs.Program.{Program, IsValidProgram}
 use Rattle.trlab_code.specs.Flow.{target, falls, is_end, on_target}
 use Rattle.trlab_notes.specs.Reasons.{is_of_kind}
 use Rattle.trlab_notes.specs.Notes.{Note}
-use Rattle.trlab_verify.specs.CheckedProgram.{IsChecked}
-use Rattle.trlab_verify.specs.Longest.{HasPath, IsLongest, IsForward}
-use Rattle.trlab_verify.specs.Verdict.{IsAccepted}
+use Rattle.trlab_verify.specs.Verified.{IsChecked}
+use Rattle.trlab_verify.specs.Verdict.{HasPath, IsLongest, IsForward, IsAccepted}
 use Rattle.trlab_notes.proofs.Steps.{IsClear, clear, not_false}
 use Rattle.trlab_verify.proofs.Reasons.{noted}
 use Rattle.trlab_verify.proofs.Runs.{sound}

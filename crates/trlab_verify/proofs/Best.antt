@@ -13,9 +13,7 @@ use Rattle.trlab_notes.specs.Reasons.{some_unset, some_of_wrong_type}
 use Rattle.trlab_notes.specs.Notes.{Note, entry}
 use Rattle.trlab_notes.specs.Transfer.{next_note, jump_note}
 use Rattle.trlab_notes.specs.Order.{join, IsNoStronger}
-use Rattle.trlab_verify.specs.Longest.{Follows}
-use Rattle.trlab_verify.specs.Incoming.{add_note, add_notes, if_here, next_note_to, jump_note_to, is_target, incoming, note_at}
-use Rattle.trlab_verify.specs.Verdict.{IsAccepted}
+use Rattle.trlab_verify.specs.Verdict.{Follows, add_note, add_notes, if_here, next_note_to, jump_note_to, is_target, incoming, note_at, IsAccepted}
 use Rattle.trlab_verify.specs.Tables.{IsNoStrongerThanVerdictNote}
 use Rattle.trlab_verify.proofs.Checking.{ChecksBy}
 use Rattle.trlab_notes.proofs.Order.{Closed, On, through_on, join_most_on}

@@ -16,8 +16,8 @@ use Rattle.trlab_notes.specs.declared.note.AbstractValue.TheVariants.{Nothing, B
 use Rattle.trlab_notes.specs.Notes.{Note, known_level, level_between, same_variable, entry, entry_level, entry_values}
 use Rattle.trlab_notes.specs.Order.{join}
 use Rattle.trlab_notes.specs.Transfer.{sharpen, slacken, chain, least, most, result_value, result_to, to_result, register_to, assign, assign_destination, refine_order, refine_flag, next_note, jump_note}
-use Rattle.trlab_verify.specs.Incoming.{add_note, add_notes, if_here, next_note_to, jump_note_to, is_target, incoming}
-use Rattle.trlab_verify.specs.TableForm.{HasValidLevels}
+use Rattle.trlab_verify.specs.Verdict.{add_note, add_notes, if_here, next_note_to, jump_note_to, is_target, incoming}
+use Rattle.trlab_verify.specs.Tables.{HasValidLevels}
 use Rattle.trlab_verify.proofs.Checking.{ChecksBy}
 use Rattle.trlab_verify.proofs.Best.{best}
 

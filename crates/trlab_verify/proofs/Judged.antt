@@ -8,9 +8,8 @@ use Rattle.trlab_code.specs.declared.instruction.Instr.{Instr}
 use Rattle.trlab_code.specs.declared.instruction.Instr.TheVariants.{Stay}
 use Rattle.trlab_code.specs.Flow.{falls, target}
 use Rattle.trlab_code.specs.Program.{Program, IsValidProgram}
-use Rattle.trlab_verify.specs.CheckedProgram.{IsChecked}
-use Rattle.trlab_verify.specs.Longest.{Follows, IsLongest, IsForward}
-use Rattle.trlab_verify.specs.Verdict.{IsAccepted, IsRefused, reason_number_at}
+use Rattle.trlab_verify.specs.Verified.{IsChecked}
+use Rattle.trlab_verify.specs.Verdict.{Follows, IsLongest, IsForward, IsAccepted, IsRefused, reason_number_at}
 use Rattle.trlab_verify.proofs.Accepted.{checked, forward}
 use Rattle.trlab_verify.proofs.Ways.{of_target, longest_is}
 

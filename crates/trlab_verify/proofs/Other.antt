@@ -19,8 +19,7 @@ use Rattle.trlab_code.specs.declared.instruction.Input.{Input}
 use Rattle.trlab_code.specs.declared.instruction.Variable.{Variable}
 use Rattle.trlab_code.specs.declared.instruction.Variable.TheVariants as variable
 use Rattle.trlab_notes.specs.Order.{IsNoMorePrecise, IsNoStronger}
-use Rattle.trlab_verify.specs.Incoming.{note_at}
-use Rattle.trlab_verify.specs.Verdict.{first_reason_at, reason_number_at, IsRefused}
+use Rattle.trlab_verify.specs.Verdict.{note_at, first_reason_at, reason_number_at, IsRefused}
 use Rattle.trlab_verify.proofs.Checking.{ChecksBy}
 use Rattle.trlab_notes.proofs.Order.{Closed, On}
 use Rattle.trlab_notes.proofs.Monotone.{Reaches, clear_up, passes}

@@ -7,7 +7,7 @@ use Rattle.trlab_code.specs.declared.instruction.Instr.{Instr}
 use Rattle.trlab_notes.proofs.Order.{same_note, join_most}
 use Rattle.trlab_notes.specs.Notes.{Note, entry}
 use Rattle.trlab_notes.specs.Order.{IsNoStronger}
-use Rattle.trlab_verify.specs.Incoming.{add_note, add_notes, if_here, next_note_to, jump_note_to, incoming, note_at, IsSent, Sends}
+use Rattle.trlab_verify.specs.Verdict.{add_note, add_notes, if_here, next_note_to, jump_note_to, incoming, note_at, IsSent, Sends}
 use Rattle.trlab_verify.proofs.VerdictChecks.{Under, under_old, under_new, under_edges}
 
 module _ (kind : Kind) (code : List Instr) (q : ℕ) where

@@ -15,8 +15,7 @@ use Rattle.trlab_notes.specs.Stored.{note_of, stored_note_at, maybe_note}
 use Rattle.std.specs.Option.{option_map}
 use Rattle.trlab_notes.specs.declared.reasons.Reason.{Reason}
 use Rattle.trlab_notes.specs.Reasons.{reason_number}
-use Rattle.trlab_verify.specs.Incoming.{incoming, note_at, add_note, add_notes, next_note_to, jump_note_to, if_here, is_target}
-use Rattle.trlab_verify.specs.Verdict.{first_reason_at, reason_number_at}
+use Rattle.trlab_verify.specs.Verdict.{incoming, note_at, add_note, add_notes, next_note_to, jump_note_to, if_here, is_target, first_reason_at, reason_number_at}
 
 pub set_is : (table : List (Option StoredNote)) (q : ℕ) (o : Option StoredNote) → q < length table → (x : ℕ) →
     stored_note_at (slice_set table q o) x ≡ cond (nat_eq x q) (maybe_note o) (stored_note_at table x)

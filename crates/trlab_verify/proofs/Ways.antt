@@ -7,7 +7,7 @@ use Rattle.std.proofs.lemmas.Option.{slice_get_within}
 use Rattle.trlab_code.specs.declared.instruction.Instr.{Instr}
 use Rattle.trlab_code.specs.declared.instruction.Instr.TheVariants.{Jump, Go, Cross, Stay}
 use Rattle.trlab_code.specs.Flow.{is_end, falls, target, on_target}
-use Rattle.trlab_verify.specs.Longest.{Follows, HasPath, IsLongest, IsForward}
+use Rattle.trlab_verify.specs.Verdict.{Follows, HasPath, IsLongest, IsForward}
 
 some_is : (a b : Instr) → Some a ≡ Some b → a ≡ b
 some_is a b e = cc e

@@ -13,9 +13,8 @@ ghost use Rattle.trlab_notes.specs.Stored.{note_of};
 ghost use Rattle.trlab_notes.specs.Transfer.{next_note, jump_note};
 ghost use Rattle.trlab_notes.specs.Order.{IsNoStronger};
 ghost use Rattle.trlab_notes.specs.Reasons.{may_be_too_large};
-ghost use Rattle.trlab_verify.specs.TableForm.{HasValidLevels, meaning, meaning_at, table_of};
-ghost use Rattle.trlab_verify.specs.Longest.{Follows, IsLongest};
-ghost use Rattle.trlab_verify.specs.Tables.{Checks, ChecksAt};
+ghost use Rattle.trlab_verify.specs.Tables.{HasValidLevels, meaning, meaning_at, table_of, Checks, ChecksAt};
+ghost use Rattle.trlab_verify.specs.Verdict.{Follows, IsLongest};
 
 use crate::note::{Note, read};
 use trlab_code::{Code, Instr, Kind, MAX_INSTRUCTIONS};

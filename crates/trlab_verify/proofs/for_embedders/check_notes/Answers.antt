@@ -8,8 +8,7 @@ use Rattle.trlab_code.specs.declared.instruction.Instr.{Instr}
 use Rattle.trlab_notes.specs.Notes.{entry}
 use Rattle.trlab_notes.specs.Order.{IsNoStronger}
 use Rattle.trlab_verify.specs.declared.note.Note.{Note as Form}
-use Rattle.trlab_verify.specs.TableForm.{HasValidLevels, meaning, meaning_at, table_of, form_without_marks}
-use Rattle.trlab_verify.specs.Tables.{Checks, ChecksAt, empty_note, note_in}
+use Rattle.trlab_verify.specs.Tables.{HasValidLevels, meaning, meaning_at, table_of, form_without_marks, Checks, ChecksAt, empty_note, note_in}
 use Rattle.trlab_verify.proofs.Best.{accepted}
 use Rattle.trlab_verify.proofs.Checking.{as_table, at_same, by_notes}
 use Rattle.trlab_verify.proofs.Runs.{sound}

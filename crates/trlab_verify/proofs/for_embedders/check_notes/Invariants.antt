@@ -1,8 +1,7 @@
 use Rattle.std.proofs.Common.{◌≡◌, ℕ, ◌<◌, Some}
 use Rattle.std.specs.Prelude.{slice_get}
 use Rattle.trlab_code.specs.declared.instruction.Instr.{Instr}
-use Rattle.trlab_verify.specs.TableForm.{meaning_at}
-use Rattle.trlab_verify.specs.Tables.{ChecksAt}
+use Rattle.trlab_verify.specs.Tables.{meaning_at, ChecksAt}
 use Rattle.trlab_verify.proofs.for_embedders.check_notes.Given as goal
 
 abbrev pub invariant-loop-pc : goal.invariant-loop-pc

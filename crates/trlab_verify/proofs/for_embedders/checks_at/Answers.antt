@@ -4,8 +4,8 @@ use Rattle.std.proofs.lemmas.Option.{slice_get-get_or}
 use Rattle.trlab_code.specs.declared.instruction.Instr.TheVariants.{Num}
 use Rattle.trlab_code.specs.declared.instruction.Register.TheVariants.{R0}
 use Rattle.trlab_notes.specs.Stored.{note_of}
-use Rattle.trlab_verify.specs.Longest.{Follows}
-use Rattle.trlab_verify.specs.TableForm.{meaning_at}
+use Rattle.trlab_verify.specs.Verdict.{Follows}
+use Rattle.trlab_verify.specs.Tables.{meaning_at}
 use Rattle.trlab_notes.specs.declared.reasons.Reason.{Reason}
 use Rattle.trlab_notes.proofs.Steps.{clear}
 use Rattle.trlab_verify.proofs.Forms.{shown, checked_at}

@@ -5,7 +5,7 @@ use Rattle.trlab_code.specs.Flow.{falls, target, on_target}
 use Rattle.trlab_code.specs.declared.instruction.Instr.{Instr}
 use Rattle.trlab_code.specs.declared.instruction.Instr.TheVariants.{Num}
 use Rattle.trlab_code.specs.declared.instruction.Register.TheVariants.{R0}
-use Rattle.trlab_verify.specs.Longest.{Follows}
+use Rattle.trlab_verify.specs.Verdict.{Follows}
 use Rattle.trlab_verify.proofs.for_embedders.is_reached.Goals as goal
 
 not_from : (code : List Instr) (pc q : ℕ) (i : Instr) (r : Bool) → slice_get code pc ≡ Some i → r ≡ ((falls i && nat_eq q (suc pc)) || on_target (nat_eq q) (target i)) → r ≡ false → Follows code pc q → ⊥

@@ -1,5 +1,5 @@
 use Rattle.std.proofs.Common.{ℕ, ◌<◌}
-use Rattle.trlab_verify.specs.Longest.{Follows}
+use Rattle.trlab_verify.specs.Verdict.{Follows}
 use Rattle.trlab_verify.proofs.for_embedders.is_reached.Given as goal
 
 abbrev pub invariant-loop-pc : goal.invariant-loop-pc
