@@ -21,9 +21,8 @@ use Rattle.trlab_notes.specs.Reasons.{reason_against}
 use Rattle.trlab_notes.specs.Transfer.{next_note, jump_note}
 use Rattle.trlab_notes.proofs.Variables.{variables, back, below, same_is}
 use Rattle.trlab_notes.proofs.Order.{wider, known_from}
-use Rattle.trlab_verify.specs.Longest.{Follows}
+use Rattle.trlab_verify.specs.Verdict.{Follows, IsAccepted}
 use Rattle.trlab_verify.specs.Tables.{ChecksAt}
-use Rattle.trlab_verify.specs.Verdict.{IsAccepted}
 use Rattle.trlab_verify.proofs.Best.{accepted}
 
 -- one variable is at most another (level 1), or below it (level 2)

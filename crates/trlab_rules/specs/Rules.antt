@@ -1,7 +1,7 @@
 -- Rules: the accepted programs that drive the cars of a road.
 use Rattle.std.specs.Prelude.{Option, IfSome}
 use Rattle.trlab_code.specs.declared.program.Kind.TheVariants.{Motion, Change}
-use Rattle.trlab_verify.specs.CheckedProgram.{CheckedProgram, IsChecked}
+use Rattle.trlab_verify.specs.Verified.{CheckedProgram, IsChecked}
 
 -- the programs of a rule: a motion program, and possibly a change program
 pub record Programs : Type 0 where

@@ -5,7 +5,7 @@ use Rattle.std.specs.Prelude.{◌&&◌, IsSome, Some, is_some, nat_le, if◌then
 use Rattle.trlab_road.specs.Cells.{Cells}
 use Rattle.trlab_rules.specs.Rules.{Programs}
 use Rattle.trlab_machine.specs.declared.dice.Dice.{Dice}
-use Rattle.trlab_verify.specs.CheckedProgram.{CheckedProgram}
+use Rattle.trlab_verify.specs.Verified.{CheckedProgram}
 use Rattle.trlab_step.proofs.AskedCars.{same_dice}
 use Rattle.trlab_words.specs.declared.key.Key.{Key}
 use Rattle.trlab_step.specs.Answers.{dice_of}

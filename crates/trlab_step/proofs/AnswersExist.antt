@@ -5,7 +5,7 @@ use Rattle.std.specs.Prelude.{is_none}
 use Rattle.trlab_words.proofs.RandomWords.{length-random_words}
 use Rattle.trlab_code.specs.declared.program.Kind.TheVariants.{Motion, Change}
 use Rattle.trlab_code.specs.Views.{IsViewInRange}
-use Rattle.trlab_verify.specs.CheckedProgram.{CheckedProgram, IsChecked}
+use Rattle.trlab_verify.specs.Verified.{CheckedProgram, IsChecked}
 use Rattle.trlab_road.specs.Cells.{Cell, Cells, Lane, cell, lane_of, IsAt}
 use Rattle.trlab_road.specs.LaneChange.{other_lane, CrossesToEmpty}
 use Rattle.trlab_road.specs.Gaps.{gap, side, ahead, behind, clear_cells, largest, is_clear}

@@ -12,7 +12,7 @@ use Rattle.trlab_step.specs.Block.{DescribesCar}
 use Rattle.trlab_step.proofs.AskedCars.{CrossesBy, GoesBy, crosses_by, goes_by}
 use Rattle.trlab_step.proofs.PartLaws.{more_answers}
 use Rattle.trlab_step.proofs.Parts.{more_fits, more_free}
-use Rattle.trlab_verify.specs.CheckedProgram.{CheckedProgram}
+use Rattle.trlab_verify.specs.Verified.{CheckedProgram}
 
 -- the first cars of a block
 module _ {n : ℕ} (size : ℕ) (few : size ≤ n) where

@@ -9,7 +9,7 @@ use Rattle.trlab_road.specs.Legal.{IsLegal}
 use Rattle.trlab_road.specs.Standing.{standing}
 use Rattle.trlab_road.proofs.StandingOrder.{standing_cell, length-standing_from_lane}
 use Rattle.trlab_rules.specs.Rules.{Programs}
-use Rattle.trlab_verify.specs.CheckedProgram.{CheckedProgram}
+use Rattle.trlab_verify.specs.Verified.{CheckedProgram}
 use Rattle.trlab_machine.specs.declared.dice.Dice.{Dice}
 use Rattle.trlab_step.specs.Next.{IsNext, IsLaneChangePhase, crossing_cars}
 use Rattle.trlab_step.specs.declared.tally.StepTally.{StepTally}

@@ -9,7 +9,7 @@ use Rattle.trlab_road.specs.LaneChange.{sides}
 use Rattle.trlab_road.specs.Motion.{gaps}
 use Rattle.trlab_step.specs.Answers.{CrossingsFitPart, SpeedsFitPart, IsCrossingsPart, IsSpeedsPart}
 use Rattle.trlab_step.proofs.PartLaws.{speeds_join as join_speeds, crossings_join as join_crossings}
-use Rattle.trlab_verify.specs.CheckedProgram.{CheckedProgram}
+use Rattle.trlab_verify.specs.Verified.{CheckedProgram}
 
 -- a fact that holds of each element of two lists, by its index, holds of the elements of both together
 both : {X : Type 0} (none : X) (P : ℕ → X → Type 0) (xs ys : List X)

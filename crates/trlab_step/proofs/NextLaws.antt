@@ -3,7 +3,7 @@ use Rattle.std.proofs.Common.{◌≡◌, ℕ, suc, ◌<◌, ◌+◌, Bool, cond,
 use Rattle.std.proofs.lemmas.List.Sums.{sum_by-cons}
 use Rattle.std.specs.Prelude.{count_by, IfSome, IsSome}
 use Rattle.trlab_code.specs.declared.program.Kind.TheVariants.{Motion, Change}
-use Rattle.trlab_verify.specs.CheckedProgram.{CheckedProgram, IsChecked}
+use Rattle.trlab_verify.specs.Verified.{CheckedProgram, IsChecked}
 use Rattle.trlab_road.specs.declared.car.Car.{Car}
 use Rattle.trlab_road.specs.Cells.{Cells, AgreeAtCars}
 use Rattle.trlab_road.specs.LaneChange.{IsCleanLaneChange, road_after_change}

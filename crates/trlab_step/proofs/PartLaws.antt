@@ -8,7 +8,7 @@ use Rattle.trlab_code.specs.declared.program.Kind.TheVariants.{Motion, Change}
 use Rattle.trlab_code.specs.Machine.{Goes}
 use Rattle.trlab_machine.specs.Crossings.{crossing_answer}
 use Rattle.trlab_machine.proofs.Answers.{one_answer}
-use Rattle.trlab_verify.specs.CheckedProgram.{CheckedProgram}
+use Rattle.trlab_verify.specs.Verified.{CheckedProgram}
 use Rattle.trlab_road.specs.declared.car.Car.{Car}
 use Rattle.trlab_road.specs.Cells.{Cells, cars}
 use Rattle.trlab_road.specs.Standing.{IsNthCar, rank, standing}

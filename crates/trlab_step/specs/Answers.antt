@@ -4,7 +4,7 @@ use Rattle.trlab_code.specs.declared.program.Kind.TheVariants.{Motion, Change}
 use Rattle.trlab_code.specs.declared.view.View.{View}
 use Rattle.trlab_code.specs.Views.{motion_view, change_view}
 use Rattle.trlab_code.specs.Machine.{Goes, EndsWith}
-use Rattle.trlab_verify.specs.CheckedProgram.{CheckedProgram}
+use Rattle.trlab_verify.specs.Verified.{CheckedProgram}
 use Rattle.trlab_machine.specs.declared.dice.Dice.{Dice}
 use Rattle.trlab_machine.specs.Blocks.{words_of}
 use Rattle.trlab_machine.specs.Crossings.{crossing_answer}

@@ -4,7 +4,7 @@ use Rattle.std.specs.Prelude.{◌≡◌, ◌≤◌, ◌++◌, ℕ, suc, Bool, Op
 use Rattle.trlab_code.specs.declared.program.Kind.{Kind}
 use Rattle.trlab_code.specs.declared.program.Kind.TheVariants.{Motion, Change}
 use Rattle.trlab_code.specs.Views.{IsViewInRange}
-use Rattle.trlab_verify.specs.CheckedProgram.{CheckedProgram, IsChecked}
+use Rattle.trlab_verify.specs.Verified.{CheckedProgram, IsChecked}
 use Rattle.trlab_road.specs.declared.car.Car.{Car}
 use Rattle.trlab_road.specs.Cells.{Cells, IsAt, cars}
 use Rattle.trlab_road.specs.Legal.{IsLegal}

@@ -6,7 +6,7 @@ use Rattle.trlab_road.specs.Legal.{IsLegal}
 use Rattle.trlab_road.specs.Standing.{standing}
 use Rattle.trlab_road.specs.LaneChange.{ChangesLanes, IsCleanLaneChange}
 use Rattle.trlab_road.specs.Motion.{Moves, IsCleanMotion}
-use Rattle.trlab_verify.specs.CheckedProgram.{CheckedProgram}
+use Rattle.trlab_verify.specs.Verified.{CheckedProgram}
 use Rattle.trlab_rules.specs.Rules.{Programs}
 use Rattle.trlab_step.specs.declared.step.StepFault.{StepFault}
 use Rattle.trlab_step.specs.declared.step.StepFault.TheVariants.{LanesMismatch}

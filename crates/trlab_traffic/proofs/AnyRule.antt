@@ -3,7 +3,7 @@
 use Rattle.std.proofs.Common.{◌≡◌, ℕ, Bool, Option, Some, None, length, sym, subst}
 use Rattle.trlab_code.specs.declared.program.Kind.TheVariants.{Change}
 use Rattle.trlab_code.specs.Machine.{EndsWith}
-use Rattle.trlab_verify.specs.CheckedProgram.{CheckedProgram}
+use Rattle.trlab_verify.specs.Verified.{CheckedProgram}
 use Rattle.trlab_machine.specs.declared.dice.Dice.{Dice}
 use Rattle.trlab_machine.specs.Blocks.{words_of}
 use Rattle.trlab_machine.specs.Crossings.{crossing_answer}

@@ -13,7 +13,7 @@ use Rattle.trlab_code.specs.declared.instruction.Instr.TheVariants.{Draw}
 use Rattle.trlab_code.specs.declared.view.View.{View}
 use Rattle.trlab_code.specs.Machine.{Answer, At, Done, EndsFrom, EndsWith, Flag, Goes, MachineState, Store, Stuck, Writes, allows, effect, execute, start, state_after, step}
 use Rattle.trlab_code.specs.Program.{Program}
-use Rattle.trlab_verify.specs.CheckedProgram.{CheckedProgram}
+use Rattle.trlab_verify.specs.Verified.{CheckedProgram}
 use Rattle.trlab_machine.specs.declared.dice.Dice.{Dice}
 use Rattle.trlab_machine.specs.Blocks.{words_of}
 use Rattle.trlab_machine.specs.Crossings.{crossing_answer}

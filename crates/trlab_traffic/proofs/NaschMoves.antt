@@ -4,7 +4,7 @@ use Rattle.std.proofs.lemmas.Bool.{le-ltb}
 use Rattle.trlab_words.specs.Chances.{happens_on}
 use Rattle.trlab_words.proofs.RandomWords.{slice_index-random_words}
 use Rattle.trlab_code.specs.declared.view.View.{View}
-use Rattle.trlab_verify.specs.CheckedProgram.{CheckedProgram}
+use Rattle.trlab_verify.specs.Verified.{CheckedProgram}
 use Rattle.trlab_machine.specs.declared.dice.Dice.{Dice}
 use Rattle.trlab_machine.specs.Blocks.{word_of, words_of}
 use Rattle.trlab_road.specs.declared.car.Car.{Car}

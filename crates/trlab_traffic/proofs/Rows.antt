@@ -31,7 +31,7 @@ use Rattle.trlab_traffic.specs.Detector.{cars_ahead_of, passages, all_passages, 
 use Rattle.trlab_traffic.specs.DetectorRuns.{DifferByAtMost, DetectorHasCounted}
 use Rattle.trlab_traffic.specs.Rows.{RowMeasuresFlow, RowsAgree, RunSatisfiesContinuityByRows, StepIsContinuousByRows, cars_ahead_of_row, row_passages}
 use Rattle.trlab_traffic.specs.Rule184.{digit, is_taken}
-use Rattle.trlab_verify.specs.CheckedProgram.{CheckedProgram}
+use Rattle.trlab_verify.specs.Verified.{CheckedProgram}
 
 -- a place has as many cars on two lanes after the lane change
 cell_balance : (c d : Bool) (own beside : Cell) → (c ≡ true → is_some own ≡ true → beside ≡ None) → (d ≡ true → is_some beside ≡ true → own ≡ None)
