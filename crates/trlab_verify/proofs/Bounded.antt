@@ -1,6 +1,5 @@
 -- No level above 2 is ever known.
-use Rattle.std.proofs.Common.{ℕ, zero, suc, ◌<◌, ◌≤◌, max, subst, arith, List, length, Bool, true, false, Option, Some, None, nat_eq, cond}
-use Rattle.std.specs.Prelude.{slice_get, IfSome}
+use Rattle.std.proofs.Common.{ℕ, zero, suc, ◌<◌, ◌≤◌, max, subst, arith, List, length, Bool, true, false, Option, Some, None, nat_eq, cond, slice_get, IfSome}
 use Rattle.trlab_code.specs.declared.program.Kind.{Kind}
 use Rattle.trlab_code.specs.declared.instruction.Input.TheVariants.{Speed, Limit, Headspeed}
 use Rattle.trlab_code.specs.declared.instruction.Instr.{Instr}

@@ -1,6 +1,5 @@
 -- The notes of a refused program, up to where the verdict ends.
-use Rattle.std.proofs.Common.{◌≡◌, ◌≢◌, ◌∙◌, ℕ, zero, suc, ◌<◌, ◌≤◌, ◌+◌, ap, arith, sym, subst, refl, length, true, false, Bool, List, Option, Some, None, nat_eq, inl, inr}
-use Rattle.std.specs.Prelude.{IfSome}
+use Rattle.std.proofs.Common.{◌≡◌, ◌≢◌, ◌∙◌, ℕ, zero, suc, ◌<◌, ◌≤◌, ◌+◌, ap, arith, sym, subst, refl, length, true, false, Bool, List, Option, Some, None, nat_eq, inl, inr, IfSome}
 use Rattle.std.proofs.lemmas.Bool.{eqb-false, cases_lt}
 use Rattle.std.proofs.lemmas.List.{get_or-map, length-map}
 use Rattle.trlab_code.specs.declared.program.Kind.{Kind}

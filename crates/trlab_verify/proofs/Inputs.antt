@@ -1,6 +1,5 @@
 -- The notes say of the inputs what the start says.
-use Rattle.std.proofs.Common.{◌≡◌, ℕ, zero, suc, ◌+◌, ◌<◌, min, max, refl, sym, subst, arith, List, Bool, true, false, Option, Some, None, nat_eq}
-use Rattle.std.specs.Prelude.{slice_get, IfSome}
+use Rattle.std.proofs.Common.{◌≡◌, ℕ, zero, suc, ◌+◌, ◌<◌, min, max, refl, sym, subst, arith, List, Bool, true, false, Option, Some, None, nat_eq, slice_get, IfSome}
 use Rattle.trlab_code.specs.declared.program.Kind.{Kind}
 use Rattle.trlab_code.specs.declared.instruction.Input.{Input}
 use Rattle.trlab_code.specs.declared.instruction.Input.TheVariants.{Speed, Limit, Gap, SideGap, SideBack, Lane, Headspeed}

@@ -1,6 +1,5 @@
 -- Where an instruction has no fault, its note has no reason against it.
-use Rattle.std.proofs.Common.{◌≡◌, ℕ, refl, subst, length, Option, Some, None}
-use Rattle.std.specs.Prelude.{slice_get}
+use Rattle.std.proofs.Common.{◌≡◌, ℕ, refl, subst, length, Option, Some, None, slice_get}
 use Rattle.std.specs.Option.{option_map}
 use Rattle.trlab_code.specs.declared.program.Kind.{Kind}
 use Rattle.trlab_code.specs.declared.instruction.Instr.{Instr}

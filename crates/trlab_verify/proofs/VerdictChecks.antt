@@ -1,6 +1,5 @@
 -- The notes of an accepted program check.
-use Rattle.std.proofs.Common.{◌≡◌, ◌∙◌, ℕ, zero, suc, ◌<◌, ◌≤◌, refl, sym, ap, subst, arith, inl, inr, List, length, Bool, true, false, Option, Some, None, nat_eq, nat_le}
-use Rattle.std.specs.Prelude.{slice_get, IfSome, map}
+use Rattle.std.proofs.Common.{◌≡◌, ◌∙◌, ℕ, zero, suc, ◌<◌, ◌≤◌, refl, sym, ap, subst, arith, inl, inr, List, length, Bool, true, false, Option, Some, None, nat_eq, nat_le, slice_get, IfSome, map}
 use Rattle.std.specs.List.{range_with_len}
 use Rattle.std.proofs.lemmas.List.{get_or_past}
 use Rattle.std.proofs.lemmas.List.FromFn.{get_or-map-range_with_len, length-map-range_with_len}

@@ -1,6 +1,5 @@
 -- The longest way from an instruction, from the longest ways of those that may follow it.
-use Rattle.std.proofs.Common.{◌≡◌, ℕ, zero, suc, ◌+◌, ◌<◌, ◌≤◌, ◌&&◌, ◌||◌, max, cond, refl, sym, ap, subst, arith, ◌⊎◌, inl, inr, List, length, Bool, true, false, IsTrue, Option, Some, None, IfSome, nat_eq, add-one, ◌∙◌}
-use Rattle.std.specs.Prelude.{slice_get}
+use Rattle.std.proofs.Common.{◌≡◌, ℕ, zero, suc, ◌+◌, ◌<◌, ◌≤◌, ◌&&◌, ◌||◌, max, cond, refl, sym, ap, subst, arith, ◌⊎◌, inl, inr, List, length, Bool, true, false, IsTrue, Option, Some, None, IfSome, nat_eq, add-one, ◌∙◌, slice_get}
 use Rattle.std.specs.Option.{option_map_or}
 use Rattle.std.proofs.lemmas.Bool.{eq-eqb, eqb-true, cases_lt}
 use Rattle.std.proofs.lemmas.Option.{slice_get_within}

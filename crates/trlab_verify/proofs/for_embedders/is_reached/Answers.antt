@@ -1,5 +1,4 @@
-use Rattle.std.proofs.Common.{◌≡◌, ◌∙◌, ℕ, suc, ◌&&◌, ◌||◌, sym, subst, refl, arith, nat_eq, below_more, Bool, false, IsTrue, List, Some, get_or}
-use Rattle.std.specs.Prelude.{slice_get}
+use Rattle.std.proofs.Common.{◌≡◌, ◌∙◌, ℕ, suc, ◌&&◌, ◌||◌, sym, subst, refl, arith, nat_eq, below_more, Bool, false, IsTrue, List, Some, get_or, slice_get}
 use Rattle.std.proofs.lemmas.Option.{slice_get-get_or, slice_get_within}
 use Rattle.trlab_code.specs.Flow.{falls, target, on_target}
 use Rattle.trlab_code.specs.declared.instruction.Instr.{Instr}
