@@ -9,8 +9,7 @@ use Rattle.trlab_code.specs.declared.view.View.{View}
 use Rattle.trlab_code.specs.Program.{Program}
 use Rattle.trlab_verify.specs.Verified.{CheckedProgram}
 use Rattle.trlab_verify.specs.Verdict.{IsAccepted}
-use Rattle.trlab_rules.specs.Laws.{ComputesSpeed, ComputesCrossing}
-use Rattle.trlab_rules.specs.StandardRules.{IsMotionComputing, IsChangeComputing}
+use Rattle.trlab_rules.specs.Rules.{ComputesSpeed, ComputesCrossing, IsMotionComputing, IsChangeComputing}
 
 -- a program of these instructions
 abbrev pub program_of : Kind → List Instr → Program

@@ -2,8 +2,7 @@
 
 ghost use Rattle.std.specs.Prelude.{◌≡◌, IfOk, IfErr};
 ghost use Rattle.trlab_rules.specs.declared.standard.StandardFault.TheVariants.{Memory};
-ghost use Rattle.trlab_rules.specs.Rules.{IsRule};
-ghost use Rattle.trlab_rules.specs.StandardRules.{IsNasch, IsVdr, IsRickert, IsMotionComputing, IsChangeComputing};
+ghost use Rattle.trlab_rules.specs.Rules.{IsRule, IsNasch, IsVdr, IsRickert, IsMotionComputing, IsChangeComputing};
 ghost use Rattle.trlab_code.specs.Program.{Program, IsValidProgram};
 ghost use Rattle.trlab_verify.specs.Verdict.{IsAccepted};
 ghost use Rattle.trlab_rules.specs.Published.{nasch_speed, vdr_speed, rickert_crosses};
