@@ -17,9 +17,7 @@ use Rattle.trlab_road.specs.Legal.{IsLegal}
 use Rattle.trlab_road.proofs.LaneChangeLaws.{came_from, lane_change_legal, lane_change_none_lost, lane_change_same_count}
 use Rattle.trlab_road.proofs.MotionLaws.{on_lane}
 use Rattle.trlab_rules.specs.Published.{brake, safe_speed, nasch_speed, rickert_crosses, vdr_braking_chance, vdr_speed}
-use Rattle.trlab_rules.specs.StandardRules.{IsChangeComputing}
-use Rattle.trlab_rules.specs.Laws.{ComputesCrossing, ComputesSpeed}
-use Rattle.trlab_rules.specs.Rules.{Programs}
+use Rattle.trlab_rules.specs.Rules.{IsChangeComputing, ComputesCrossing, ComputesSpeed, Programs}
 use Rattle.trlab_rules.specs.Standard.{rickert_program}
 use Rattle.trlab_machine.specs.declared.dice.Dice.{Dice}
 use Rattle.trlab_machine.specs.Blocks.{words_of}

@@ -20,7 +20,7 @@ use Rattle.trlab_road.proofs.MotionLaws.{on_lane}
 use Rattle.trlab_road.proofs.Ring.{car_in}
 use Rattle.trlab_rules.specs.Published.{rickert_crosses}
 use Rattle.trlab_rules.specs.Standard.{rickert_program}
-use Rattle.trlab_rules.specs.StandardRules.{IsChangeComputing}
+use Rattle.trlab_rules.specs.Rules.{IsChangeComputing}
 use Rattle.trlab_step.specs.Answers.{change_view_of, motion_view_of}
 use Rattle.trlab_step.specs.Next.{IsLaneChangePhase, IsMotionPhase, crossing_cars, stopped_cars, total_speed}
 use Rattle.trlab_step.specs.Run.{dice_at}

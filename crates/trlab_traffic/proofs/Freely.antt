@@ -14,8 +14,7 @@ use Rattle.trlab_road.specs.Standing.{standing}
 use Rattle.trlab_road.proofs.MotionLaws.{on_lane}
 use Rattle.trlab_road.proofs.Ring.{car_in, clear_within_gap, inside}
 use Rattle.trlab_road.proofs.StandingOrder.{length-standing_from_lane, standing_cell}
-use Rattle.trlab_rules.specs.Rules.{Programs}
-use Rattle.trlab_rules.specs.StandardRules.{IsNasch}
+use Rattle.trlab_rules.specs.Rules.{Programs, IsNasch}
 use Rattle.trlab_rules.specs.Published.{safe_speed}
 use Rattle.trlab_step.specs.declared.tally.StepTally.{StepTally}
 use Rattle.trlab_step.specs.Laws.{IsLegalLike}

@@ -11,9 +11,8 @@ use Rattle.trlab_road.specs.Legal.{IsLegal}
 use Rattle.trlab_road.specs.Motion.{LaneMoves}
 use Rattle.trlab_road.proofs.ListGaps.{clear_from}
 use Rattle.trlab_road.proofs.Ring.{car_in, clear_within_gap, ends_before, inside}
-use Rattle.trlab_rules.specs.Laws.{ComputesSpeed}
+use Rattle.trlab_rules.specs.Rules.{ComputesSpeed, Programs}
 use Rattle.trlab_rules.specs.Published.{brake, nasch_speed, safe_speed, vdr_braking_chance}
-use Rattle.trlab_rules.specs.Rules.{Programs}
 use Rattle.trlab_step.specs.declared.tally.StepTally.{StepTally}
 use Rattle.trlab_step.specs.Next.{IsNext}
 use Rattle.trlab_step.specs.Run.{IsRoadAt, Seed, dice_at}

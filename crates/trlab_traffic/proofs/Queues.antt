@@ -8,8 +8,7 @@ use Rattle.trlab_road.specs.Gaps.{ahead, behind, gap, next_place}
 use Rattle.trlab_road.specs.Legal.{IsLegal}
 use Rattle.trlab_road.proofs.MotionLaws.{on_lane}
 use Rattle.trlab_road.proofs.Ring.{car_in, clear_within_gap, ends_before, inside}
-use Rattle.trlab_rules.specs.Rules.{Programs}
-use Rattle.trlab_rules.specs.StandardRules.{IsNasch}
+use Rattle.trlab_rules.specs.Rules.{Programs, IsNasch}
 use Rattle.trlab_rules.specs.Published.{safe_speed}
 use Rattle.trlab_step.specs.Next.{IsNext}
 use Rattle.trlab_step.specs.Run.{IsRoadAt, Seed, Sheet, dice_at}

@@ -15,8 +15,7 @@ use Rattle.trlab_road.specs.Standing.{standing_from}
 use Rattle.trlab_road.proofs.MotionLaws.{lane_same_count}
 use Rattle.trlab_road.proofs.Ring.{apart_within_gaps, blocked, clear_within_gap, inside}
 use Rattle.trlab_road.proofs.StandingOrder.{length-standing_from, rank_below}
-use Rattle.trlab_rules.specs.Rules.{Programs}
-use Rattle.trlab_rules.specs.StandardRules.{IsNasch}
+use Rattle.trlab_rules.specs.Rules.{Programs, IsNasch}
 use Rattle.trlab_step.specs.declared.tally.StepTally.{StepTally}
 use Rattle.trlab_step.specs.Laws.{IsLegalLike}
 use Rattle.trlab_step.specs.Run.{ComesTo, Seed}

@@ -20,11 +20,9 @@ use Rattle.trlab_road.proofs.LaneChangeLaws.{came_from, lane_change_none_lost}
 use Rattle.trlab_road.proofs.MotionLaws.{on_lane}
 use Rattle.trlab_road.proofs.Numbers.{all_present}
 use Rattle.trlab_road.proofs.Ring.{car_in, clear_at, clear_within_gap, greatest_passes, inside}
-use Rattle.trlab_rules.specs.Laws.{ComputesCrossing, ComputesSpeed}
+use Rattle.trlab_rules.specs.Rules.{ComputesCrossing, ComputesSpeed, Programs, IsChangeComputing}
 use Rattle.trlab_rules.specs.Published.{brake, happens_at, nasch_speed, rickert_crosses, safe_speed, vdr_braking_chance}
-use Rattle.trlab_rules.specs.Rules.{Programs}
 use Rattle.trlab_rules.specs.Standard.{rickert_program}
-use Rattle.trlab_rules.specs.StandardRules.{IsChangeComputing}
 use Rattle.trlab_step.specs.declared.tally.StepTally.{StepTally}
 use Rattle.trlab_step.specs.Answers.{AnswersCrossings, change_view_of, motion_view_of}
 use Rattle.trlab_step.specs.Next.{IsLaneChangePhase, IsMotionPhase, IsNext, stopped_cars, total_speed}

@@ -18,8 +18,7 @@ use Rattle.trlab_road.proofs.MotionLaws.{one_road_only}
 use Rattle.trlab_road.proofs.Ring.{car_in, inside}
 use Rattle.trlab_road.proofs.StandingOrder.{length-standing_from_lane, standing_cell}
 use Rattle.trlab_rules.specs.Published.{brake, safe_speed, vdr_braking_chance, vdr_speed}
-use Rattle.trlab_rules.specs.Rules.{Programs}
-use Rattle.trlab_rules.specs.StandardRules.{IsVdr}
+use Rattle.trlab_rules.specs.Rules.{Programs, IsVdr}
 use Rattle.trlab_step.specs.declared.tally.StepTally.{StepTally}
 use Rattle.trlab_step.specs.Next.{IsNext, total_speed}
 use Rattle.trlab_step.specs.Run.{ComesTo, Seed, dice_at}

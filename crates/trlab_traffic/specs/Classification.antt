@@ -4,8 +4,7 @@ use Rattle.std.specs.Prelude.{◌≡◌, ℕ, ◌+◌, ◌*◌, ◌<◌, ◌≤�
 use Rattle.trlab_road.specs.Cells.{Cells, Lane, lane_car_count, lane_of}
 use Rattle.trlab_road.specs.Gaps.{ahead}
 use Rattle.trlab_road.specs.Legal.{IsLegal}
-use Rattle.trlab_rules.specs.Rules.{Programs}
-use Rattle.trlab_rules.specs.StandardRules.{IsNasch}
+use Rattle.trlab_rules.specs.Rules.{Programs, IsNasch}
 use Rattle.trlab_step.specs.Run.{Seed, IsRoadAt}
 use Rattle.trlab_traffic.specs.DetectorRuns.{min_of_cars_and_empty_cells}
 use Rattle.trlab_traffic.specs.Rule184.{is_taken}

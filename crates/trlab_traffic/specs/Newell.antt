@@ -6,8 +6,7 @@ use Rattle.trlab_road.specs.Cells.{Cells, Lane, IsAt, lane_of}
 use Rattle.trlab_road.specs.Gaps.{gap, next_place}
 use Rattle.trlab_road.specs.Legal.{IsLegal}
 use Rattle.trlab_road.specs.Standing.{standing}
-use Rattle.trlab_rules.specs.Rules.{Programs}
-use Rattle.trlab_rules.specs.StandardRules.{IsNasch}
+use Rattle.trlab_rules.specs.Rules.{Programs, IsNasch}
 use Rattle.trlab_step.specs.declared.tally.StepTally.{StepTally}
 use Rattle.trlab_step.specs.Run.{Seed, Sheet, ComesTo, IsRoadAt}
 use Rattle.trlab_traffic.specs.Fastest.{ReachesSpeedAtOnce}

@@ -6,8 +6,7 @@ use Rattle.trlab_road.specs.declared.car.Car.{Car}
 use Rattle.trlab_road.specs.Cells.{Cells, IsAt, lane_of}
 use Rattle.trlab_road.specs.Gaps.{ahead}
 use Rattle.trlab_road.specs.Legal.{IsLegal}
-use Rattle.trlab_rules.specs.Rules.{Programs}
-use Rattle.trlab_rules.specs.StandardRules.{IsVdr}
+use Rattle.trlab_rules.specs.Rules.{Programs, IsVdr}
 use Rattle.trlab_step.specs.Published.{happens_to}
 use Rattle.trlab_step.specs.Run.{Seed, Sheet, IsRoadAt, dice_at}
 use Rattle.trlab_traffic.specs.Runs.{always}

@@ -5,8 +5,7 @@ use Rattle.trlab_road.specs.declared.car.Car.{Car}
 use Rattle.trlab_road.specs.Cells.{Cells, Lane, IsAt, lane_of}
 use Rattle.trlab_road.specs.Gaps.{behind, gap}
 use Rattle.trlab_road.specs.Legal.{IsLegal}
-use Rattle.trlab_rules.specs.Rules.{Programs}
-use Rattle.trlab_rules.specs.StandardRules.{IsNasch}
+use Rattle.trlab_rules.specs.Rules.{Programs, IsNasch}
 use Rattle.trlab_step.specs.Published.{car_after_motion}
 use Rattle.trlab_step.specs.Run.{Seed, Sheet, IsRoadAt}
 use Rattle.trlab_traffic.specs.Jams.{stopped_car}

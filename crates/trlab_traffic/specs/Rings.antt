@@ -7,8 +7,7 @@ use Rattle.trlab_words.specs.Words.{random_word}
 use Rattle.trlab_road.specs.Cells.{Cell, Cells, Lane, lane_of}
 use Rattle.trlab_road.specs.Gaps.{ahead, behind}
 use Rattle.trlab_road.specs.Legal.{IsLegal}
-use Rattle.trlab_rules.specs.Rules.{Programs}
-use Rattle.trlab_rules.specs.StandardRules.{IsNasch}
+use Rattle.trlab_rules.specs.Rules.{Programs, IsNasch}
 use Rattle.trlab_machine.specs.declared.dice.Dice.{Dice}
 use Rattle.trlab_step.specs.declared.tally.StepTally.{StepTally}
 use Rattle.trlab_step.specs.Next.{IsNext}

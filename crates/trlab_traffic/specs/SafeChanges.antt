@@ -8,10 +8,8 @@ use Rattle.trlab_code.specs.Views.{IsViewInRange}
 use Rattle.trlab_road.specs.declared.car.Car.{Car}
 use Rattle.trlab_road.specs.Cells.{Cells, IsAt}
 use Rattle.trlab_road.specs.Legal.{IsLegal}
-use Rattle.trlab_rules.specs.Laws.{ComputesSpeed}
+use Rattle.trlab_rules.specs.Rules.{ComputesSpeed, Programs, IsNasch, IsRickert, IsVdr}
 use Rattle.trlab_rules.specs.Published.{nasch_speed, vdr_speed}
-use Rattle.trlab_rules.specs.Rules.{Programs}
-use Rattle.trlab_rules.specs.StandardRules.{IsNasch, IsRickert, IsVdr}
 use Rattle.trlab_machine.specs.declared.dice.Dice.{Dice}
 use Rattle.trlab_verify.specs.Verified.{CheckedProgram}
 use Rattle.trlab_step.specs.declared.tally.StepTally.{StepTally}

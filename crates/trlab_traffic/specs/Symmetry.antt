@@ -4,8 +4,7 @@ use Rattle.trlab_code.specs.declared.instruction.Input.TheVariants.{Lane}
 use Rattle.trlab_code.specs.declared.instruction.Instr.{Instr}
 use Rattle.trlab_code.specs.declared.instruction.Instr.TheVariants.{Get}
 use Rattle.trlab_road.specs.Cells.{Cells, lane_of}
-use Rattle.trlab_rules.specs.Rules.{Programs}
-use Rattle.trlab_rules.specs.StandardRules.{IsRickert}
+use Rattle.trlab_rules.specs.Rules.{Programs, IsRickert}
 use Rattle.trlab_machine.specs.declared.dice.Dice.{Dice}
 use Rattle.trlab_step.specs.declared.tally.StepTally.{StepTally}
 use Rattle.trlab_step.specs.Next.{IsNext}
