@@ -1,7 +1,6 @@
 -- Notes that are given by ranges and a few facts about the order, and a test of whether a table of them
 -- checks.
-use Rattle.std.proofs.Common.{◌≡◌, ℕ, zero, suc, ◌+◌, ◌<◌, ◌≤◌, ◌&&◌, ◌||◌, not, refl, sym, subst, arith, inl, inr, List, [], ◌∷◌, length, Bool, true, false, IsTrue, Option, Some, None, nat_eq, nat_le, cond, get_or}
-use Rattle.std.specs.Prelude.{slice_get, IfSome}
+use Rattle.std.proofs.Common.{◌≡◌, ℕ, zero, suc, ◌+◌, ◌<◌, ◌≤◌, ◌&&◌, ◌||◌, not, refl, sym, subst, arith, inl, inr, List, [], ◌∷◌, length, Bool, true, false, IsTrue, Option, Some, None, nat_eq, nat_le, cond, get_or, slice_get, IfSome}
 use Rattle.std.specs.List.{list_all}
 use Rattle.std.proofs.lemmas.Bool.{leb-true, eqb-true, and_parts, or_cases}
 use Rattle.trlab_code.specs.declared.program.Kind.{Kind}
