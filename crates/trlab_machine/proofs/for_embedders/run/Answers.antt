@@ -3,7 +3,7 @@ use Rattle.std.proofs.lemmas.Bool.{eq-eqb, ne_eqb}
 use Rattle.trlab_machine.proofs.Underway.{inside, more}
 use Rattle.trlab_machine.proofs.OnWay.{starts, wrote, fell, jumped, ended}
 use Rattle.trlab_machine.proofs.Stores.{at_written, at_others}
-use Rattle.trlab_machine.proofs.run.run.Goals as goal
+use Rattle.trlab_machine.proofs.for_embedders.run.Goals as goal
 
 pub run-init : goal.run-init
 run-init c = record { eight = search rules; car = starts _ _ _ _ _ _ c.requires.safe c.requires.seen c.told-words }

@@ -1,18 +1,90 @@
-//! Runs an accepted program for one car, on given random words, and counts its instructions.
+//! Runs an accepted program for one car, on given random words, and counts its instructions. A block cannot do this: it
+//! makes the words of its cars itself, and counts nothing.
 //!
-//! A block cannot do this: it makes the words of its cars itself, and counts nothing.
+//! Programs that embed trlab call this, and so do its tests. A run of trlab itself calls `run_motions` and
+//! `run_changes`.
 
-ghost use Rattle.std.specs.Prelude.{◌≡◌, ◌≤◌, All, length};
-ghost use Rattle.trlab_code.specs.Machine.{IsSafe, EndsWith};
+ghost use Rattle.std.specs.Prelude.{◌≡◌, ◌≤◌, All, IsTrue, length};
+ghost use Rattle.trlab_code.specs.declared.program.Kind.TheVariants.{Change as OfChange, Motion as OfMotion};
+ghost use Rattle.trlab_code.specs.Machine.{IsSafe, EndsWith, Goes};
 ghost use Rattle.trlab_code.specs.Program.{IsInRange};
 ghost use Rattle.trlab_code.specs.Views.{IsViewInRange};
+ghost use Rattle.trlab_machine.specs.Crossings.{crossing_answer};
 ghost use Rattle.trlab_machine.specs.Stored.{answer_of, number_in, result_number};
 ghost use Rattle.trlab_words.specs.Chances.{happens_on};
 
 use crate::columns::REGISTER_COUNT;
 use crate::role::{Role, role_of};
 use crate::views::seen;
-use trlab_code::{Instr, Kind, MAX_INSTRUCTIONS, Register, View, WORDS};
+use trlab_code::{ChangeView, Instr, Kind, MAX_INSTRUCTIONS, MotionView, Register, View, WORDS};
+use trlab_verify::{Change, Motion};
+
+/// The result of a motion program.
+#[derive(Clone, Copy, PartialEq, Eq)]
+pub struct Moved {
+    /// The car's new speed, in cells per step.
+    pub speed: u32,
+    /// The number of executed instructions, including the end.
+    pub steps: u32,
+}
+
+/// Runs an accepted motion program for one car, on the car's view and its sixteen random words.
+///
+/// The new speed is at most the gap and the limit. This always succeeds and allocates nothing.
+#[tactic(auto, using(crate::proofs::Speeds::speed_allowed))]
+pub fn run_motion(program: &Motion, view: MotionView, words: &[u32; WORDS]) -> Moved
+    ensures ends { EndsWith OfMotion program.now.program.instrs view words.now
+        (Goes result.speed) result.steps }
+    ensures within { result.steps ≤ program.now.budget }
+    ensures gap { result.speed ≤ view.gap }
+    ensures limit { result.speed ≤ view.limit }
+{
+    let seen = view.get();
+    let ended = run(
+        Kind::Motion,
+        program.code().instrs(),
+        program.budget(),
+        &seen,
+        words,
+    );
+    Moved {
+        speed: ended.answer,
+        steps: ended.steps,
+    }
+}
+
+/// The result of a change program.
+#[derive(Clone, Copy, PartialEq, Eq)]
+pub struct Chosen {
+    /// Whether the car crosses to the other lane.
+    pub cross: bool,
+    /// The number of executed instructions, including the end.
+    pub steps: u32,
+}
+
+/// Runs an accepted change program for one car, on the car's view and its sixteen random words.
+///
+/// The car crosses only if its side cell is empty. This always succeeds and allocates nothing.
+#[tactic(auto, using(crate::proofs::Crossings::crossing_allowed))]
+pub fn run_change(program: &Change, view: ChangeView, words: &[u32; WORDS]) -> Chosen
+    ensures ends { EndsWith OfChange program.now.program.instrs view words.now
+        (crossing_answer result.cross) result.steps }
+    ensures within { result.steps ≤ program.now.budget }
+    ensures side { IsTrue result.cross → IsTrue view.side }
+{
+    let seen = view.get();
+    let ended = run(
+        Kind::Change,
+        program.code().instrs(),
+        program.budget(),
+        &seen,
+        words,
+    );
+    Chosen {
+        cross: ended.answer == 1,
+        steps: ended.steps,
+    }
+}
 
 /// The number in each register; any number before the program writes one.
 type Registers = [u32; REGISTER_COUNT];
