@@ -9,7 +9,7 @@ ghost use Rattle.trlab_code.specs.declared.program.Kind.TheVariants.{Change as O
 ghost use Rattle.trlab_code.specs.Machine.{IsSafe, EndsWith, Goes};
 ghost use Rattle.trlab_code.specs.Program.{IsInRange};
 ghost use Rattle.trlab_code.specs.Views.{IsViewInRange};
-ghost use Rattle.trlab_machine.specs.Crossings.{crossing_answer};
+ghost use Rattle.trlab_machine.specs.Answers.{crossing_answer};
 ghost use Rattle.trlab_machine.specs.Stored.{answer_of, number_in, result_number};
 ghost use Rattle.trlab_words.specs.Chances.{happens_on};
 
