@@ -6,7 +6,7 @@ use Rattle.trlab_code.specs.declared.view.View.{View}
 use Rattle.trlab_code.specs.Machine.{EndsWith, Goes}
 use Rattle.trlab_code.specs.Views.{IsViewInRange, motion_view}
 use Rattle.trlab_machine.specs.Blocks.{CrossesWith, MovesWith, with_other_lane}
-use Rattle.trlab_machine.specs.Crossings.{crossing_answer}
+use Rattle.trlab_machine.specs.Answers.{crossing_answer}
 use Rattle.trlab_road.specs.declared.car.Car.{Car}
 use Rattle.trlab_road.specs.Cells.{Cells, lane_of, IsAt}
 use Rattle.trlab_road.specs.LaneChange.{other_lane, sides}

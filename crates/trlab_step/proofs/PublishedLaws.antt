@@ -7,7 +7,7 @@ use Rattle.trlab_words.proofs.RandomWords.{slice_index-random_words}
 use Rattle.trlab_code.specs.declared.program.Kind.TheVariants.{Change}
 use Rattle.trlab_code.specs.declared.view.View.{View}
 use Rattle.trlab_code.specs.Machine.{Answer, Crosses as EndsAcross, Stays, EndsWith}
-use Rattle.trlab_machine.specs.Crossings.{crossing_answer}
+use Rattle.trlab_machine.specs.Answers.{crossing_answer}
 use Rattle.trlab_verify.specs.Verified.{CheckedProgram}
 use Rattle.trlab_road.specs.Cells.{Cell, Cells, cars, cell, lane_of, IsAt}
 use Rattle.trlab_road.specs.LaneChange.{ChangesLanes, CrossesToEmpty, other_lane, car_after_crossing}

@@ -6,8 +6,7 @@ use Rattle.trlab_code.specs.Machine.{EndsWith}
 use Rattle.trlab_verify.specs.Verified.{CheckedProgram}
 use Rattle.trlab_machine.specs.declared.dice.Dice.{Dice}
 use Rattle.trlab_machine.specs.Blocks.{words_of}
-use Rattle.trlab_machine.specs.Crossings.{crossing_answer}
-use Rattle.trlab_machine.specs.Moves.{IsAllowed}
+use Rattle.trlab_machine.specs.Answers.{crossing_answer, IsAllowed}
 use Rattle.trlab_machine.proofs.Crossings.{crossing_allowed}
 use Rattle.trlab_machine.proofs.Speeds.{speed_allowed}
 use Rattle.trlab_road.specs.declared.car.Car.{Car}

@@ -8,7 +8,7 @@ use Rattle.trlab_code.specs.Machine.{Crosses as EndsAcross, Stays, EndsWith}
 use Rattle.trlab_verify.specs.Verified.{CheckedProgram}
 use Rattle.trlab_machine.specs.declared.dice.Dice.{Dice}
 use Rattle.trlab_machine.specs.Blocks.{words_of}
-use Rattle.trlab_machine.specs.Crossings.{crossing_answer}
+use Rattle.trlab_machine.specs.Answers.{crossing_answer}
 use Rattle.trlab_machine.proofs.Answers.{one_answer}
 use Rattle.trlab_road.specs.declared.car.Car.{Car}
 use Rattle.trlab_road.specs.Cells.{Cell, Cells, IsAt, Lane, at, cars, cell, lane_of}
