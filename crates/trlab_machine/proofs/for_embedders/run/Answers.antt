@@ -1,5 +1,4 @@
-use Rattle.std.proofs.Common.{rules, ◌+◌, ◌*◌, ◌<◌, ◌≤◌, length, arith, sym, ◌∙◌, add-one}
-use Rattle.std.proofs.lemmas.Bool.{eq-eqb, ne_eqb}
+use Rattle.std.proofs.Common.{rules, ◌+◌, ◌*◌, ◌<◌, ◌≤◌, length, arith, sym, ◌∙◌, add-one, eq-eqb, ne_eqb}
 use Rattle.trlab_machine.proofs.Underway.{inside, more}
 use Rattle.trlab_machine.proofs.OnWay.{starts, wrote, fell, jumped, ended}
 use Rattle.trlab_machine.proofs.Stores.{at_written, at_others}
