@@ -8,8 +8,8 @@ use Rattle.trlab_road.specs.LaneChange.{ChangesLanes, IsCleanLaneChange}
 use Rattle.trlab_road.specs.Motion.{Moves, IsCleanMotion}
 use Rattle.trlab_verify.specs.Verified.{CheckedProgram}
 use Rattle.trlab_rules.specs.Rules.{Programs}
-use Rattle.trlab_step.specs.declared.step.StepFault.{StepFault}
-use Rattle.trlab_step.specs.declared.step.StepFault.TheVariants.{LanesMismatch}
+use Rattle.trlab_step.specs.declared.for_embedders.StepFault.{StepFault}
+use Rattle.trlab_step.specs.declared.for_embedders.StepFault.TheVariants.{LanesMismatch}
 use Rattle.trlab_step.specs.declared.tally.StepTally.{StepTally}
 use Rattle.trlab_machine.specs.declared.dice.Dice.{Dice}
 use Rattle.trlab_step.specs.Answers.{AnswersSpeeds, AnswersCrossings}

@@ -5,10 +5,10 @@ use Rattle.trlab_road.specs.Cells.{Cells}
 use Rattle.trlab_road.specs.Legal.{IsLegal}
 use Rattle.trlab_rules.specs.Rules.{Programs}
 use Rattle.trlab_machine.specs.declared.dice.Dice.{Dice}
-use Rattle.trlab_step.specs.declared.step.StepFault.TheVariants.{LanesMismatch, Memory}
+use Rattle.trlab_step.specs.declared.for_embedders.StepFault.TheVariants.{LanesMismatch, Memory}
 use Rattle.trlab_step.specs.declared.tally.StepTally.{StepTally}
 use Rattle.trlab_step.specs.Next.{IsStepResult, IsNext, IsCleanNext}
-use Rattle.trlab_step.proofs.step.step_road_by.Goals as goal
+use Rattle.trlab_step.proofs.for_embedders.step_road_by.Goals as goal
 
 differ : (b : Bool) → b ≡ true → b ≡ false → ⊥
 differ b t f = cc

@@ -1,5 +1,5 @@
 use Rattle.std.proofs.Common.{arith}
-use Rattle.trlab_step.proofs.motion.commit_motion.Goals as goal
+use Rattle.trlab_step.proofs.for_embedders.commit_motion.Goals as goal
 
 pub speeds_to_bytes-requires : goal.speeds_to_bytes-requires
 speeds_to_bytes-requires c k low =

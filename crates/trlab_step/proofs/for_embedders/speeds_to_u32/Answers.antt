@@ -1,6 +1,6 @@
 use Rattle.std.proofs.Common.{◌∙◌, ◌++◌, [], ◌∷◌, take, ap, sym, arith}
 use Rattle.std.proofs.lemmas.List.{take_more, take_all}
-use Rattle.trlab_step.proofs.motion.speeds_to_u32.Goals as goal
+use Rattle.trlab_step.proofs.for_embedders.speeds_to_u32.Goals as goal
 
 pub loop-speed-init : goal.loop-speed-init
 loop-speed-init c = c.in_ok-numbers.ensures.items

@@ -2,7 +2,7 @@ use Rattle.std.proofs.lemmas.Result.{err_from_is_err_and}
 use Rattle.std.proofs.Common.{subst}
 use Rattle.trlab_step.specs.Answers.{IsSpeedsPart}
 use Rattle.trlab_step.proofs.AskedCars.{same_dice}
-use Rattle.trlab_step.proofs.motion.move_part.Goals as goal
+use Rattle.trlab_step.proofs.for_embedders.move_part.Goals as goal
 
 pub compute_speeds-requires-clause-rising : goal.compute_speeds-requires-clause-rising
 compute_speeds-requires-clause-rising c = c.requires.rising

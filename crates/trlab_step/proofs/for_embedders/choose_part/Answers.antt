@@ -2,7 +2,7 @@ use Rattle.std.proofs.lemmas.Result.{err_from_is_err_and}
 use Rattle.std.proofs.Common.{subst}
 use Rattle.trlab_step.specs.Answers.{IsCrossingsPart}
 use Rattle.trlab_step.proofs.AskedCars.{same_dice}
-use Rattle.trlab_step.proofs.lane_change.choose_part.Goals as goal
+use Rattle.trlab_step.proofs.for_embedders.choose_part.Goals as goal
 
 pub compute_crossings-requires-clause-rising : goal.compute_crossings-requires-clause-rising
 compute_crossings-requires-clause-rising c = c.requires.rising
