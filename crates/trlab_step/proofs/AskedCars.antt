@@ -16,8 +16,7 @@ use Rattle.trlab_road.specs.Motion.{gaps}
 use Rattle.trlab_road.specs.Standing.{IsNthCar}
 use Rattle.trlab_machine.specs.declared.dice.Dice.{Dice}
 use Rattle.trlab_machine.specs.Blocks.{words_of}
-use Rattle.trlab_step.specs.Answers.{AnswersCrossing, AnswersSpeed, change_view_of, dice_of, motion_view_of}
-use Rattle.trlab_step.specs.Block.{DescribesCar}
+use Rattle.trlab_step.specs.Answers.{AnswersCrossing, AnswersSpeed, change_view_of, dice_of, motion_view_of, DescribesCar}
 use Rattle.trlab_verify.specs.Verified.{CheckedProgram}
 use Rattle.trlab_step.proofs.AnswersExist.{change_view_is_view, motion_view_is_view}
 use Rattle.trlab_step.proofs.Parts.{same_beside, same_view}

@@ -7,8 +7,7 @@ use Rattle.trlab_machine.specs.declared.dice.Dice.{Dice}
 use Rattle.trlab_machine.specs.declared.views.Views.{Views}
 use Rattle.trlab_machine.specs.Blocks.{CrossesWith, MovesWith, car_words, view_of}
 use Rattle.trlab_road.specs.Cells.{Cells}
-use Rattle.trlab_step.specs.Answers.{AnswersCrossing, AnswersCrossingsPart, AnswersSpeed, AnswersSpeedsPart, CrossingsFitPart, SpeedsFitPart}
-use Rattle.trlab_step.specs.Block.{DescribesCar}
+use Rattle.trlab_step.specs.Answers.{AnswersCrossing, AnswersCrossingsPart, AnswersSpeed, AnswersSpeedsPart, CrossingsFitPart, SpeedsFitPart, DescribesCar}
 use Rattle.trlab_step.proofs.AskedCars.{CrossesBy, GoesBy, crosses_by, goes_by}
 use Rattle.trlab_step.proofs.PartLaws.{more_answers}
 use Rattle.trlab_step.proofs.Parts.{more_fits, more_free}

@@ -5,12 +5,11 @@ use Rattle.trlab_bounds.specs.declared.roads.TheConstants.{MAX_LIMIT}
 use Rattle.trlab_road.specs.Cells.{Cells}
 use Rattle.trlab_road.specs.Legal.{IsLegal}
 use Rattle.trlab_rules.specs.Rules.{Programs}
-use Rattle.trlab_step.specs.Laws.{IsRuleFor, IsSheetFor, IsLegalLike}
-use Rattle.trlab_step.specs.Run.{Seed, Sheet, in_force, tally_sum, dice_at, ComesTo}
+use Rattle.trlab_step.specs.Run.{IsRuleFor, IsSheetFor, Seed, Sheet, in_force, tally_sum, dice_at, ComesTo, Progress, IsReachedByRun}
+use Rattle.trlab_step.specs.Laws.{IsLegalLike}
 use Rattle.trlab_step.specs.Next.{IsNext}
 use Rattle.trlab_step.specs.declared.tally.StepTally.{StepTally}
 use Rattle.trlab_step.proofs.RunLaws.{force_all, run_comes_to_road, road_is_one}
-use Rattle.trlab_step.specs.Progress.{Progress, IsReachedByRun}
 use Rattle.trlab_step.proofs.Counts.{IsSmall, small_tally}
 
 -- the road to which a run comes is like the one from which it started

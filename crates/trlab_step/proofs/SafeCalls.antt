@@ -13,9 +13,7 @@ use Rattle.trlab_machine.proofs.Answers.{one_answer}
 use Rattle.trlab_road.specs.Cells.{Cells}
 use Rattle.trlab_road.specs.Legal.{IsLegal}
 use Rattle.trlab_rules.specs.Rules.{IsRule, Programs}
-use Rattle.trlab_step.specs.Answers.{change_view_of, motion_view_of}
-use Rattle.trlab_step.specs.Block.{view_for_kind}
-use Rattle.trlab_step.specs.Calls.{AreSafeCalls, StepCallsAreSafe}
+use Rattle.trlab_step.specs.Answers.{change_view_of, motion_view_of, view_for_kind, AreSafeCalls, StepCallsAreSafe}
 use Rattle.trlab_step.specs.Laws.{CrossingsComeWithinBudget, SpeedsComeWithinBudget, ViewsAreInRange}
 use Rattle.trlab_step.proofs.AnswersExist.{change_view_is_view, motion_view_is_view}
 

@@ -12,8 +12,7 @@ use Rattle.trlab_step.specs.declared.for_embedders.StepFault.{StepFault}
 use Rattle.trlab_step.specs.declared.for_embedders.StepFault.TheVariants.{LanesMismatch}
 use Rattle.trlab_step.specs.declared.tally.StepTally.{StepTally}
 use Rattle.trlab_machine.specs.declared.dice.Dice.{Dice}
-use Rattle.trlab_step.specs.Answers.{AnswersSpeeds, AnswersCrossings}
-use Rattle.trlab_step.specs.Calls.{StepCallsAreSafe}
+use Rattle.trlab_step.specs.Answers.{AnswersSpeeds, AnswersCrossings, StepCallsAreSafe}
 
 -- the sum of the speeds of all cars on a road
 abbrev pub total_speed : Cells → ℕ
