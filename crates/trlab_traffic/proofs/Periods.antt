@@ -11,9 +11,8 @@ use Rattle.trlab_road.specs.Legal.{IsLegal}
 use Rattle.trlab_road.proofs.MotionLaws.{on_lane}
 use Rattle.trlab_road.proofs.Ring.{car_in, inside}
 use Rattle.trlab_rules.specs.Rules.{Programs}
-use Rattle.trlab_step.specs.Laws.{IsRuleFor, IsSheetFor}
+use Rattle.trlab_step.specs.Run.{IsRuleFor, IsSheetFor, IsRoadAt, Seed, dice_at}
 use Rattle.trlab_step.specs.Next.{IsNext}
-use Rattle.trlab_step.specs.Run.{IsRoadAt, Seed, dice_at}
 use Rattle.trlab_step.proofs.NextLaws.{next_road_is_one}
 use Rattle.trlab_step.proofs.RunLaws.{road_at_is_one, run_comes_to_road}
 use Rattle.trlab_traffic.specs.Triangle.{all_cells, lane_cells}

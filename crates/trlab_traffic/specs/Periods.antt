@@ -3,8 +3,7 @@ use Rattle.std.specs.Prelude.{◌≡◌, ℕ, ◌+◌, ◌*◌, ◌^◌, ◌≤�
 use Rattle.trlab_road.specs.Cells.{Cells, cars}
 use Rattle.trlab_road.specs.Legal.{IsLegal}
 use Rattle.trlab_rules.specs.Rules.{Programs}
-use Rattle.trlab_step.specs.Laws.{IsRuleFor}
-use Rattle.trlab_step.specs.Run.{Seed, Sheet, IsRoadAt}
+use Rattle.trlab_step.specs.Run.{IsRuleFor, Seed, Sheet, IsRoadAt}
 use Rattle.trlab_traffic.specs.Triangle.{all_cells}
 use Rattle.trlab_traffic.specs.Determinism.{IsDeterministic}
 use Rattle.trlab_traffic.specs.Runs.{always}
