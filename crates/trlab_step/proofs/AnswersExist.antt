@@ -1,7 +1,6 @@
 -- Accepted programs answer to each car of a legal road.
-use Rattle.std.proofs.Common.{◌≡◌, ℕ, zero, suc, ◌-◌, ◌<◌, ◌≤◌, Bool, Option, true, false, cond, Some, None, length, refl, subst, arith}
+use Rattle.std.proofs.Common.{◌≡◌, ℕ, zero, suc, ◌-◌, ◌<◌, ◌≤◌, Bool, Option, true, false, cond, Some, None, length, refl, subst, arith, is_none}
 use Rattle.trlab_bounds.specs.declared.roads.TheConstants.{MAX_LENGTH}
-use Rattle.std.specs.Prelude.{is_none}
 use Rattle.trlab_words.proofs.RandomWords.{length-random_words}
 use Rattle.trlab_code.specs.declared.program.Kind.TheVariants.{Motion, Change}
 use Rattle.trlab_code.specs.Views.{IsViewInRange}

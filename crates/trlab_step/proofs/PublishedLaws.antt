@@ -1,6 +1,5 @@
 -- Steps under the published rules, cell by cell.
-use Rattle.std.proofs.Common.{◌≡◌, ℕ, ◌+◌, ◌<◌, ◌&&◌, Bool, true, false, cond, Option, Some, None, List, length, if◌then◌else◌, refl, sym, ◌∙◌, ap, subst, arith}
-use Rattle.std.specs.Prelude.{is_none, nat_lt, slice_index, MatchOption}
+use Rattle.std.proofs.Common.{◌≡◌, ℕ, ◌+◌, ◌<◌, ◌&&◌, Bool, true, false, cond, Option, Some, None, List, length, if◌then◌else◌, refl, sym, ◌∙◌, ap, subst, arith, is_none, nat_lt, slice_index, MatchOption}
 use Rattle.trlab_words.specs.Chances.{happens_on}
 use Rattle.trlab_words.specs.Words.{random_word}
 use Rattle.trlab_words.proofs.RandomWords.{slice_index-random_words}
