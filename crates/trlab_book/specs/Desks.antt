@@ -1,6 +1,6 @@
 -- Desks as callers see them: the calls made through a desk, each with its predecessors in the history.
 use Rattle.std.specs.Prelude.{◌≡◌, ◌↔◌, ℕ, ◌+◌, ◌<◌, ◌≤◌, Bool, true, false, ◌&&◌, IsTrue, Result, Ok, Err, Option, IfOk, OnOk, count_by, List, length, ◌++◌, All, MatchBool}
-use Rattle.trlab_step.specs.Progress.{Progress}
+use Rattle.trlab_step.specs.Run.{Progress}
 use Rattle.trlab_sequential_book.specs.declared.fault.BookFault.{BookFault}
 use Rattle.trlab_sequential_book.specs.declared.book.TheConstants.{MAX_EVENTS}
 use Rattle.trlab_sequential_book.specs.declared.order.Order.{Order}

@@ -23,7 +23,7 @@ use Rattle.trlab_campaign.specs.Triangle.{HasBoundedMovingSpeed, SweepsBoundMovi
 use Rattle.trlab_campaign.specs.SweepOutput.{ArePoints, IsPoint, point_seed, sweep_sheet}
 use Rattle.trlab_campaign.proofs.Points.{some_cells}
 use Rattle.trlab_campaign.proofs.StatedRules.{stated_nasch}
-use Rattle.trlab_rules.specs.StandardRules.{IsNasch}
+use Rattle.trlab_rules.specs.Rules.{IsNasch}
 
 -- the cells of lanes of one length
 equal_lanes : (lanes : List Lane) (n : ℕ) → ((l : ℕ) → l < length lanes → length (get_or lanes l []) ≡ n) → sum_by lane_cells lanes ≡ length lanes * n

@@ -11,12 +11,10 @@ use Rattle.trlab_road.specs.Cells.{Cells, cars, lane_of}
 use Rattle.trlab_road.specs.Legal.{IsLegal}
 use Rattle.trlab_rules.specs.Rules.{Programs}
 use Rattle.trlab_step.specs.declared.tally.StepTally.{StepTally}
-use Rattle.trlab_step.specs.Laws.{IsSheetFor}
+use Rattle.trlab_step.specs.Run.{IsSheetFor, Seed, Sheet, ComesTo, IsRoadAt, IsTallyAt, dice_at, tally_sum, Progress, IsReachedByRun}
 use Rattle.trlab_step.specs.Next.{IsNext}
-use Rattle.trlab_step.specs.Run.{Seed, Sheet, ComesTo, IsRoadAt, IsTallyAt, dice_at, tally_sum}
 use Rattle.trlab_step.proofs.NextLaws.{next_road_is_one}
 use Rattle.trlab_step.proofs.RunLaws.{run_comes_to_road, road_is_one, road_at_is_one}
-use Rattle.trlab_step.specs.Progress.{Progress, IsReachedByRun}
 use Rattle.trlab_campaign.specs.Counting.{IsBoundedCount, IsLaterBy}
 use Rattle.trlab_campaign.specs.SeriesOutput.{AreRoads, IsCourse, IsStepAt, cars_on, lane_count, roads_after, total_speed_on, stopped_on, tallies_from, window_of}
 

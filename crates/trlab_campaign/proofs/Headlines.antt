@@ -7,7 +7,7 @@ use Rattle.trlab_road.specs.Cells.{Cells}
 use Rattle.trlab_road.specs.Legal.{IsLegal}
 use Rattle.trlab_road.specs.Spreading.{IsEvenlySpaced}
 use Rattle.trlab_road.proofs.EvenRoads.{one_even}
-use Rattle.trlab_step.specs.Laws.{IsRuleFor}
+use Rattle.trlab_step.specs.Run.{IsRuleFor}
 use Rattle.trlab_step.proofs.Driving.{runs_are_driven}
 use Rattle.trlab_step.proofs.RunLaws.{run_comes_to_road}
 use Rattle.trlab_texts.specs.Reading.{Fault}

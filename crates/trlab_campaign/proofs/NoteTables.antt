@@ -10,9 +10,8 @@ use Rattle.trlab_code.specs.Program.{Program}
 use Rattle.trlab_notes.specs.Notes.{with_side}
 use Rattle.trlab_verify.specs.declared.note.Mark.TheVariants.{Unset}
 use Rattle.trlab_verify.specs.declared.note.Note.{Note as Form}
-use Rattle.trlab_verify.specs.TableForm.{form_without_marks, meaning, meaning_at, mark_value, table_of}
-use Rattle.trlab_verify.specs.Incoming.{note_at}
-use Rattle.trlab_verify.specs.Tables.{AreVerdictNotes, empty_note}
+use Rattle.trlab_verify.specs.Tables.{form_without_marks, meaning, meaning_at, mark_value, table_of, AreVerdictNotes, empty_note}
+use Rattle.trlab_verify.specs.Verdict.{note_at}
 use Rattle.trlab_campaign.specs.NoteLines.{maybe_note_line, note_line, notes_text, abstract_value_text}
 use Rattle.trlab_asm.specs.declared.names.TheConstants.{REGISTERS}
 use Rattle.trlab_campaign.proofs.Lines.{next_whole, pieces_agree}

@@ -4,7 +4,7 @@ use Rattle.std.proofs.lemmas.Bool.{cases_lt}
 use Rattle.std.proofs.lemmas.List.{get_or_append_left, get_or_push, get_or_default}
 use Rattle.trlab_diagram.specs.declared.point.Point.{Point}
 use Rattle.trlab_diagram.specs.Flow.{IsMeasured}
-use Rattle.trlab_step.specs.Laws.{IsRuleFor, IsSheetFor}
+use Rattle.trlab_step.specs.Run.{IsRuleFor, IsSheetFor}
 use Rattle.trlab_step.proofs.Sheets.{with_is_sheet, with_all}
 use Rattle.trlab_jobs.specs.Sweep.{Setup, Sweep}
 use Rattle.trlab_campaign.specs.SweepOutput.{AreFirstPoints, ArePoints, IsPoint, sweep_sheet}

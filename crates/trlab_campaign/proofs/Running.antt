@@ -3,9 +3,8 @@ use Rattle.std.proofs.Common.{◌≡◌, ℕ, zero, suc, ◌+◌, ◌<◌, ◌�
 use Rattle.std.specs.Prelude.{Result, Ok, Err}
 use Rattle.std.specs.List.{range_with_len}
 use Rattle.trlab_road.specs.Cells.{Cells}
-use Rattle.trlab_step.specs.Run.{IsRoadAt}
+use Rattle.trlab_step.specs.Run.{IsRoadAt, Progress, IsOneStepOn, at_start}
 use Rattle.trlab_step.proofs.RunLaws.{run_comes_to_road, road_at_is_one}
-use Rattle.trlab_step.specs.Progress.{Progress, IsOneStepOn, at_start}
 use Rattle.trlab_jobs.specs.Job.{Job, seed_of, sheet_of}
 use Rattle.trlab_jobs.specs.Stored.{IsStoredJob}
 use Rattle.trlab_campaign.specs.Output.{IsOutputForJob, shown_text, steps_text}

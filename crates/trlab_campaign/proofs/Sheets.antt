@@ -2,8 +2,7 @@
 use Rattle.std.proofs.Common.{ℕ, zero, suc, ◌+◌, ◌∷◌, [], arith}
 use Rattle.std.specs.Prelude.{All, length}
 use Rattle.trlab_rules.specs.Rules.{Programs}
-use Rattle.trlab_step.specs.Laws.{IsRuleFor, IsSheetFor}
-use Rattle.trlab_step.specs.Run.{Sheet, StepsIncreaseFrom}
+use Rattle.trlab_step.specs.Run.{IsRuleFor, IsSheetFor, Sheet, StepsIncreaseFrom}
 use Rattle.trlab_step.proofs.Sheets.{with_is_sheet, with_all}
 use Rattle.trlab_jobs.specs.Job.{Job, sheet_of}
 use Rattle.trlab_jobs.specs.Stored.{AreLaterRules, IsStoredJob}

@@ -10,7 +10,7 @@ use Rattle.trlab_road.specs.Spreading.{CanSpread, IsEvenlySpaced}
 use Rattle.trlab_road.specs.declared.fault.RoadFault.{RoadFault}
 use Rattle.trlab_road.proofs.EvenRoads.{no_fault}
 use Rattle.trlab_road.proofs.EvenExists.{something}
-use Rattle.trlab_step.specs.Laws.{IsRuleFor}
+use Rattle.trlab_step.specs.Run.{IsRuleFor}
 use Rattle.trlab_step.proofs.RunLaws.{run_comes_to_road}
 use Rattle.trlab_texts.specs.Reading.{Fault}
 use Rattle.trlab_jobs.specs.Shapes.{all_steps}

@@ -1,11 +1,9 @@
 -- A sweep text whose sixth line states the Nagel-Schreckenberg rule has this rule.
 use Rattle.std.proofs.Common.{◌≡◌, ℕ, suc, ◌+◌, Bool, true, false, List, [], ◌∷◌, length, get_or, sym, ◌∙◌, ap, subst, arith}
 use Rattle.std.specs.Prelude.{Result, Ok, Err, nat_lt}
-use Rattle.trlab_rules.specs.Laws.{ComputesSpeed}
+use Rattle.trlab_rules.specs.Rules.{ComputesSpeed, Programs, IsNasch}
 use Rattle.trlab_rules.specs.Published.{nasch_speed}
-use Rattle.trlab_rules.specs.Rules.{Programs}
 use Rattle.trlab_rules.specs.Standard.{nasch_program}
-use Rattle.trlab_rules.specs.StandardRules.{IsNasch}
 use Rattle.trlab_rules.proofs.NaschRuns.{nasch_moves}
 use Rattle.trlab_bounds.specs.declared.texts.TheConstants.{TEXT_LIMIT}
 use Rattle.trlab_texts.specs.declared.fault.Cause.{Cause}

@@ -3,8 +3,7 @@ use Rattle.std.proofs.Common.{◌≡◌, ℕ, List, Bool, false, ◌∙◌, ap, 
 use Rattle.std.specs.Prelude.{Result, Ok, Err, IfOk}
 use Rattle.trlab_code.specs.declared.program.Kind.{Kind}
 use Rattle.trlab_code.specs.Program.{Program}
-use Rattle.trlab_verify.specs.Longest.{IsLongest}
-use Rattle.trlab_verify.specs.Verdict.{IsAccepted}
+use Rattle.trlab_verify.specs.Verdict.{IsLongest, IsAccepted}
 use Rattle.trlab_jobs.specs.Check.{Check}
 use Rattle.trlab_campaign.specs.CheckOutput.{IsOutputForCheck, answer_text}
 

@@ -2,8 +2,7 @@
 use Rattle.std.specs.Prelude.{◌≡◌, ℕ, true, false, List, [], ◌∷◌, ◌++◌, decimal, codes}
 use Rattle.trlab_code.specs.Program.{Program}
 use Rattle.trlab_asm.specs.Canonical.{canonical_text}
-use Rattle.trlab_verify.specs.Longest.{IsLongest}
-use Rattle.trlab_verify.specs.Verdict.{IsAccepted, IsRefused}
+use Rattle.trlab_verify.specs.Verdict.{IsLongest, IsAccepted, IsRefused}
 use Rattle.trlab_jobs.specs.declared.check.Question.{Question}
 use Rattle.trlab_jobs.specs.declared.check.Question.TheVariants.{Verdict, Notes}
 use Rattle.trlab_jobs.specs.Check.{Check, ParsesAsCheck}

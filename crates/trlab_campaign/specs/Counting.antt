@@ -2,7 +2,7 @@
 use Rattle.std.specs.Prelude.{◌≡◌, ℕ, ◌+◌, ◌*◌, ◌≤◌, List, length, sum_by, count_by, nat_eq}
 use Rattle.trlab_bounds.specs.declared.roads.TheConstants.{MAX_LENGTH, MAX_LIMIT}
 use Rattle.trlab_road.specs.LaneCars.{LaneCar}
-use Rattle.trlab_step.specs.Progress.{Progress}
+use Rattle.trlab_step.specs.Run.{Progress}
 use Rattle.trlab_diagram.specs.declared.point.LaneCount.{LaneCount}
 
 -- `new` is the run `old` after `count` more steps

@@ -6,7 +6,7 @@ use Rattle.trlab_diagram.specs.Table.{points_text}
 use Rattle.trlab_road.specs.Cells.{Cells}
 use Rattle.trlab_road.specs.Spreading.{IsEvenlySpaced}
 use Rattle.trlab_step.specs.declared.tally.StepTally.{StepTally}
-use Rattle.trlab_step.specs.Driven.{IsDriven}
+use Rattle.trlab_step.specs.Laws.{IsDriven}
 use Rattle.trlab_step.specs.Run.{IsTallyAt}
 use Rattle.trlab_jobs.specs.Job.{Job, ParsesAsJob, seed_of, sheet_of}
 use Rattle.trlab_jobs.specs.Shapes.{all_steps}

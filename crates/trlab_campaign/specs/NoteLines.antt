@@ -10,7 +10,7 @@ use Rattle.trlab_asm.specs.declared.names.TheConstants.{REGISTERS}
 use Rattle.trlab_notes.specs.declared.note.AbstractValue.{AbstractValue}
 use Rattle.trlab_notes.specs.declared.note.AbstractValue.TheVariants.{Nothing, Between, Implies}
 use Rattle.trlab_notes.specs.Notes.{Note, with_side}
-use Rattle.trlab_verify.specs.Incoming.{note_at}
+use Rattle.trlab_verify.specs.Verdict.{note_at}
 
 -- a register with the text of its value, in a note's line: a space, its name, a space and the text
 abbrev pub register_entry : Register → List ℕ → List ℕ

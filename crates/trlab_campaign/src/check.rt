@@ -1,7 +1,7 @@
 //! The engine of checks: check texts in, verdicts out. The verifier judges the one program of a text.
 
 ghost use Rattle.std.specs.Prelude.{◌≡◌, IfOk, true, false};
-ghost use Rattle.trlab_verify.specs.Faults.{IsFaultOf};
+ghost use Rattle.trlab_verify.specs.Verified.{IsFaultOf};
 ghost use Rattle.trlab_verify.specs.Verdict.{IsAccepted};
 ghost use Rattle.trlab_jobs.specs.Check.{Check as Request};
 ghost use Rattle.trlab_campaign.specs.declared.end.End.TheVariants.{Memory};

@@ -4,7 +4,7 @@ ghost use Rattle.std.specs.Prelude.{◌≡◌, [], ◌∷◌, ◌++◌, flat_map
 ghost use Rattle.std.specs.List.{range_with_len};
 ghost use Rattle.trlab_code.specs.declared.program.Kind.{Kind};
 ghost use Rattle.trlab_notes.specs.Notes.{with_side};
-ghost use Rattle.trlab_verify.specs.TableForm.{mark_value, meaning, meaning_at};
+ghost use Rattle.trlab_verify.specs.Tables.{mark_value, meaning, meaning_at};
 ghost use Rattle.trlab_verify.specs.Verdict.{IsAccepted};
 ghost use Rattle.trlab_campaign.specs.NoteLines.{register_entry, abstract_value_text, registers_text};
 ghost use Rattle.trlab_campaign.specs.NoteLines.{side_text, note_line, notes_text};

@@ -5,7 +5,7 @@ ghost use Rattle.std.specs.Thread.{IsSync};
 ghost use Rattle.std.specs.Prelude.{◌≡◌, ◌<◌, ◌≤◌, false, IfSome, IsSome};
 ghost use Rattle.trlab_bounds.specs.declared.runs.TheConstants.{MAX_WORKERS};
 ghost use Rattle.trlab_jobs.specs.Job.{Job as Told, seed_of, sheet_of};
-ghost use Rattle.trlab_step.specs.Progress.{at_start};
+ghost use Rattle.trlab_step.specs.Run.{at_start};
 ghost use Rattle.trlab_campaign.specs.Ending.{WroteAtEnd, EngineEnds, LeavesWriter, LeavesUnflushed, WroteByResult};
 ghost use Rattle.trlab_campaign.specs.Output.{IsOutputForJobText};
 ghost use Rattle.trlab_campaign.specs.Refusal.{Outputs};

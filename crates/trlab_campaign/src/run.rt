@@ -4,8 +4,7 @@
 ghost use Rattle.std.specs.Prelude.{◌≡◌, ℕ, ◌+◌, ◌<◌, ◌≤◌, ◌^◌, List, [], true, false, OnOk, if◌then◌else◌};
 ghost use Rattle.trlab_jobs.specs.Job.{Job as Told, seed_of, sheet_of};
 ghost use Rattle.trlab_jobs.specs.Stored.{IsStoredJob};
-ghost use Rattle.trlab_step.specs.Progress.{IsOneStepOn, at_start};
-ghost use Rattle.trlab_step.specs.Run.{IsRoadAt};
+ghost use Rattle.trlab_step.specs.Run.{IsOneStepOn, at_start, IsRoadAt};
 ghost use Rattle.trlab_campaign.specs.Ending.{EngineEnds, LeavesUnflushed, WroteByResult};
 ghost use Rattle.trlab_campaign.specs.Output.{IsOutput, IsShownOutput, IsOutputForJob, every_from, shown_text, step_text};
 ghost use Rattle.trlab_campaign.specs.Writers.{AddsByResult, bytes_of};

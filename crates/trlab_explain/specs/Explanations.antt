@@ -2,8 +2,7 @@
 use Rattle.std.specs.Prelude.{◌≡◌, ℕ, Bool, true, false, not, All, List, [], ◌∷◌, ◌++◌, codes, decimal, Option, None, Some, Result, Ok, Err, if◌then◌else◌}
 use Rattle.trlab_lines.specs.Plain.{IsPlain}
 use Rattle.trlab_lines.specs.Lines.{lines_of}
-use Rattle.trlab_verify.specs.Longest.{IsLongest}
-use Rattle.trlab_verify.specs.Verdict.{IsAccepted, IsRefused}
+use Rattle.trlab_verify.specs.Verdict.{IsLongest, IsAccepted, IsRefused}
 use Rattle.trlab_texts.specs.Reading.{Fault, Reports}
 use Rattle.trlab_texts.specs.declared.fault.TextFault.{TextFault}
 use Rattle.trlab_jobs.specs.Job.{Job as JobSaid, ParsesAsJob}

@@ -5,7 +5,7 @@ ghost use Rattle.trlab_campaign.specs.Ending.{EngineEnds, FlushedAtEnd, WroteOut
 ghost use Rattle.trlab_campaign.specs.Writers.{AddsNone, bytes_of};
 ghost use Rattle.trlab_campaign.specs.declared.end.End.TheVariants.{DeviceFault, Memory};
 ghost use Rattle.trlab_lines.specs.Plain.{IsPlain};
-ghost use Rattle.trlab_verify.specs.Faults.{IsFaultOf};
+ghost use Rattle.trlab_verify.specs.Verified.{IsFaultOf};
 ghost use Rattle.trlab_jobs.specs.Check.{Check as CheckSaid};
 ghost use Rattle.trlab_explain.specs.Quotes.{quote_line};
 ghost use Rattle.trlab_explain.specs.Explanations.{Explains, HasHead, IsBlankHead, IsRejectedWith, IsHeadAs, IsFaultHead, IsProgramHead, accepted_line};

@@ -1,9 +1,8 @@
 -- The later rules of a text, line after line.
 use Rattle.std.proofs.Common.{◌≡◌, ◌≢◌, ℕ, zero, suc, ◌+◌, ◌<◌, ◌≤◌, List, [], ◌∷◌, ◌++◌, refl, sym, ap, subst, append_assoc, append-nil}
 use Rattle.std.specs.Prelude.{◌↔◌, IsTrue, Bool, true, false, Result, Ok, Err}
-use Rattle.trlab_step.specs.Laws.{IsRuleFor}
+use Rattle.trlab_step.specs.Run.{IsRuleFor, Sheet}
 use Rattle.trlab_rules.specs.Rules.{Programs}
-use Rattle.trlab_step.specs.Run.{Sheet}
 use Rattle.trlab_texts.specs.declared.fault.TextFault.{TextFault}
 use Rattle.trlab_texts.specs.declared.fault.TextFault.TheVariants.{At, Memory}
 use Rattle.trlab_texts.specs.Lines.{Rest}

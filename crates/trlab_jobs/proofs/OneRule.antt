@@ -8,15 +8,14 @@ use Rattle.hex.specs.declared.error.FromHexError.{FromHexError}
 use Rattle.trlab_code.specs.declared.program.Kind.{Kind}
 use Rattle.trlab_code.specs.declared.program.Kind.TheVariants.{Motion, Change}
 use Rattle.trlab_code.specs.Program.{Program, IsValidProgram}
-use Rattle.trlab_verify.specs.CheckedProgram.{CheckedProgram, IsChecked}
+use Rattle.trlab_verify.specs.Verified.{CheckedProgram, IsChecked}
 use Rattle.trlab_verify.specs.Verdict.{IsAccepted}
 use Rattle.trlab_verify.proofs.Judged.{some_budget}
 use Rattle.trlab_rules.specs.Rules.{Programs}
 use Rattle.trlab_rules.specs.Standard.{nasch_program, vdr_program, rickert_program}
 use Rattle.trlab_rules.proofs.StandardPrograms.{nasch_is_program, vdr_is_program, rickert_is_program}
 use Rattle.trlab_rules.proofs.Accepted.{nasch_accepted, vdr_accepted, rickert_accepted}
-use Rattle.trlab_step.specs.Laws.{IsRuleFor}
-use Rattle.trlab_step.specs.Run.{Sheet}
+use Rattle.trlab_step.specs.Run.{IsRuleFor, Sheet}
 use Rattle.trlab_bounds.specs.declared.runs.TheConstants.{MAX_LATER}
 use Rattle.trlab_texts.specs.declared.fault.Cause.{Cause}
 use Rattle.trlab_texts.specs.declared.fault.Cause.TheVariants.{OneLane}

@@ -5,7 +5,7 @@ use Rattle.trlab_bounds.specs.declared.roads.TheConstants.{MAX_LENGTH, MAX_LANES
 use Rattle.trlab_bounds.specs.declared.runs.TheConstants.{MAX_STEPS}
 use Rattle.trlab_asm.specs.Results.{map_ok}
 use Rattle.trlab_road.specs.Legal.{LanesFit, LengthFits, LimitFits}
-use Rattle.trlab_step.specs.Laws.{IsRuleFor}
+use Rattle.trlab_step.specs.Run.{IsRuleFor}
 use Rattle.trlab_texts.specs.Lines.{Rest, all_lines}
 use Rattle.trlab_texts.specs.Reading.{Fault, line, exactly}
 use Rattle.trlab_texts.proofs.Fine.{Anything, FineText, numbered}

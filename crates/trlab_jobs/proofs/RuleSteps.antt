@@ -3,7 +3,7 @@ use Rattle.std.proofs.Common.{◌≡◌, ◌≤◌, ℕ, Bool, true, false, Opti
 use Rattle.std.specs.Prelude.{Result, Ok, Err, MatchResult, IsSome, nat_eq}
 use Rattle.std.proofs.lemmas.Bool.{eqb-false}
 use Rattle.trlab_rules.specs.Rules.{Programs}
-use Rattle.trlab_verify.specs.CheckedProgram.{CheckedProgram}
+use Rattle.trlab_verify.specs.Verified.{CheckedProgram}
 use Rattle.trlab_texts.specs.declared.fault.Cause.{Cause}
 use Rattle.trlab_texts.specs.declared.fault.LineFault.{LineFault}
 use Rattle.trlab_texts.specs.declared.fault.LineFault.TheVariants.{Wrong, Memory as NoMemory}

@@ -6,7 +6,7 @@ use Rattle.hex.specs.declared.error.FromHexError.{FromHexError}
 use Rattle.trlab_code.specs.declared.program.Kind.{Kind}
 use Rattle.trlab_code.specs.declared.program.Kind.TheVariants.{Motion, Change}
 use Rattle.trlab_code.specs.Program.{Program}
-use Rattle.trlab_verify.specs.CheckedProgram.{CheckedProgram, IsChecked}
+use Rattle.trlab_verify.specs.Verified.{CheckedProgram, IsChecked}
 use Rattle.trlab_verify.specs.Verdict.{IsAccepted}
 use Rattle.trlab_rules.specs.Rules.{Programs}
 use Rattle.trlab_rules.specs.Standard.{nasch_program, vdr_program, rickert_program}

@@ -2,8 +2,7 @@
 use Rattle.std.specs.Prelude.{ℕ, ◌+◌, ◌*◌, ◌<◌, ◌≤◌, [], ◌∷◌, All, length}
 use Rattle.trlab_bounds.specs.declared.runs.TheConstants.{MAX_STEPS, MAX_LATER}
 use Rattle.trlab_road.specs.Legal.{IsLegal}
-use Rattle.trlab_step.specs.Laws.{IsRuleFor}
-use Rattle.trlab_step.specs.Run.{Sheet}
+use Rattle.trlab_step.specs.Run.{IsRuleFor, Sheet}
 use Rattle.trlab_road.specs.Spreading.{CanSpread}
 use Rattle.trlab_jobs.specs.declared.limits.TheConstants.{MAX_POINTS, MAX_WORK}
 use Rattle.trlab_jobs.specs.Job.{Job}

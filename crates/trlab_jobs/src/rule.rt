@@ -4,8 +4,8 @@ ghost use Rattle.std.specs.Prelude.{◌≡◌, ◌≢◌, ◌≤◌, ℕ, IfOk, 
 ghost use Rattle.trlab_bounds.specs.declared.roads.TheConstants.{MAX_LANES};
 ghost use Rattle.trlab_code.specs.declared.program.Kind.TheVariants.{Motion as OfMotion, Change as OfChange};
 ghost use Rattle.trlab_rules.specs.Standard.{nasch_program, vdr_program, rickert_program};
-ghost use Rattle.trlab_step.specs.Laws.{IsRuleFor};
-ghost use Rattle.trlab_verify.specs.CheckedProgram.{IsChecked};
+ghost use Rattle.trlab_step.specs.Run.{IsRuleFor};
+ghost use Rattle.trlab_verify.specs.Verified.{IsChecked};
 ghost use Rattle.trlab_texts.specs.Reading.{Reports, ReportsLine, ReportsCause, ReportsFault, line, exactly, text_fault};
 ghost use Rattle.trlab_texts.specs.Words.{word_after};
 ghost use Rattle.trlab_jobs.specs.RuleLines.{rule_line, later_line};

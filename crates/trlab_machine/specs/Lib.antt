@@ -1,4 +1,3 @@
+pub mod Answers
 pub mod Stored
-pub mod Moves
-pub mod Crossings
 pub mod Blocks

@@ -12,9 +12,8 @@ ghost use Rattle.trlab_code.specs.declared.view.View.{View};
 ghost use Rattle.trlab_code.specs.Program.{Draws};
 ghost use Rattle.trlab_code.specs.Machine.{Answer, Goes, EndsWith};
 ghost use Rattle.trlab_code.specs.Views.{IsViewInRange};
-ghost use Rattle.trlab_verify.specs.CheckedProgram.{CheckedProgram, IsChecked};
-ghost use Rattle.trlab_machine.specs.Moves.{IsAllowed, MovesWithin};
-ghost use Rattle.trlab_machine.specs.Crossings.{crossing_answer, CrossesWithin};
+ghost use Rattle.trlab_verify.specs.Verified.{CheckedProgram, IsChecked};
+ghost use Rattle.trlab_machine.specs.Answers.{IsAllowed, MovesWithin, crossing_answer, CrossesWithin};
 
 /// For a given view and given words, a program has at most one answer and one number of steps.
 pub fn one_answer()

@@ -1,7 +1,6 @@
 -- Notes that are given by ranges and a few facts about the order, and a test that decides whether a table of
 -- them checks.
-use Rattle.std.proofs.Common.{◌≡◌, ℕ, zero, suc, ◌+◌, ◌<◌, ◌≤◌, ◌&&◌, ◌||◌, not, refl, sym, subst, arith, inl, inr, List, [], ◌∷◌, length, Bool, true, false, IsTrue, Option, Some, None, nat_eq, nat_le, cond, get_or}
-use Rattle.std.specs.Prelude.{slice_get, IfSome}
+use Rattle.std.proofs.Common.{◌≡◌, ℕ, zero, suc, ◌+◌, ◌<◌, ◌≤◌, ◌&&◌, ◌||◌, not, refl, sym, subst, arith, inl, inr, List, [], ◌∷◌, length, Bool, true, false, IsTrue, Option, Some, None, nat_eq, nat_le, cond, get_or, slice_get, IfSome}
 use Rattle.std.specs.List.{list_all}
 use Rattle.std.proofs.lemmas.Bool.{leb-true, eqb-true, and_parts, or_cases}
 use Rattle.trlab_code.specs.declared.program.Kind.{Kind}
@@ -21,9 +20,8 @@ use Rattle.trlab_notes.specs.Reasons.{reason_against}
 use Rattle.trlab_notes.specs.Transfer.{next_note, jump_note}
 use Rattle.trlab_notes.proofs.Variables.{variables, back, below, same_is}
 use Rattle.trlab_notes.proofs.Order.{wider, known_from}
-use Rattle.trlab_verify.specs.Longest.{Follows}
+use Rattle.trlab_verify.specs.Verdict.{Follows, IsAccepted}
 use Rattle.trlab_verify.specs.Tables.{ChecksAt}
-use Rattle.trlab_verify.specs.Verdict.{IsAccepted}
 use Rattle.trlab_verify.proofs.Best.{accepted}
 
 -- one variable is at most another (level 1), or below it (level 2)

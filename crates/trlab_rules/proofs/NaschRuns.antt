@@ -8,7 +8,7 @@ use Rattle.trlab_code.specs.Views.{IsViewInRange}
 use Rattle.trlab_code.specs.Machine.{At, Goes, start, update}
 use Rattle.trlab_rules.specs.Published.{safe_speed, brake, happens_at, nasch_speed}
 use Rattle.trlab_rules.specs.Standard.{nasch_program}
-use Rattle.trlab_rules.specs.Laws.{ComputesSpeed}
+use Rattle.trlab_rules.specs.Rules.{ComputesSpeed}
 use Rattle.trlab_rules.proofs.Rows.{Run, num, get, draw, add, sub, smaller, if_false-jumps, if_false-falls, go}
 
 -- a speed that the car sees can be increased by one

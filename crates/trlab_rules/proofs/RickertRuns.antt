@@ -10,7 +10,7 @@ use Rattle.trlab_code.specs.Views.{IsViewInRange}
 use Rattle.trlab_code.specs.Machine.{Store, Number, Flag, Answer, Crosses, Stays, At, start, update}
 use Rattle.trlab_rules.specs.Published.{happens_at, rickert_crosses}
 use Rattle.trlab_rules.specs.Standard.{rickert_program}
-use Rattle.trlab_rules.specs.Laws.{ComputesCrossing}
+use Rattle.trlab_rules.specs.Rules.{ComputesCrossing}
 use Rattle.trlab_rules.proofs.Rows.{Run, num, get, side, draw, add, at_most-jumps, at_most-falls, if_false-jumps, if_false-falls, cross, stay}
 use Rattle.trlab_rules.proofs.NaschRuns.{one_more}
 

@@ -10,7 +10,7 @@ use Rattle.trlab_code.specs.Views.{IsViewInRange}
 use Rattle.trlab_code.specs.Machine.{Store, Number, Flag, At, Goes, start, update}
 use Rattle.trlab_rules.specs.Published.{safe_speed, brake, happens_at, vdr_braking_chance, vdr_speed}
 use Rattle.trlab_rules.specs.Standard.{vdr_program}
-use Rattle.trlab_rules.specs.Laws.{ComputesSpeed}
+use Rattle.trlab_rules.specs.Rules.{ComputesSpeed}
 use Rattle.trlab_rules.proofs.Rows.{Run, num, get, draw, add, sub, smaller, jump, at_most-jumps, at_most-falls, if_false-jumps, if_false-falls, go}
 use Rattle.trlab_rules.proofs.NaschRuns.{one_more, one_off}
 

@@ -1,5 +1,3 @@
-pub mod Rules
 pub mod Published
 pub mod Standard
-pub mod Laws
-pub mod StandardRules
+pub mod Rules

@@ -5,7 +5,7 @@ ghost use Rattle.trlab_code.specs.declared.program.Kind.TheVariants.{Motion as O
 ghost use Rattle.trlab_verify.specs.Verdict.{IsAccepted};
 ghost use Rattle.trlab_rules.specs.Published.{safe_speed, wording_1992, nasch_speed, vdr_speed, rickert_crosses};
 ghost use Rattle.trlab_rules.specs.Standard.{nasch_program, vdr_program, rickert_program};
-ghost use Rattle.trlab_rules.specs.Laws.{ComputesSpeed, ComputesCrossing, DrawsMatchChances};
+ghost use Rattle.trlab_rules.specs.Rules.{ComputesSpeed, ComputesCrossing, DrawsMatchChances};
 
 /// The verifier accepts the programs of the standard rules for every probability.
 pub fn standard_programs_are_accepted()

@@ -7,10 +7,12 @@
 //! ```
 #![tactic(auto)]
 
+mod for_embedders;
 pub mod laws;
 mod programs;
 mod rule;
 mod standard;
 
+pub use for_embedders::slowed_1992;
 pub use rule::Rule;
-pub use standard::{StandardFault, nasch, rickert, slowed_1992, vdr};
+pub use standard::{StandardFault, nasch, rickert, vdr};

@@ -1,12 +1,11 @@
 //! The published rules, built from the standard programs, which the verifier accepts.
 
-ghost use Rattle.std.specs.Prelude.{◌≡◌, IfOk, IfErr, ◌≤◌};
+ghost use Rattle.std.specs.Prelude.{◌≡◌, IfOk, IfErr};
 ghost use Rattle.trlab_rules.specs.declared.standard.StandardFault.TheVariants.{Memory};
-ghost use Rattle.trlab_rules.specs.Rules.{IsRule};
-ghost use Rattle.trlab_rules.specs.StandardRules.{IsNasch, IsVdr, IsRickert, IsMotionComputing, IsChangeComputing};
+ghost use Rattle.trlab_rules.specs.Rules.{IsRule, IsNasch, IsVdr, IsRickert, IsMotionComputing, IsChangeComputing};
 ghost use Rattle.trlab_code.specs.Program.{Program, IsValidProgram};
 ghost use Rattle.trlab_verify.specs.Verdict.{IsAccepted};
-ghost use Rattle.trlab_rules.specs.Published.{nasch_speed, vdr_speed, rickert_crosses, safe_speed, wording_1992};
+ghost use Rattle.trlab_rules.specs.Published.{nasch_speed, vdr_speed, rickert_crosses};
 ghost use Rattle.trlab_rules.specs.Standard.{nasch_program, vdr_program, rickert_program};
 
 use crate::programs::{nasch_instrs, rickert_instrs, vdr_instrs};
@@ -144,22 +143,4 @@ fn rickert_change(alloc: Global, c: Chance) -> Result<Change, AllocError>
     ensures { IfOk result (IsChangeComputing (rickert_crosses c) (rickert_program c)) }
 {
     accept(alloc, rickert_instrs(alloc, c)?)
-}
-
-/// The speed of a car after acceleration and slowing down, as Nagel and Schreckenberg worded it in 1992.
-///
-/// Their distance to the car ahead is one more than the gap; both are in cells. A car whose speed is below the limit
-/// goes one faster if the distance is above its speed plus one. Then a car whose speed is at least the distance slows
-/// down to one less than the distance. For a speed of at most the limit this is the minimum of the speed plus one, the
-/// limit and the gap.
-pub fn slowed_1992(speed: u32, limit: u32, gap: u32) -> u32
-    ensures wording { result ≡ wording_1992 speed limit gap }
-    ensures safe { speed ≤ limit → result ≡ safe_speed speed limit gap }
-{
-    let accelerated = if speed < limit && speed < gap {
-        speed + 1
-    } else {
-        speed
-    };
-    accelerated.min(gap)
 }

@@ -10,7 +10,7 @@ use Rattle.trlab_segments.specs.declared.tickets.Tickets.{Tickets}
 use Rattle.trlab_segments.specs.Drawers.{IsDrawerOf, is_ended, passes_of, tickets_of}
 use Rattle.trlab_segments.specs.Segments.{first_car}
 use Rattle.trlab_step.specs.Answers.{IsCrossingsPart, IsSpeedsPart}
-use Rattle.trlab_verify.specs.CheckedProgram.{CheckedProgram}
+use Rattle.trlab_verify.specs.Verified.{CheckedProgram}
 use Rattle.std.specs.Borrow.{Bor}
 use Rattle.trlab_road.specs.declared.road.Road.{Road}
 

@@ -7,7 +7,7 @@ use Rattle.std.specs.Prelude.{if◌then◌else◌}
 use Rattle.std.specs.List.{position}
 use Rattle.trlab_road.specs.Cells.{Cells}
 use Rattle.trlab_step.specs.declared.tally.StepTally.{StepTally}
-use Rattle.trlab_step.specs.Progress.{IsReachedByRun, Progress}
+use Rattle.trlab_step.specs.Run.{IsReachedByRun, Progress, IsRoadAt, Sheet, in_force}
 use Rattle.trlab_sequential_book.specs.declared.event.Call.{Call}
 use Rattle.trlab_sequential_book.specs.declared.event.Offered.{Offered}
 use Rattle.trlab_sequential_book.specs.Answers.{give_back_reply, done_reply, number_reply, order_reply, read_reply}
@@ -22,7 +22,6 @@ use Rattle.trlab_sequential_book.specs.declared.event.Reply.{Reply}
 use Rattle.trlab_sequential_book.specs.declared.event.Reply.TheVariants.{Done, Leased, NoLease, Refused, Seen}
 use Rattle.trlab_sequential_book.specs.declared.order.Order.{Order}
 use Rattle.trlab_sequential_book.specs.declared.seed.Seed.{Seed}
-use Rattle.trlab_step.specs.Run.{IsRoadAt, Sheet, in_force}
 use Rattle.trlab_sequential_book.specs.Comparison.{IsFresh, IsFreshIfLent, RunsRoadOfJob, HasRuleInForce, RunsRoadOfItsJob, ShowsJob, IsSnapshotOf, LeaseCall}
 use Rattle.trlab_sequential_book.specs.Machine.{JobState, JobOutcome, JobsOutcome, BookState, after, is_free, has_full_history, is_out, accepts_lease, give_back_outcome, lease_outcome, next_after, on_free, on_job, read_outcome, refusal, reply_of, outcome_of_call}
 

@@ -7,8 +7,8 @@ use Rattle.trlab_code.specs.declared.instruction.Instr.{Instr}
 use Rattle.trlab_code.specs.Program.{Program}
 use Rattle.trlab_code.specs.Encoding.{encoding}
 use Rattle.trlab_code.proofs.Injective.{same_program}
-use Rattle.trlab_verify.specs.CheckedProgram.{CheckedProgram, IsChecked}
-use Rattle.trlab_verify.specs.Longest.{IsLongest}
+use Rattle.trlab_verify.specs.Verified.{CheckedProgram, IsChecked}
+use Rattle.trlab_verify.specs.Verdict.{IsLongest}
 use Rattle.trlab_rules.specs.Rules.{Programs}
 use Rattle.trlab_sequential_book.specs.Encoded.{IsEncoded, change_bytes}
 

@@ -6,9 +6,7 @@ use Rattle.std.specs.Prelude.{Option, Some, None, All, filter, nat_le, unwrap_or
 use Rattle.trlab_rules.specs.Rules.{Programs}
 use Rattle.trlab_road.specs.Cells.{Cells}
 use Rattle.trlab_step.specs.declared.tally.StepTally.{StepTally}
-use Rattle.trlab_step.specs.Run.{Seed, Sheet, IsSheet, StepsIncreaseFrom, in_force, ComesTo}
-use Rattle.trlab_step.specs.Laws.{IsRuleFor}
-use Rattle.trlab_step.specs.Progress.{IsReachedByRun}
+use Rattle.trlab_step.specs.Run.{Seed, Sheet, IsSheet, StepsIncreaseFrom, in_force, ComesTo, IsRuleFor, IsReachedByRun}
 use Rattle.trlab_sequential_book.specs.Sheets.{BeginBy, IsBookSheet, with_rule_from}
 use Rattle.trlab_sequential_book.specs.Leases.{suits}
 use Rattle.trlab_sequential_book.specs.Machine.{JobState, JobOutcome, refusal, replace_outcome}

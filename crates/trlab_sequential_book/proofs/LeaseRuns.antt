@@ -5,16 +5,14 @@ use Rattle.std.specs.Prelude.{◌&&◌, IsSome, Some, is_some, nat_le, if◌then
 use Rattle.trlab_road.specs.Cells.{Cells}
 use Rattle.trlab_rules.specs.Rules.{Programs}
 use Rattle.trlab_machine.specs.declared.dice.Dice.{Dice}
-use Rattle.trlab_verify.specs.CheckedProgram.{CheckedProgram}
+use Rattle.trlab_verify.specs.Verified.{CheckedProgram}
 use Rattle.trlab_step.proofs.AskedCars.{same_dice}
 use Rattle.trlab_words.specs.declared.key.Key.{Key}
 use Rattle.trlab_step.specs.Answers.{dice_of}
 use Rattle.trlab_step.specs.Next.{IsNext}
-use Rattle.trlab_step.specs.Run.{Seed, Sheet, ComesTo, in_force, tally_sum}
+use Rattle.trlab_step.specs.Run.{Seed, Sheet, ComesTo, in_force, tally_sum, IsRuleFor, IsReachedByRun}
 use Rattle.trlab_step.specs.declared.tally.StepTally.{StepTally}
-use Rattle.trlab_step.specs.Laws.{IsRuleFor}
 use Rattle.trlab_step.proofs.RunLaws.{force_all, run_goes_on, road_at_is_one}
-use Rattle.trlab_step.specs.Progress.{IsReachedByRun}
 use Rattle.trlab_step.proofs.OnTheWay.{IsSmallSum, like_start, room_for}
 use Rattle.trlab_sequential_book.specs.declared.lease.ExecutedStep.{ExecutedStep}
 use Rattle.trlab_sequential_book.specs.Sheets.{RanUnderSheet}

@@ -6,7 +6,7 @@ use Rattle.std.proofs.lemmas.Option.{get_or_from_slice_get, none-some, same_Some
 use Rattle.std.specs.Prelude.{MatchOption, is_some, if◌then◌else◌}
 use Rattle.std.specs.List.{position}
 use Rattle.trlab_rules.specs.Rules.{Programs}
-use Rattle.trlab_step.specs.Progress.{Progress}
+use Rattle.trlab_step.specs.Run.{Progress}
 use Rattle.trlab_sequential_book.specs.declared.book.TheConstants.{MAX_JOBS}
 use Rattle.trlab_sequential_book.specs.declared.sheet.TheConstants.{MAX_ENTRIES}
 use Rattle.trlab_sequential_book.specs.declared.seed.Seed.{Seed}

@@ -1,7 +1,7 @@
 -- The replies of the history, computed from the results of calls. The replies have numbers where the results
 -- have leases, orders and snapshots.
 use Rattle.std.specs.Prelude.{◌≡◌, ℕ, Bool, true, false, Result, Ok, Err, length, Option, Some, None, MatchBool}
-use Rattle.trlab_step.specs.Progress.{Progress}
+use Rattle.trlab_step.specs.Run.{Progress}
 use Rattle.trlab_sequential_book.specs.declared.fault.BookFault.{BookFault}
 use Rattle.trlab_sequential_book.specs.declared.fault.BookFault.TheVariants.{Memory, HistoryFull}
 use Rattle.trlab_sequential_book.specs.declared.event.Call.{Call}

@@ -1,7 +1,6 @@
 -- How leases, orders and snapshots belong to the jobs of a book.
 use Rattle.std.specs.Prelude.{◌≡◌, ℕ, Bool, List, slice_get, MatchOption, Option, Some, None}
-use Rattle.trlab_step.specs.Run.{IsRoadAt, in_force}
-use Rattle.trlab_step.specs.Progress.{Progress}
+use Rattle.trlab_step.specs.Run.{IsRoadAt, in_force, Progress}
 use Rattle.trlab_sequential_book.specs.declared.event.Offered.{Offered}
 use Rattle.trlab_sequential_book.specs.declared.event.Call.{Call}
 use Rattle.trlab_sequential_book.specs.declared.event.Call.TheVariants as call

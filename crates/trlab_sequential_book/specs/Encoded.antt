@@ -1,7 +1,7 @@
 -- The bytes by which rules are compared: the same bytes mean the same rule.
 use Rattle.std.specs.Prelude.{◌≡◌, ℕ, List, [], Option, Some, None}
 use Rattle.trlab_code.specs.Encoding.{encoding}
-use Rattle.trlab_verify.specs.CheckedProgram.{CheckedProgram}
+use Rattle.trlab_verify.specs.Verified.{CheckedProgram}
 use Rattle.trlab_rules.specs.Rules.{Programs, IsRule}
 
 -- the encoding of a rule's change program; no bytes for `None`

@@ -1,9 +1,8 @@
 -- The invariant of the jobs of a book.
 use Rattle.std.specs.Prelude.{ℕ, ◌≤◌}
 use Rattle.trlab_road.specs.Cells.{Cells}
-use Rattle.trlab_step.specs.Run.{Sheet, Seed as Start}
+use Rattle.trlab_step.specs.Run.{Sheet, Seed as Start, Progress, IsReachedByRun}
 use Rattle.trlab_step.specs.declared.tally.StepTally.{StepTally}
-use Rattle.trlab_step.specs.Progress.{Progress, IsReachedByRun}
 use Rattle.trlab_sequential_book.specs.declared.seed.Seed.{Seed}
 use Rattle.trlab_sequential_book.specs.Machine.{JobState}
 use Rattle.trlab_sequential_book.specs.Sheets.{BeginBy}

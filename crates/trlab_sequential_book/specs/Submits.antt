@@ -2,8 +2,8 @@
 use Rattle.std.specs.Prelude.{◌≡◌, ℕ, List, Some, slice_get}
 use Rattle.trlab_road.specs.Cells.{Cells}
 use Rattle.trlab_rules.specs.Rules.{Programs}
-use Rattle.trlab_step.specs.Progress.{Progress, IsReachedByRun}
-use Rattle.trlab_step.specs.Driven.{IsDriven}
+use Rattle.trlab_step.specs.Run.{Progress, IsReachedByRun}
+use Rattle.trlab_step.specs.Laws.{IsDriven}
 use Rattle.trlab_sequential_book.specs.declared.seed.Seed.{Seed}
 use Rattle.trlab_sequential_book.specs.declared.event.Event.{Event}
 use Rattle.trlab_sequential_book.specs.declared.event.Call.TheVariants as call

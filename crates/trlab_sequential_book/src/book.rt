@@ -3,7 +3,7 @@
 ghost use Rattle.std.specs.Prelude.{◌≡◌, ◌↔◌, ◌+◌, ◌<◌, ◌≤◌, ℕ, Bool, true, false, IsTrue, IfOk, IfErr, IfSome, MatchBool, length, ltb, not, vec_len, vec_capacity};
 ghost use Rattle.std.specs.List.{position};
 ghost use Rattle.trlab_road.specs.Legal.{IsLegal};
-ghost use Rattle.trlab_step.specs.Laws.{IsRuleFor};
+ghost use Rattle.trlab_step.specs.Run.{IsRuleFor};
 ghost use Rattle.trlab_sequential_book.specs.Answers.{LeadsAs, RepliesAs, give_back_reply, done_reply, is_memory, lease_reply, number_reply, order_reply, read_reply};
 ghost use Rattle.trlab_sequential_book.specs.Comparison.{IsFreshIfLent, HasRuleInForce, RunsRoadOfItsJob, ShowsJob, LeaseCall, OrderCall, offered};
 ghost use Rattle.trlab_sequential_book.specs.Leases.{FitsOrder, suits};

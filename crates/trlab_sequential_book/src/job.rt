@@ -2,9 +2,7 @@
 
 ghost use Rattle.std.specs.Prelude.{◌≡◌, ◌==◌, ◌||◌, true, false, IsTrue, IfOk, IfErr, OnErr, Some, length, ◌↔◌, MatchBool};
 ghost use Rattle.trlab_road.specs.Legal.{IsLegal};
-ghost use Rattle.trlab_step.specs.Progress.{IsReachedByRun};
-ghost use Rattle.trlab_step.specs.Laws.{IsRuleFor};
-ghost use Rattle.trlab_step.specs.Run.{in_force};
+ghost use Rattle.trlab_step.specs.Run.{IsReachedByRun, IsRuleFor, in_force};
 ghost use Rattle.trlab_sequential_book.specs.Answers.{give_back_reply, done_reply, is_memory, number_reply, order_reply};
 ghost use Rattle.trlab_sequential_book.specs.Comparison.{IsFresh, RunsRoadOfJob, IsSnapshotOf, offered};
 ghost use Rattle.trlab_sequential_book.specs.Jobs.{progress_of};

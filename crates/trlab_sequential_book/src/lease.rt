@@ -3,7 +3,7 @@
 ghost use Rattle.std.specs.Prelude.{◌≡◌, ◌↔◌, ◌+◌, ◌<◌, ◌^◌, ◌++◌, ◌∷◌, [], IfOk, IsTrue, OnOk, OnErr, length};
 ghost use Rattle.std.specs.Arc.{arc_value};
 ghost use Rattle.trlab_step.specs.Answers.{dice_of};
-ghost use Rattle.trlab_step.specs.Laws.{IsRuleFor};
+ghost use Rattle.trlab_step.specs.Run.{IsRuleFor};
 ghost use Rattle.trlab_step.specs.Next.{IsNext};
 ghost use Rattle.trlab_step.specs.declared.tally.StepTally.{StepTally};
 ghost use Rattle.trlab_sequential_book.specs.Leases.{FitsOrder, HasRun, IsLease, IsSteady, with_executed_step};

@@ -2,7 +2,7 @@
 
 ghost use Rattle.std.specs.Prelude.{◌≡◌, ◌↔◌, IsTrue, IfOk, length};
 ghost use Rattle.trlab_road.specs.Legal.{IsLegal};
-ghost use Rattle.trlab_step.specs.Laws.{IsRuleFor};
+ghost use Rattle.trlab_step.specs.Run.{IsRuleFor};
 ghost use Rattle.trlab_sequential_book.specs.Encoded.{change_bytes};
 ghost use Rattle.trlab_sequential_book.specs.Leases.{suits};
 

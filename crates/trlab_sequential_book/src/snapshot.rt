@@ -2,8 +2,8 @@
 
 ghost use Rattle.std.specs.Prelude.{◌≡◌, length};
 ghost use Rattle.trlab_road.specs.Legal.{IsLegal};
-ghost use Rattle.trlab_step.specs.Laws.{IsLegalLike, IsSheetFor};
-ghost use Rattle.trlab_step.specs.Run.{IsRoadAt, IsTallyAt};
+ghost use Rattle.trlab_step.specs.Laws.{IsLegalLike};
+ghost use Rattle.trlab_step.specs.Run.{IsSheetFor, IsRoadAt, IsTallyAt};
 ghost use Rattle.trlab_sequential_book.specs.Jobs.{run_start};
 
 use crate::seed::{BoxedRoad, BoxedSeed, Seed};
@@ -36,7 +36,7 @@ impl Drop for Snapshot {
 }
 
 impl Model for Snapshot {
-    ghost use Rattle.trlab_step.specs.Progress.{IsReachedByRun, Progress};
+    ghost use Rattle.trlab_step.specs.Run.{IsReachedByRun, Progress};
     ghost use Rattle.trlab_sequential_book.specs.Jobs.{progress_of};
 
     ghost Value = { Progress };

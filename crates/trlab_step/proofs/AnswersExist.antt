@@ -1,11 +1,10 @@
 -- Accepted programs have an answer for each car of a legal road.
-use Rattle.std.proofs.Common.{◌≡◌, ℕ, zero, suc, ◌-◌, ◌<◌, ◌≤◌, Bool, Option, true, false, cond, Some, None, length, refl, subst, arith}
+use Rattle.std.proofs.Common.{◌≡◌, ℕ, zero, suc, ◌-◌, ◌<◌, ◌≤◌, Bool, Option, true, false, cond, Some, None, length, refl, subst, arith, is_none}
 use Rattle.trlab_bounds.specs.declared.roads.TheConstants.{MAX_LENGTH}
-use Rattle.std.specs.Prelude.{is_none}
 use Rattle.trlab_words.proofs.RandomWords.{length-random_words}
 use Rattle.trlab_code.specs.declared.program.Kind.TheVariants.{Motion, Change}
 use Rattle.trlab_code.specs.Views.{IsViewInRange}
-use Rattle.trlab_verify.specs.CheckedProgram.{CheckedProgram, IsChecked}
+use Rattle.trlab_verify.specs.Verified.{CheckedProgram, IsChecked}
 use Rattle.trlab_road.specs.Cells.{Cell, Cells, Lane, cell, lane_of, IsAt}
 use Rattle.trlab_road.specs.LaneChange.{other_lane, CrossesToEmpty}
 use Rattle.trlab_road.specs.Gaps.{gap, side, ahead, behind, clear_cells, largest, is_clear}

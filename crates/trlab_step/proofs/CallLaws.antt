@@ -2,8 +2,8 @@
 use Rattle.std.proofs.Common.{length, subst}
 use Rattle.trlab_road.specs.Cells.{Cells}
 use Rattle.trlab_road.specs.Legal.{IsLegal}
-use Rattle.trlab_step.specs.Laws.{IsLegalLike, IsRuleFor, RunsCallSafely, StepsCallSafely}
-use Rattle.trlab_step.specs.Run.{dice_at}
+use Rattle.trlab_step.specs.Laws.{IsLegalLike, RunsCallSafely, StepsCallSafely}
+use Rattle.trlab_step.specs.Run.{IsRuleFor, dice_at}
 use Rattle.trlab_step.proofs.NextLaws.{lane_change_is_one, lane_change_somewhere}
 use Rattle.trlab_step.proofs.RunLaws.{force_all, road_is_one, rule_for_like, run_comes_to_road}
 use Rattle.trlab_step.proofs.SafeCalls.{step_calls_safe}

@@ -5,10 +5,9 @@ use Rattle.trlab_road.specs.Cells.{Cells}
 use Rattle.trlab_road.specs.Legal.{IsLegal}
 use Rattle.trlab_rules.specs.Rules.{Programs}
 use Rattle.trlab_step.specs.declared.tally.StepTally.{StepTally}
-use Rattle.trlab_step.specs.Driven.{IsDrivenStep, RunsAreDriven}
-use Rattle.trlab_step.specs.Laws.{IsLegalLike, IsRuleFor, IsSheetFor}
+use Rattle.trlab_step.specs.Laws.{IsDrivenStep, RunsAreDriven, IsLegalLike}
+use Rattle.trlab_step.specs.Run.{IsRuleFor, IsSheetFor, Seed, Sheet, IsRoadAt, dice_at}
 use Rattle.trlab_step.specs.Next.{IsCleanNext, IsNext}
-use Rattle.trlab_step.specs.Run.{Seed, Sheet, IsRoadAt, dice_at}
 use Rattle.trlab_step.proofs.NextLaws.{next_road_exists, next_road_is_one}
 use Rattle.trlab_step.proofs.RunLaws.{force_all, road_at_is_one, rule_for_like, run_comes_to_road}
 

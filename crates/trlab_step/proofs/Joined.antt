@@ -1,6 +1,5 @@
 -- The answers of two adjacent parts, one after the other, are those of both.
-use Rattle.std.proofs.Common.{◌≡◌, ℕ, ◌+◌, ◌-◌, ◌<◌, ◌≤◌, ◌++◌, Bool, true, false, List, [], length, get_or}
-use Rattle.std.proofs.Common.{refl, sym, subst, inl, inr, arith, length-append}
+use Rattle.std.proofs.Common.{◌≡◌, ℕ, ◌+◌, ◌-◌, ◌<◌, ◌≤◌, ◌++◌, Bool, true, false, List, [], length, get_or, refl, sym, subst, inl, inr, arith, length-append}
 use Rattle.std.proofs.lemmas.Bool.{cases_lt}
 use Rattle.std.proofs.lemmas.List.{get_or_append_left, get_or-append_right}
 use Rattle.trlab_machine.specs.declared.dice.Dice.{Dice}
@@ -9,7 +8,7 @@ use Rattle.trlab_road.specs.LaneChange.{sides}
 use Rattle.trlab_road.specs.Motion.{gaps}
 use Rattle.trlab_step.specs.Answers.{CrossingsFitPart, SpeedsFitPart, IsCrossingsPart, IsSpeedsPart}
 use Rattle.trlab_step.proofs.PartLaws.{speeds_join as join_speeds, crossings_join as join_crossings}
-use Rattle.trlab_verify.specs.CheckedProgram.{CheckedProgram}
+use Rattle.trlab_verify.specs.Verified.{CheckedProgram}
 
 -- a fact that holds of each element of two lists, by its index, holds of the elements of both together
 both : {X : Type 0} (none : X) (P : ℕ → X → Type 0) (xs ys : List X)

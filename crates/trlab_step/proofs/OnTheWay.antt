@@ -1,16 +1,14 @@
 -- A run on its way: its road is legal, and its counts are small enough.
-use Rattle.std.proofs.Common.{◌≡◌, ℕ, zero, suc, ◌+◌, ◌*◌, ◌^◌, ◌<◌, ◌≤◌, length, refl, sym, subst, arith, Bool, true, false}
-use Rattle.std.specs.Prelude.{Some, nat_le, if◌then◌else◌}
+use Rattle.std.proofs.Common.{◌≡◌, ℕ, zero, suc, ◌+◌, ◌*◌, ◌^◌, ◌<◌, ◌≤◌, length, refl, sym, subst, arith, Bool, true, false, Some, nat_le, if◌then◌else◌}
 use Rattle.trlab_bounds.specs.declared.roads.TheConstants.{MAX_LIMIT}
 use Rattle.trlab_road.specs.Cells.{Cells}
 use Rattle.trlab_road.specs.Legal.{IsLegal}
 use Rattle.trlab_rules.specs.Rules.{Programs}
-use Rattle.trlab_step.specs.Laws.{IsRuleFor, IsSheetFor, IsLegalLike}
-use Rattle.trlab_step.specs.Run.{Seed, Sheet, in_force, tally_sum, dice_at, ComesTo}
+use Rattle.trlab_step.specs.Run.{IsRuleFor, IsSheetFor, Seed, Sheet, in_force, tally_sum, dice_at, ComesTo, Progress, IsReachedByRun}
+use Rattle.trlab_step.specs.Laws.{IsLegalLike}
 use Rattle.trlab_step.specs.Next.{IsNext}
 use Rattle.trlab_step.specs.declared.tally.StepTally.{StepTally}
 use Rattle.trlab_step.proofs.RunLaws.{force_all, run_comes_to_road, road_is_one}
-use Rattle.trlab_step.specs.Progress.{Progress, IsReachedByRun}
 use Rattle.trlab_step.proofs.Counts.{IsSmall, small_tally}
 
 -- each road of a run is like its first road

@@ -1,14 +1,13 @@
 -- The answers to parts of the standing order.
-use Rattle.std.proofs.Common.{◌≡◌, ℕ, ◌+◌, ◌-◌, ◌<◌, ◌≤◌, ◌++◌, ◌∙◌, Bool, true, false, Some, List, length, get_or, refl, sym, ap, subst, inl, inr, arith, length-append}
-use Rattle.std.specs.Prelude.{slice_get}
+use Rattle.std.proofs.Common.{◌≡◌, ℕ, ◌+◌, ◌-◌, ◌<◌, ◌≤◌, ◌++◌, ◌∙◌, Bool, true, false, Some, List, length, get_or, refl, sym, ap, subst, inl, inr, arith, length-append, slice_get}
 use Rattle.std.proofs.lemmas.Bool.{cases_lt}
 use Rattle.std.proofs.lemmas.List.{ext_get_or, get_or_append_left, get_or-append_right}
 use Rattle.std.proofs.lemmas.Option.{slice_get-get_or, slice_get_past, get_or_from_slice_get}
 use Rattle.trlab_code.specs.declared.program.Kind.TheVariants.{Motion, Change}
 use Rattle.trlab_code.specs.Machine.{Goes}
-use Rattle.trlab_machine.specs.Crossings.{crossing_answer}
+use Rattle.trlab_machine.specs.Answers.{crossing_answer}
 use Rattle.trlab_machine.proofs.Answers.{one_answer}
-use Rattle.trlab_verify.specs.CheckedProgram.{CheckedProgram}
+use Rattle.trlab_verify.specs.Verified.{CheckedProgram}
 use Rattle.trlab_road.specs.declared.car.Car.{Car}
 use Rattle.trlab_road.specs.Cells.{Cells, cars}
 use Rattle.trlab_road.specs.Standing.{IsNthCar, rank, standing}

@@ -1,14 +1,13 @@
 -- Steps under the published rules, cell by cell.
-use Rattle.std.proofs.Common.{◌≡◌, ℕ, ◌+◌, ◌<◌, ◌&&◌, Bool, true, false, cond, Option, Some, None, List, length, if◌then◌else◌, refl, sym, ◌∙◌, ap, subst, arith}
-use Rattle.std.specs.Prelude.{is_none, nat_lt, slice_index, MatchOption}
+use Rattle.std.proofs.Common.{◌≡◌, ℕ, ◌+◌, ◌<◌, ◌&&◌, Bool, true, false, cond, Option, Some, None, List, length, if◌then◌else◌, refl, sym, ◌∙◌, ap, subst, arith, is_none, nat_lt, slice_index, MatchOption}
 use Rattle.trlab_words.specs.Chances.{happens_on}
 use Rattle.trlab_words.specs.Words.{random_word}
 use Rattle.trlab_words.proofs.RandomWords.{slice_index-random_words}
 use Rattle.trlab_code.specs.declared.program.Kind.TheVariants.{Change}
 use Rattle.trlab_code.specs.declared.view.View.{View}
 use Rattle.trlab_code.specs.Machine.{Answer, Crosses as EndsAcross, Stays, EndsWith}
-use Rattle.trlab_machine.specs.Crossings.{crossing_answer}
-use Rattle.trlab_verify.specs.CheckedProgram.{CheckedProgram}
+use Rattle.trlab_machine.specs.Answers.{crossing_answer}
+use Rattle.trlab_verify.specs.Verified.{CheckedProgram}
 use Rattle.trlab_road.specs.Cells.{Cell, Cells, cars, cell, lane_of, IsAt}
 use Rattle.trlab_road.specs.LaneChange.{ChangesLanes, CrossesToEmpty, other_lane, car_after_crossing}
 use Rattle.trlab_road.specs.LaneChange.StaysOrCrosses.{on_own_lane, on_other_lane}
@@ -17,9 +16,7 @@ use Rattle.trlab_road.specs.Legal.{IsLegal}
 use Rattle.trlab_road.proofs.LaneChangeLaws.{came_from, lane_change_legal, lane_change_none_lost, lane_change_same_count}
 use Rattle.trlab_road.proofs.MotionLaws.{on_lane}
 use Rattle.trlab_rules.specs.Published.{brake, safe_speed, nasch_speed, rickert_crosses, vdr_braking_chance, vdr_speed}
-use Rattle.trlab_rules.specs.StandardRules.{IsChangeComputing}
-use Rattle.trlab_rules.specs.Laws.{ComputesCrossing, ComputesSpeed}
-use Rattle.trlab_rules.specs.Rules.{Programs}
+use Rattle.trlab_rules.specs.Rules.{IsChangeComputing, ComputesCrossing, ComputesSpeed, Programs}
 use Rattle.trlab_rules.specs.Standard.{rickert_program}
 use Rattle.trlab_machine.specs.declared.dice.Dice.{Dice}
 use Rattle.trlab_machine.specs.Blocks.{words_of}

@@ -1,7 +1,6 @@
 -- The answers of all cars give the two phases of a step.
-use Rattle.std.proofs.Common.{◌≡◌, ℕ, Some, None, List, refl, sym, ◌∙◌, ap, arith}
-use Rattle.std.specs.Prelude.{Bool, Option, false, length, count_by, nat_eq, sum}
-use Rattle.trlab_verify.specs.CheckedProgram.{CheckedProgram}
+use Rattle.std.proofs.Common.{◌≡◌, ℕ, Some, None, List, refl, sym, ◌∙◌, ap, arith, Bool, Option, false, length, count_by, nat_eq, sum}
+use Rattle.trlab_verify.specs.Verified.{CheckedProgram}
 use Rattle.trlab_road.specs.Cells.{Cells, cars}
 use Rattle.trlab_road.specs.LaneChange.{ChangesLanes, crosses_at}
 use Rattle.trlab_road.specs.Motion.{Moves, in_order}

@@ -1,19 +1,22 @@
--- The answers of programs for the cars of a road.
-use Rattle.std.specs.Prelude.{◌≡◌, ◌+◌, ◌<◌, ◌≤◌, ℕ, Bool, true, false, Some, List, length, slice_get, slice_index, slice_index_or}
+-- The answers of the cars of a road in a step, from their views; the views of a block of cars; and the calls of
+-- programs in a step, each of which is safe.
+use Rattle.std.specs.Prelude.{◌≡◌, ◌+◌, ◌<◌, ◌≤◌, ℕ, Bool, true, false, Some, List, length, slice_get, slice_index, slice_index_or, IfSome}
 use Rattle.trlab_code.specs.declared.program.Kind.TheVariants.{Motion, Change}
 use Rattle.trlab_code.specs.declared.view.View.{View}
-use Rattle.trlab_code.specs.Views.{motion_view, change_view}
-use Rattle.trlab_code.specs.Machine.{Goes, EndsWith}
-use Rattle.trlab_verify.specs.CheckedProgram.{CheckedProgram}
+use Rattle.trlab_code.specs.Views.{motion_view, change_view, IsViewInRange}
+use Rattle.trlab_code.specs.Machine.{Goes, EndsWith, EndsWithin}
+use Rattle.trlab_verify.specs.Verified.{CheckedProgram}
 use Rattle.trlab_machine.specs.declared.dice.Dice.{Dice}
 use Rattle.trlab_machine.specs.Blocks.{words_of}
-use Rattle.trlab_machine.specs.Crossings.{crossing_answer}
+use Rattle.trlab_machine.specs.Answers.{crossing_answer}
 use Rattle.trlab_road.specs.declared.car.Car.{Car}
 use Rattle.trlab_road.specs.Cells.{Cells, IsAt, lane_of}
 use Rattle.trlab_road.specs.Standing.{IsNthCar}
 use Rattle.trlab_road.specs.Motion.{gaps}
 use Rattle.trlab_road.specs.Gaps.{gap, headspeed, side, sidegap, sideback}
 use Rattle.trlab_road.specs.LaneChange.{other_lane, sides}
+use Rattle.trlab_code.specs.declared.program.Kind.{Kind}
+use Rattle.trlab_rules.specs.Rules.{Programs}
 
 -- the dice of a step of a run: the key, the number of the road and the number of the step, which determine
 -- the random words of each car
@@ -105,3 +108,38 @@ IsSpeedsPart motion dice road from to speeds =
 abbrev pub IsCrossingsPart : CheckedProgram → Dice → Cells → ℕ → ℕ → List Bool → Type 0
 IsCrossingsPart change dice road from to crosses =
     AnswersCrossingsPart change dice road from to crosses × CrossingsFitPart road from crosses
+
+-- the view of a car on a road, for a program of this kind: a motion program or a change program
+abbrev pub view_for_kind : Kind → Cells → Car → View
+view_for_kind Motion road car = motion_view_of road car
+view_for_kind Change road car = change_view_of road car
+
+-- `view` is the view of the k-th car in standing order, for a motion program or a change program, and
+-- `number` is its number. The view is in range; its limit is the road's limit, its gap is entry k of the
+-- road's list `gaps`, and for a change program its `side` is entry k of `sides`
+pub record DescribesCar (kind : Kind) (road : Cells) (k : ℕ) (view : View) (number : ℕ) : Type 0 where
+  pub is_view : IsViewInRange view
+  pub seen : (car : Car) → IsNthCar road k car → view ≡ view_for_kind kind road car
+  pub number_of : (car : Car) → IsNthCar road k car → number ≡ car.number
+  pub limit : view.limit ≡ road.limit
+  pub gap : view.gap ≡ slice_index (gaps road) k
+  pub side : kind ≡ Change → view.side ≡ slice_index_or (sides road) k false
+
+-- the call of the program `checked` for a car is safe: the car's view is in range, and with the car's random
+-- words the program ends with an answer within its budget
+pub record IsSafeCall (kind : Kind) (checked : CheckedProgram) (dice : Dice) (road : Cells)
+    (car : Car) : Type 0 where
+  pub in_range : IsViewInRange (view_for_kind kind road car)
+  pub ends : EndsWithin kind checked.program.instrs (view_for_kind kind road car)
+      (words_of dice car.number) checked.budget
+
+-- the call of a program for each car of the road is safe
+abbrev pub AreSafeCalls : Kind → CheckedProgram → Dice → Cells → Type 0
+AreSafeCalls kind checked dice road =
+    (car : Car) → IsAt road car → IsSafeCall kind checked dice road car
+
+-- all calls of a step are safe: those of the change program, if there is one, for the cars of the road before
+-- the step, and those of the motion program for the cars of the middle road, after the lane change
+pub record StepCallsAreSafe (rule : Programs) (dice : Dice) (road middle : Cells) : Type 0 where
+  pub lane_change : IfSome rule.change (λ change. AreSafeCalls Change change dice road)
+  pub motion : AreSafeCalls Motion rule.motion dice middle

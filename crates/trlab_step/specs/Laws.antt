@@ -1,10 +1,11 @@
--- Laws of answers, steps and runs, independent of the code that computes the answers and moves the cars. The
--- cars `from..to` are those with the indices from, from + 1 and so on to to - 1 in standing order.
-use Rattle.std.specs.Prelude.{◌≡◌, ◌≤◌, ◌++◌, ℕ, suc, Bool, Option, Some, None, List, [], All, IfSome, IsSome, length, sum, count_by, nat_eq, nat_le, if◌then◌else◌}
+-- Laws of answers, steps and runs, independent of the code that computes the answers and moves the cars; and
+-- driven runs, which have all guarantees step by step. The cars `from..to` are those with the indices from,
+-- from + 1 and so on to to - 1 in standing order.
+use Rattle.std.specs.Prelude.{◌≡◌, ◌≤◌, ◌++◌, ℕ, suc, Bool, Option, Some, None, List, [], length, sum, count_by, nat_eq, nat_le, if◌then◌else◌, ◌<◌}
 use Rattle.trlab_code.specs.declared.program.Kind.{Kind}
 use Rattle.trlab_code.specs.declared.program.Kind.TheVariants.{Motion, Change}
 use Rattle.trlab_code.specs.Views.{IsViewInRange}
-use Rattle.trlab_verify.specs.CheckedProgram.{CheckedProgram, IsChecked}
+use Rattle.trlab_verify.specs.Verified.{CheckedProgram, IsChecked}
 use Rattle.trlab_road.specs.declared.car.Car.{Car}
 use Rattle.trlab_road.specs.Cells.{Cells, IsAt, cars}
 use Rattle.trlab_road.specs.Legal.{IsLegal}
@@ -13,24 +14,9 @@ use Rattle.trlab_road.specs.Motion.{Moves, in_order}
 use Rattle.trlab_rules.specs.Rules.{Programs}
 use Rattle.trlab_step.specs.declared.tally.StepTally.{StepTally}
 use Rattle.trlab_machine.specs.declared.dice.Dice.{Dice}
-use Rattle.trlab_step.specs.Answers.{AnswersCrossing, AnswersSpeed, AnswersSpeedsPart, AnswersCrossingsPart, IsSpeedsPart}
-use Rattle.trlab_step.specs.Block.{view_for_kind}
-use Rattle.trlab_step.specs.Calls.{StepCallsAreSafe}
+use Rattle.trlab_step.specs.Answers.{AnswersCrossing, AnswersSpeed, AnswersSpeedsPart, AnswersCrossingsPart, IsSpeedsPart, view_for_kind, StepCallsAreSafe}
 use Rattle.trlab_step.specs.Next.{IsNext, IsCleanNext, IsStep}
-use Rattle.trlab_step.specs.Run.{Seed, Sheet, IsSheet, in_force, tally_sum, dice_at, ComesTo}
-
--- a rule for roads with `lanes` lanes: its motion program and, if there is one, its change program are
--- accepted programs, which end within their budgets; if it has a change program, `lanes` is 2
-pub record IsRuleFor (lanes : ℕ) (rule : Programs) : Type 0 where
-  pub motion : IsChecked Motion rule.motion
-  pub change : IfSome rule.change (λ change. IsChecked Change change)
-  pub two_lanes : IsSome rule.change → lanes ≡ 2
-
--- a sheet for roads with `lanes` lanes: its entries begin with one for step 0, their steps strictly increase,
--- and their rules have accepted programs, with change programs only if `lanes` is 2
-pub record IsSheetFor (lanes : ℕ) (sheet : Sheet) : Type 0 where
-  pub is_sheet : IsSheet sheet
-  pub rules : All (λ (entry : ℕ × Programs). IsRuleFor lanes entry.1) sheet
+use Rattle.trlab_step.specs.Run.{Seed, Sheet, in_force, tally_sum, dice_at, ComesTo, IsRuleFor, IsSheetFor, IsRoadAt}
 
 -- road `new` is legal, and has the limit and the numbers of lanes and cars of road `old`
 pub record IsLegalLike (old new : Cells) : Type 0 where
@@ -184,3 +170,29 @@ RunsCallSafely =
     → ComesTo seed sheet step road sum → in_force sheet step ≡ Some rule
     → IsStep rule (dice_at seed step) road middle next tally
     → StepCallsAreSafe rule (dice_at seed step) road middle
+
+-- step `step` of a run is driven: the rule in force is for the number of lanes and leads from `road` to
+-- `next`, no car moves onto or through another, no car is lost or added, and each call of a program is safe:
+-- its view is in range, and it ends within its budget
+pub record IsDrivenStep (seed : Seed) (sheet : Sheet) (step : ℕ) (road next : Cells) : Type 0 where
+  pub rule : Programs
+  pub tally : StepTally
+  pub under : in_force sheet step ≡ Some rule
+  pub suits : IsRuleFor (length road.lanes) rule
+  pub clean : IsCleanNext rule (dice_at seed step) road next tally
+
+-- a run is driven for `steps` steps: `roads 0` is the initial road, each step is driven, and each road
+-- up to `roads steps` is legal, with the limit and the numbers of lanes and cars of `roads 0`
+pub record IsDriven (seed : Seed) (sheet : Sheet) (steps : ℕ) (roads : ℕ → Cells) : Type 0 where
+  pub start : roads 0 ≡ seed.road
+  pub legal : (step : ℕ) → step ≤ steps → IsLegalLike seed.road (roads step)
+  pub each : (step : ℕ) → step < steps → IsDrivenStep seed sheet step (roads step) (roads (suc step))
+
+-- if a run starts from a legal road, with rules for its number of lanes, and `roads` gives its road at each
+-- step up to `steps`, then the run is driven
+abbrev pub RunsAreDriven : Type 0
+RunsAreDriven =
+    (seed : Seed) (sheet : Sheet) (steps : ℕ) (roads : ℕ → Cells)
+    → IsLegal seed.road → IsSheetFor (length seed.road.lanes) sheet
+    → ((step : ℕ) → step ≤ steps → IsRoadAt seed sheet step (roads step))
+    → IsDriven seed sheet steps roads

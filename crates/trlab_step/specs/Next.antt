@@ -6,14 +6,13 @@ use Rattle.trlab_road.specs.Legal.{IsLegal}
 use Rattle.trlab_road.specs.Standing.{standing}
 use Rattle.trlab_road.specs.LaneChange.{ChangesLanes, IsCleanLaneChange}
 use Rattle.trlab_road.specs.Motion.{Moves, IsCleanMotion}
-use Rattle.trlab_verify.specs.CheckedProgram.{CheckedProgram}
+use Rattle.trlab_verify.specs.Verified.{CheckedProgram}
 use Rattle.trlab_rules.specs.Rules.{Programs}
-use Rattle.trlab_step.specs.declared.step.StepFault.{StepFault}
-use Rattle.trlab_step.specs.declared.step.StepFault.TheVariants.{LanesMismatch}
+use Rattle.trlab_step.specs.declared.for_embedders.StepFault.{StepFault}
+use Rattle.trlab_step.specs.declared.for_embedders.StepFault.TheVariants.{LanesMismatch}
 use Rattle.trlab_step.specs.declared.tally.StepTally.{StepTally}
 use Rattle.trlab_machine.specs.declared.dice.Dice.{Dice}
-use Rattle.trlab_step.specs.Answers.{AnswersSpeeds, AnswersCrossings}
-use Rattle.trlab_step.specs.Calls.{StepCallsAreSafe}
+use Rattle.trlab_step.specs.Answers.{AnswersSpeeds, AnswersCrossings, StepCallsAreSafe}
 
 -- the sum of the speeds of all cars on a road
 abbrev pub total_speed : Cells → ℕ

@@ -9,9 +9,8 @@ use Rattle.trlab_road.specs.Cells.{Cells, IsAt, cars, lane_of}
 use Rattle.trlab_road.specs.LaneChange.{car_after_crossing, other_lane}
 use Rattle.trlab_road.specs.Gaps.{ahead, gap, side, sidegap, sideback}
 use Rattle.trlab_road.specs.Legal.{IsLegal}
-use Rattle.trlab_rules.specs.StandardRules.{IsNasch, IsVdr, IsRickert}
+use Rattle.trlab_rules.specs.Rules.{IsNasch, IsVdr, IsRickert, Programs}
 use Rattle.trlab_rules.specs.Published.{brake, safe_speed, vdr_braking_chance}
-use Rattle.trlab_rules.specs.Rules.{Programs}
 use Rattle.trlab_step.specs.declared.tally.StepTally.{StepTally}
 use Rattle.trlab_machine.specs.declared.dice.Dice.{Dice}
 use Rattle.trlab_step.specs.Next.{IsNext}

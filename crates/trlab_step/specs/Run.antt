@@ -1,11 +1,14 @@
--- Runs: the road after each step, from a start on, under a sheet of rules.
-use Rattle.std.specs.Prelude.{◌≡◌, ◌≤◌, ◌==◌, ℕ, zero, suc, ◌+◌, List, [], ◌∷◌, Option, Some, None, nat_le, unwrap_or, if◌then◌else◌}
-use Rattle.trlab_road.specs.Cells.{Cells}
+-- Runs of many steps under a sheet of rules, and the progress of a run.
+use Rattle.std.specs.Prelude.{◌≡◌, ◌≤◌, ◌==◌, ℕ, zero, suc, ◌+◌, List, [], ◌∷◌, Option, Some, None, nat_le, unwrap_or, if◌then◌else◌, ◌++◌, All, IfSome, IsSome, length, sum}
+use Rattle.trlab_road.specs.Cells.{Cells, cars}
 use Rattle.trlab_rules.specs.Rules.{Programs}
 use Rattle.trlab_machine.specs.declared.dice.Dice.{Dice}
 use Rattle.trlab_step.specs.Answers.{dice_of}
 use Rattle.trlab_step.specs.declared.tally.StepTally.{StepTally}
 use Rattle.trlab_step.specs.Next.{IsNext}
+use Rattle.trlab_code.specs.declared.program.Kind.TheVariants.{Motion, Change}
+use Rattle.trlab_verify.specs.Verified.{IsChecked}
+use Rattle.trlab_road.specs.Legal.{IsLegal}
 
 -- the start of a run: its road; the key and the number of the road, which determine the random words; and
 -- `warm`, the first step whose tally is counted
@@ -83,3 +86,42 @@ IsRoadAt seed sheet step road = (sum : StepTally) × ComesTo seed sheet step roa
 -- `sum` is the sum of the tallies of the run's first `step` steps, without the steps before `warm`
 abbrev pub IsTallyAt : Seed → Sheet → ℕ → StepTally → Type 0
 IsTallyAt seed sheet step sum = (road : Cells) × ComesTo seed sheet step road sum
+
+-- a rule for roads with `lanes` lanes: its motion program and, if there is one, its change program are
+-- accepted programs, which end within their budgets; if it has a change program, `lanes` is 2
+pub record IsRuleFor (lanes : ℕ) (rule : Programs) : Type 0 where
+  pub motion : IsChecked Motion rule.motion
+  pub change : IfSome rule.change (λ change. IsChecked Change change)
+  pub two_lanes : IsSome rule.change → lanes ≡ 2
+
+-- a sheet for roads with `lanes` lanes: its entries begin with one for step 0, their steps strictly increase,
+-- and their rules have accepted programs, with change programs only if `lanes` is 2
+pub record IsSheetFor (lanes : ℕ) (sheet : Sheet) : Type 0 where
+  pub is_sheet : IsSheet sheet
+  pub rules : All (λ (entry : ℕ × Programs). IsRuleFor lanes entry.1) sheet
+
+-- the progress of a run: its start, its sheet, the number of steps so far, and the road and the sum of
+-- tallies after these steps
+pub record Progress : Type 0 where
+  pub seed : Seed
+  pub sheet : Sheet
+  pub step : ℕ
+  pub road : Cells
+  pub sum : StepTally
+
+-- a run at step 0: it has the initial road, and no tally has been counted
+abbrev pub at_start : Seed → Sheet → Progress
+at_start seed sheet = record { seed = seed; sheet = sheet; step = 0; road = seed.road; sum = no_tally }
+
+-- a run reaches this progress: it starts from a legal road, under a sheet of rules for its number of lanes,
+-- and after `step` steps its road is `road` and the sum of its tallies is `sum`
+pub record IsReachedByRun (run : Progress) : Type 0 where
+  pub legal : IsLegal run.seed.road
+  pub suits : IsSheetFor (length run.seed.road.lanes) run.sheet
+  pub comes : ComesTo run.seed run.sheet run.step run.road run.sum
+
+-- `new` has the start and the sheet of the run `old`, and its number of steps is one larger
+pub record IsOneStepOn (old new : Progress) : Type 0 where
+  pub same_seed : new.seed ≡ old.seed
+  pub same_sheet : new.sheet ≡ old.sheet
+  pub next_step : new.step ≡ old.step + 1

@@ -3,11 +3,10 @@
 //! Each law is the contract of a function with an empty body.
 
 ghost use Rattle.trlab_step.specs.Published.{NaschOnCells, RickertOnCells, VdrOnCells};
-ghost use Rattle.trlab_step.specs.Laws.{AnswersLeadToNextRoad, CrossingsAreUnique, CrossingsJoin, SpeedsAreUnique, SpeedsJoin};
+ghost use Rattle.trlab_step.specs.Laws.{AnswersLeadToNextRoad, CrossingsAreUnique, CrossingsJoin, SpeedsAreUnique, SpeedsJoin, RunsAreDriven};
 ghost use Rattle.trlab_step.specs.Laws.{NextRoadExists, NextRoadIsUnique, RoadExists, RoadIsUnique, RunContinues};
 ghost use Rattle.trlab_step.specs.Laws.{CrossingsComeWithinBudget, RunsCallSafely, SpeedsComeWithinBudget};
 ghost use Rattle.trlab_step.specs.Laws.{StepsCallSafely, ViewsAreInRange};
-ghost use Rattle.trlab_step.specs.Driven.{RunsAreDriven};
 
 /// For each part of the standing order a motion program gives at most one list of speeds, and the lists of adjacent
 /// parts join to the list of both. So it does not matter which thread computes a part, or in which order.

@@ -16,6 +16,7 @@
 
 mod block;
 mod executor;
+mod for_embedders;
 mod lane_change;
 pub mod laws;
 mod motion;
@@ -25,9 +26,12 @@ mod step;
 mod tally;
 
 pub use executor::{Caller, Executor, NoObserver, StepObserver};
-pub use lane_change::{choose_part, commit_change, compute_crossings};
-pub use motion::{commit_motion, compute_speeds, move_part};
+pub use for_embedders::{
+    StepFault, choose_part, commit_change, commit_motion, move_part, step_road, step_road_by,
+};
+pub use lane_change::compute_crossings;
+pub use motion::compute_speeds;
 pub use run::Run;
 pub use schedule::Schedule;
-pub use step::{StepContext, StepFault, StepRoom, step_road, step_road_by, take_step};
+pub use step::{StepContext, StepRoom, take_step};
 pub use tally::{StepTally, no_tally, tally_sum};

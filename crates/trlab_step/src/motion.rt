@@ -1,11 +1,8 @@
-//! The motion of a step: runs the motion program for a block of cars at a time, and moves all cars.
+//! The motion of a step: runs the motion program for a block of cars at a time, and returns their new speeds.
 
-ghost use Rattle.std.specs.Prelude.{length, ◌≡◌, ◌<◌, ◌≤◌, ◌+◌, ◌%◌, ℕ, IfOk, OnOk, slice_index};
-ghost use Rattle.trlab_bounds.specs.declared.roads.TheConstants.{MAX_LIMIT};
+ghost use Rattle.std.specs.Prelude.{◌≡◌, ◌<◌, ◌≤◌, ◌+◌, ◌%◌, ℕ, OnOk, slice_index};
 ghost use Rattle.trlab_road.specs.Cells.{cars};
-ghost use Rattle.trlab_road.specs.Legal.{IsLegal};
-ghost use Rattle.trlab_road.specs.Motion.{IsCleanMotion, AreSafeSpeeds, Moves, in_order};
-ghost use Rattle.trlab_step.specs.Answers.{IsSpeedsPart, dice_of};
+ghost use Rattle.trlab_step.specs.Answers.{IsSpeedsPart};
 
 use crate::block::{BLOCK, fill_motion_views};
 use std::alloc::{AllocError, Global};
@@ -14,54 +11,6 @@ use trlab_machine::{
 };
 use trlab_road::Road;
 use trlab_verify::Motion;
-use trlab_words::Key;
-
-/// Runs a motion program for the cars `from..to` in standing order, and returns their new speeds in cells per step.
-///
-/// Each car's random words are determined by the key, its own number, the number of the road and the number of the
-/// step. All cars see the same road, so parts can be computed in any order, or at the same time.
-///
-/// # Errors
-///
-/// If an allocation fails.
-pub fn move_part(
-    alloc: Global,
-    road: &Road,
-    motion: &Motion,
-    key: &Key,
-    number: u32,
-    step: u32,
-    from: u32,
-    to: u32,
-) -> Result<Vec<u32>, AllocError>
-    requires rising { from ≤ to }
-    requires within { to ≤ cars road.now }
-    ensures { IfOk result (λ speeds.
-        IsSpeedsPart motion.now (dice_of key.now.0 number step) road.now from to speeds.items) }
-{
-    let mut answers = Vec::new(alloc);
-    compute_speeds(
-        &mut answers,
-        road,
-        motion,
-        &Dice::new(key, number, step),
-        from,
-        to,
-    )?;
-    let speeds = speeds_to_u32(alloc, &answers)?;
-    Ok(speeds)
-}
-
-/// The speeds as `u32` numbers.
-fn speeds_to_u32(alloc: Global, speeds: &[u8]) -> Result<Vec<u32>, AllocError>
-    ensures { IfOk result (λ numbers. numbers.items ≡ speeds.now) }
-{
-    let mut numbers = Vec::with_capacity(alloc, speeds.len())?;
-    for speed in speeds {
-        numbers.push(u32::from(*speed))?;
-    }
-    Ok(numbers)
-}
 
 /// The lowest byte of each number of a column: the number itself, if it is at most 255.
 #[inline(always)]
@@ -75,7 +24,10 @@ fn low_bytes<const N: usize>(numbers: &Column<N>) -> [u8; N]
     bytes
 }
 
-/// Replaces the contents of a list with the speeds that `move_part` returns, each in a byte.
+/// Runs a motion program for the cars `from..to` in standing order, and replaces the contents of a list with their new
+/// speeds in cells per step, each in a byte.
+///
+/// All cars see the same road, so parts can be computed in any order, or at the same time.
 ///
 /// # Errors
 ///
@@ -130,38 +82,4 @@ fn compute_few_speeds(
     let answers = low_bytes(&run_few_motions(motion, &views, dice, &mut registers));
     speeds.extend_from_slice(&answers[..(to - from) as usize])?;
     Ok(())
-}
-
-/// The road after the motion: all cars move at once by their new speeds, in cells per step. The speeds are in
-/// standing order, and each is at most the car's gap and the limit.
-///
-/// Nothing collides: each car moves only over empty cells, no car is lost, and no two cars meet.
-///
-/// # Errors
-///
-/// If an allocation fails.
-pub fn commit_motion(alloc: Global, road: &Road, speeds: &[u32]) -> Result<Road, AllocError>
-    requires { AreSafeSpeeds road.now speeds.now }
-    ensures moves { IfOk result (λ next. (answer : ℕ → ℕ → ℕ)
-        → speeds.now ≡ in_order answer road.now → Moves answer road.now next) }
-    ensures clean { IfOk result (λ next. IsCleanMotion road.now next) }
-    ensures legal { IfOk result (λ next. IsLegal next) }
-{
-    // only the proof reads it: the road is legal, so each speed fits into a byte
-    let _start = road.snapshot();
-    let mut next = road.copy(alloc)?;
-    next.move_cars(&speeds_to_bytes(alloc, speeds)?);
-    Ok(next)
-}
-
-/// The speeds as bytes; each is at most `MAX_LIMIT`.
-fn speeds_to_bytes(alloc: Global, speeds: &[u32]) -> Result<Vec<u8>, AllocError>
-    requires { (k : ℕ) → k < length speeds.now → slice_index speeds.now k ≤ MAX_LIMIT }
-    ensures { IfOk result (λ bytes. bytes.items ≡ speeds.now) }
-{
-    let mut bytes = Vec::with_capacity(alloc, speeds.len())?;
-    for speed in speeds {
-        bytes.push(*speed as u8)?;
-    }
-    Ok(bytes)
 }

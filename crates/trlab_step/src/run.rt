@@ -1,9 +1,7 @@
 //! Runs: a road advances step by step under a schedule of rules, and the tallies of its steps are added up.
 
 ghost use Rattle.std.specs.Prelude.{◌≡◌, ◌+◌, ◌<◌, ◌^◌, OnOk, OnErr, length};
-ghost use Rattle.trlab_step.specs.Laws.{IsSheetFor};
-ghost use Rattle.trlab_step.specs.Run.{IsRoadAt, IsTallyAt};
-ghost use Rattle.trlab_step.specs.Progress.{IsReachedByRun, IsOneStepOn, at_start};
+ghost use Rattle.trlab_step.specs.Run.{IsSheetFor, IsRoadAt, IsTallyAt, IsReachedByRun, IsOneStepOn, at_start};
 
 use crate::schedule::Schedule;
 use crate::tally::{no_tally, tally_sum};
@@ -48,7 +46,7 @@ impl Drop for Run {
 }
 
 impl Model for Run {
-    ghost use Rattle.trlab_step.specs.Progress.{IsReachedByRun, Progress};
+    ghost use Rattle.trlab_step.specs.Run.{IsReachedByRun, Progress};
 
     ghost Value = { Progress };
 

@@ -1,41 +1,18 @@
 //! One step of a road under a rule: the lane change, if the rule has one, and then the motion.
 
-ghost use Rattle.std.specs.Prelude.{◌≡◌, ◌↔◌, Some, IfOk, OnOk, OnErr, IsSome, IsTrue, length};
+ghost use Rattle.std.specs.Prelude.{◌≡◌, Some, IfOk, OnOk, OnErr, IsSome, length};
 ghost use Rattle.trlab_road.specs.LaneChange.{IsCleanLaneChange};
 ghost use Rattle.trlab_road.specs.Legal.{IsLegal};
-ghost use Rattle.trlab_step.specs.Answers.{dice_of};
-ghost use Rattle.trlab_step.specs.Next.{IsCleanNext, IsCountedMotion, IsLaneChangePhase, IsNext, IsStepResult};
-ghost use Rattle.trlab_step.specs.declared.step.StepFault.TheVariants.{Memory};
+ghost use Rattle.trlab_step.specs.Next.{IsCleanNext, IsCountedMotion, IsLaneChangePhase, IsNext};
 
-use crate::executor::{Caller, Executor, NoObserver, StepObserver};
+use crate::executor::{Executor, NoObserver, StepObserver};
 use crate::tally::{StepTally, count_lane_changes, tally_of};
 use std::alloc::{AllocError, Global};
 use std::mem;
-use thiserror::Error;
 use trlab_machine::Dice;
 use trlab_road::{Road, Room};
 use trlab_rules::Rule;
 use trlab_verify::{Change, Motion};
-use trlab_words::Key;
-
-/// Why a step was not taken.
-#[derive(Clone, Copy, Debug, PartialEq, Eq, Error)]
-pub enum StepFault {
-    /// The rule has a change program, but the road has only one lane.
-    #[error("a change program needs two lanes")]
-    LanesMismatch,
-    /// An allocation failed.
-    #[error("out of memory")]
-    Memory,
-}
-
-impl From<AllocError> for StepFault {
-    ghost from_gives = { λ _ fault. fault ≡ Memory };
-
-    fn from(_: AllocError) -> StepFault {
-        StepFault::Memory
-    }
-}
 
 /// Memory that is kept from step to step, so that most steps on one thread allocate nothing. No result depends on its
 /// contents.
@@ -78,69 +55,12 @@ pub struct StepContext<'a, A> {
     pub dice: &'a Dice,
 }
 
-/// Whether the rule has a change program but the road has only one lane.
-fn lanes_mismatch(road: &Road, rule: &Rule) -> bool
-    ensures value { IsTrue result ↔ (IsSome rule.now.change × (length road.now.lanes ≡ 1)) }
-    ensures legal { IsLegal road.now }
-{
-    road.lanes() == 1 && rule.change().is_some()
-}
-
-/// The next road under a rule, and the tally of the step. The executor computes the answers of the cars.
+/// Takes a step: the road becomes the next road under the rule. The step uses the memory of the room. An observer sees
+/// the road before the step, even if an allocation fails.
 ///
 /// If the rule has a change program, it decides on this road which cars cross, and these cross at once. On the road
 /// after the lane change the motion program decides the new speeds, and all cars move at once. A car has the same
 /// random words in both phases.
-///
-/// # Errors
-///
-/// `LanesMismatch` if the rule has a change program and the road has one lane, and `Memory` if an allocation fails.
-pub fn step_road_by<A: Executor>(
-    executor: &A,
-    alloc: Global,
-    road: &Road,
-    rule: &Rule,
-    dice: &Dice,
-) -> Result<(Road, StepTally), StepFault>
-    requires { A.is_ready executor.now }
-    ensures { IsStepResult rule.now dice.now road.now result }
-{
-    if lanes_mismatch(road, rule) {
-        return Err(StepFault::LanesMismatch);
-    }
-    let mut next = road.copy(alloc)?;
-    let mut room = StepRoom::new(alloc);
-    let context = StepContext {
-        executor,
-        alloc,
-        dice,
-    };
-    let tally = take_step(&context, &mut next, &mut room, rule, &mut NoObserver)?;
-    Ok((next, tally))
-}
-
-/// The next road under a rule, and the tally of the step, computed on the calling thread.
-///
-/// The key, the number of the road and the number of the step determine the random words.
-///
-/// # Errors
-///
-/// `LanesMismatch` if the rule has a change program and the road has one lane, and `Memory` if an allocation fails.
-pub fn step_road(
-    alloc: Global,
-    road: &Road,
-    rule: &Rule,
-    key: &Key,
-    number: u32,
-    step: u32,
-) -> Result<(Road, StepTally), StepFault>
-    ensures { IsStepResult rule.now (dice_of key.now.0 number step) road.now result }
-{
-    step_road_by(&Caller, alloc, road, rule, &Dice::new(key, number, step))
-}
-
-/// Takes a step: the road becomes the next road under the rule. The step uses the memory of the room. An observer sees
-/// the road before the step, even if an allocation fails.
 ///
 /// # Errors
 ///

@@ -20,9 +20,8 @@ use Rattle.trlab_asm.specs.declared.fault.AsmFault.{AsmFault}
 use Rattle.trlab_asm.specs.declared.fault.Why.TheVariants.{Memory}
 use Rattle.trlab_asm.specs.Assembly.{code_of}
 use Rattle.trlab_asm.proofs.Said.{lines_say}
-use Rattle.trlab_verify.specs.CheckedProgram.{CheckedProgram, IsChecked}
-use Rattle.trlab_verify.specs.Longest.{IsLongest}
-use Rattle.trlab_verify.specs.Verdict.{IsAccepted, IsRefused, reason_number_at}
+use Rattle.trlab_verify.specs.Verified.{CheckedProgram, IsChecked}
+use Rattle.trlab_verify.specs.Verdict.{IsLongest, IsAccepted, IsRefused, reason_number_at}
 use Rattle.trlab_verify.proofs.Judged.{accepted_or_refused, some_budget}
 use Rattle.trlab_texts.specs.declared.fault.Cause.{Cause}
 use Rattle.trlab_texts.specs.declared.fault.Cause.TheVariants.{Line, Hex, Code, Verdict}

@@ -6,7 +6,7 @@ use Rattle.trlab_code.specs.declared.program.Kind.{Kind}
 use Rattle.trlab_code.specs.declared.program.Kind.TheVariants.{Motion, Change}
 use Rattle.trlab_code.specs.declared.fault.CodeFault.TheVariants.{Kind as OtherKind}
 use Rattle.trlab_code.specs.Program.{Program}
-use Rattle.trlab_verify.specs.CheckedProgram.{CheckedProgram}
+use Rattle.trlab_verify.specs.Verified.{CheckedProgram}
 use Rattle.trlab_texts.specs.declared.fault.Cause.TheVariants.{Code}
 use Rattle.trlab_texts.specs.declared.fault.LineFault.{LineFault}
 use Rattle.trlab_texts.specs.declared.fault.LineFault.TheVariants.{Wrong, Memory as NoMemory}

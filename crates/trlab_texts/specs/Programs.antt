@@ -11,7 +11,7 @@ use Rattle.trlab_code.specs.Encoding.{encoding}
 use Rattle.trlab_code.specs.Faults.{IsFirstCodeFault as FirstCodeFault}
 use Rattle.trlab_asm.specs.declared.fault.AsmFault.{AsmFault}
 use Rattle.trlab_asm.specs.Assembly.{code_of}
-use Rattle.trlab_verify.specs.CheckedProgram.{CheckedProgram, IsChecked}
+use Rattle.trlab_verify.specs.Verified.{CheckedProgram, IsChecked}
 use Rattle.trlab_verify.specs.Verdict.{IsAccepted, IsRefused}
 use Rattle.trlab_texts.specs.declared.fault.Cause.{Cause}
 use Rattle.trlab_texts.specs.declared.fault.Cause.TheVariants.{Line, Hex, Program as InProgram, Code, Verdict}

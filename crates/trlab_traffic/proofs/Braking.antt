@@ -15,11 +15,9 @@ use Rattle.trlab_road.specs.Motion.{IsClearAhead}
 use Rattle.trlab_road.specs.Standing.{standing}
 use Rattle.trlab_road.proofs.Ring.{car_in, clear_within_gap}
 use Rattle.trlab_road.proofs.StandingOrder.{length-standing_from_lane, standing_cell}
-use Rattle.trlab_rules.specs.Laws.{ComputesSpeed}
+use Rattle.trlab_rules.specs.Rules.{ComputesSpeed, Programs, IsRickert}
 use Rattle.trlab_rules.specs.Published.{brake, nasch_speed, safe_speed, vdr_braking_chance}
-use Rattle.trlab_rules.specs.Rules.{Programs}
-use Rattle.trlab_rules.specs.StandardRules.{IsRickert}
-use Rattle.trlab_verify.specs.CheckedProgram.{CheckedProgram}
+use Rattle.trlab_verify.specs.Verified.{CheckedProgram}
 use Rattle.trlab_step.specs.declared.tally.StepTally.{StepTally}
 use Rattle.trlab_step.specs.Next.{IsMotionPhase, IsNext, IsStep, total_speed}
 use Rattle.trlab_step.specs.Laws.{IsLegalLike}

@@ -4,7 +4,7 @@ use Rattle.std.specs.Prelude.{All, nat_le, slice_index, sum_by}
 use Rattle.std.proofs.lemmas.Bool.{cases_lt, le-leb, lt-leb}
 use Rattle.std.proofs.lemmas.List.{length-map}
 use Rattle.std.proofs.lemmas.List.Sums.{sum-map, sum_by-cons, sum_by-le}
-use Rattle.trlab_verify.specs.CheckedProgram.{CheckedProgram}
+use Rattle.trlab_verify.specs.Verified.{CheckedProgram}
 use Rattle.trlab_machine.specs.declared.dice.Dice.{Dice}
 use Rattle.trlab_road.specs.declared.car.Car.{Car}
 use Rattle.trlab_road.specs.Cells.{AgreeAtCars, Cells, Lane, cars, lane_of}

@@ -24,13 +24,12 @@ use Rattle.trlab_rules.specs.Standard.{nasch_program}
 use Rattle.trlab_rules.specs.Rules.{Programs}
 use Rattle.trlab_machine.specs.declared.dice.Dice.{Dice}
 use Rattle.trlab_machine.specs.Blocks.{words_of}
-use Rattle.trlab_machine.specs.Crossings.{crossing_answer}
-use Rattle.trlab_verify.specs.CheckedProgram.{CheckedProgram}
+use Rattle.trlab_machine.specs.Answers.{crossing_answer}
+use Rattle.trlab_verify.specs.Verified.{CheckedProgram}
 use Rattle.trlab_step.specs.Answers.{change_view_of, motion_view_of}
 use Rattle.trlab_step.specs.Next.{IsLaneChangePhase, IsMotionPhase, IsNext}
-use Rattle.trlab_step.specs.Run.{dice_at, IsRoadAt, Seed}
+use Rattle.trlab_step.specs.Run.{dice_at, IsRoadAt, Seed, IsRuleFor, IsSheetFor}
 use Rattle.trlab_step.proofs.RunLaws.{force_all, road_at_is_one, run_comes_to_road}
-use Rattle.trlab_step.specs.Laws.{IsRuleFor, IsSheetFor}
 use Rattle.trlab_step.proofs.NextLaws.{next_road_is_one}
 use Rattle.trlab_traffic.specs.Terms.{all_cells, lane_cells, always}
 use Rattle.trlab_traffic.specs.Invariance.{HasOneOutcome, IsDeterministic, NaschWithoutRandomizationIsDeterministic, RunIsDeterministic, StepIsDeterministic, DeterministicRunsBecomePeriodic}

@@ -14,13 +14,11 @@ use Rattle.trlab_machine.proofs.Answers.{one_answer}
 use Rattle.trlab_road.specs.declared.car.Car.{Car}
 use Rattle.trlab_road.specs.Cells.{Cells, IsAt}
 use Rattle.trlab_road.specs.Legal.{IsLegal}
-use Rattle.trlab_rules.specs.Laws.{ComputesSpeed}
+use Rattle.trlab_rules.specs.Rules.{ComputesSpeed, Programs, IsNasch}
 use Rattle.trlab_rules.specs.Published.{brake, nasch_speed, safe_speed, vdr_braking_chance, vdr_speed}
-use Rattle.trlab_rules.specs.Rules.{Programs}
 use Rattle.trlab_step.specs.Answers.{AnswersSpeed, motion_view_of}
 use Rattle.trlab_step.specs.Run.{Seed, dice_at}
 use Rattle.trlab_rules.proofs.Rows.{Run, get, go, smaller}
-use Rattle.trlab_rules.specs.StandardRules.{IsNasch}
 use Rattle.trlab_step.proofs.AnswersExist.{motion_view_is_view}
 use Rattle.trlab_step.proofs.PartLaws.{one_answer_each}
 use Rattle.trlab_step.proofs.RunLaws.{force_all}

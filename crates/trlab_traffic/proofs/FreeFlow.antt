@@ -17,8 +17,7 @@ use Rattle.trlab_road.proofs.MotionLaws.{on_lane, one_road_only}
 use Rattle.trlab_road.proofs.Ring.{car_in, clear_within_gap, inside}
 use Rattle.trlab_road.proofs.StandingOrder.{length-standing_from_lane, standing_cell}
 use Rattle.trlab_road.proofs.MotionInOrder.{moves_by}
-use Rattle.trlab_rules.specs.Rules.{Programs}
-use Rattle.trlab_rules.specs.StandardRules.{IsNasch, IsVdr}
+use Rattle.trlab_rules.specs.Rules.{Programs, IsNasch, IsVdr}
 use Rattle.trlab_rules.specs.Published.{safe_speed, brake, vdr_braking_chance, vdr_speed}
 use Rattle.trlab_machine.specs.declared.dice.Dice.{Dice}
 use Rattle.trlab_machine.specs.Blocks.{words_of}

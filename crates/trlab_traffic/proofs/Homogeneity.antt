@@ -6,10 +6,10 @@ use Rattle.trlab_code.specs.declared.program.Kind.TheVariants.{Change, Motion}
 use Rattle.trlab_code.specs.declared.view.View.{View}
 use Rattle.trlab_code.specs.Machine.{EndsWith, Goes}
 use Rattle.trlab_code.specs.Views.{change_view}
-use Rattle.trlab_verify.specs.CheckedProgram.{CheckedProgram}
+use Rattle.trlab_verify.specs.Verified.{CheckedProgram}
 use Rattle.trlab_machine.specs.declared.dice.Dice.{Dice}
 use Rattle.trlab_machine.specs.Blocks.{words_of}
-use Rattle.trlab_machine.specs.Crossings.{crossing_answer}
+use Rattle.trlab_machine.specs.Answers.{crossing_answer}
 use Rattle.trlab_road.specs.declared.car.Car.{Car}
 use Rattle.trlab_road.specs.Cells.{Cells, IsAt, Lane, at, lane_of}
 use Rattle.trlab_road.specs.Gaps.{ahead, gap, headspeed, side, sideback, sidegap}

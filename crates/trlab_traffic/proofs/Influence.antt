@@ -14,8 +14,7 @@ use Rattle.trlab_road.proofs.MotionLaws.{one_lane_only}
 use Rattle.trlab_road.proofs.Ring.{car_in, clear_within_gap, ends_before, inside}
 use Rattle.trlab_road.specs.Legal.{IsLegal}
 use Rattle.trlab_road.proofs.ListGaps.{clear_from}
-use Rattle.trlab_rules.specs.Rules.{Programs}
-use Rattle.trlab_rules.specs.Laws.{ComputesSpeed}
+use Rattle.trlab_rules.specs.Rules.{Programs, ComputesSpeed}
 use Rattle.trlab_rules.specs.Published.{brake, nasch_speed, safe_speed, vdr_braking_chance}
 use Rattle.trlab_machine.specs.Blocks.{words_of}
 use Rattle.trlab_machine.specs.declared.dice.Dice.{Dice}

@@ -13,7 +13,7 @@ use Rattle.trlab_road.specs.LaneChange.{CrossesToEmpty, other_lane}
 use Rattle.trlab_road.proofs.Ring.{car_in}
 use Rattle.trlab_rules.specs.Rules.{Programs}
 use Rattle.trlab_machine.specs.declared.dice.Dice.{Dice}
-use Rattle.trlab_verify.specs.CheckedProgram.{CheckedProgram}
+use Rattle.trlab_verify.specs.Verified.{CheckedProgram}
 use Rattle.trlab_step.specs.declared.tally.StepTally.{StepTally}
 use Rattle.trlab_step.specs.Next.{IsNext, IsLaneChangePhase}
 use Rattle.trlab_step.specs.Run.{ComesTo, Seed, Sheet, dice_at, tally_sum}

@@ -10,10 +10,8 @@ use Rattle.trlab_road.specs.Cells.{Cells, IsAt, Lane, cars, lane_of}
 use Rattle.trlab_road.specs.Gaps.{gap, next_place}
 use Rattle.trlab_road.specs.Legal.{IsLegal}
 use Rattle.trlab_road.proofs.MotionLaws.{on_lane}
-use Rattle.trlab_rules.specs.Laws.{ComputesSpeed}
+use Rattle.trlab_rules.specs.Rules.{ComputesSpeed, Programs, IsNasch}
 use Rattle.trlab_rules.specs.Published.{nasch_speed, safe_speed}
-use Rattle.trlab_rules.specs.Rules.{Programs}
-use Rattle.trlab_rules.specs.StandardRules.{IsNasch}
 use Rattle.trlab_step.specs.Answers.{AnswersSpeed}
 use Rattle.trlab_step.specs.declared.tally.StepTally.{StepTally}
 use Rattle.trlab_step.specs.Laws.{IsLegalLike}

@@ -12,8 +12,7 @@ use Rattle.trlab_road.proofs.MotionLaws.{on_lane}
 use Rattle.trlab_road.proofs.Ring.{car_in, clear_within_gap, ends_before, inside}
 use Rattle.trlab_road.specs.declared.car.Car.{Car}
 use Rattle.trlab_road.specs.Motion.{LaneFits, LaneMoves}
-use Rattle.trlab_rules.specs.Rules.{Programs}
-use Rattle.trlab_rules.specs.StandardRules.{IsNasch, IsVdr}
+use Rattle.trlab_rules.specs.Rules.{Programs, IsNasch, IsVdr}
 use Rattle.trlab_rules.specs.Published.{safe_speed, brake, nasch_speed, vdr_braking_chance}
 use Rattle.trlab_step.specs.Next.{IsNext}
 use Rattle.trlab_step.specs.Run.{IsRoadAt, Seed, Sheet, dice_at}

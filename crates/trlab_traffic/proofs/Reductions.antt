@@ -6,7 +6,7 @@ use Rattle.std.proofs.lemmas.List.Sums.{sum_by-cons}
 use Rattle.trlab_code.specs.declared.program.Kind.TheVariants.{Change}
 use Rattle.trlab_code.specs.declared.view.View.{View}
 use Rattle.trlab_code.specs.Machine.{Crosses as EndsAcross, Stays, EndsWith}
-use Rattle.trlab_verify.specs.CheckedProgram.{CheckedProgram}
+use Rattle.trlab_verify.specs.Verified.{CheckedProgram}
 use Rattle.trlab_machine.specs.declared.dice.Dice.{Dice}
 use Rattle.trlab_machine.specs.Blocks.{words_of}
 use Rattle.trlab_road.specs.declared.car.Car.{Car}
@@ -17,11 +17,9 @@ use Rattle.trlab_road.specs.Standing.{standing}
 use Rattle.trlab_road.proofs.LaneChangeLaws.{crosses_by, one_road_after_change}
 use Rattle.trlab_road.proofs.Numbers.{no_one}
 use Rattle.trlab_road.proofs.StandingOrder.{length-standing_from_lane, standing_cell}
-use Rattle.trlab_rules.specs.Laws.{ComputesCrossing, ComputesSpeed}
+use Rattle.trlab_rules.specs.Rules.{ComputesCrossing, ComputesSpeed, Programs, IsChangeComputing}
 use Rattle.trlab_rules.specs.Published.{nasch_speed, rickert_crosses, vdr_speed}
-use Rattle.trlab_rules.specs.Rules.{Programs}
 use Rattle.trlab_rules.specs.Standard.{rickert_program}
-use Rattle.trlab_rules.specs.StandardRules.{IsChangeComputing}
 use Rattle.trlab_step.specs.declared.tally.StepTally.{StepTally}
 use Rattle.trlab_step.specs.Answers.{AnswersCrossing, AnswersCrossings, AnswersSpeed, AnswersSpeeds, change_view_of, motion_view_of}
 use Rattle.trlab_step.specs.Laws.{IsLegalLike}

@@ -11,8 +11,7 @@ use Rattle.trlab_road.specs.Motion.{Fits, LaneFits, LaneMoves, Moves}
 use Rattle.trlab_road.specs.Standing.{standing_from}
 use Rattle.trlab_road.proofs.Ring.{car_in}
 use Rattle.trlab_machine.specs.declared.dice.Dice.{Dice}
-use Rattle.trlab_rules.specs.Rules.{Programs}
-use Rattle.trlab_rules.specs.StandardRules.{IsNasch}
+use Rattle.trlab_rules.specs.Rules.{Programs, IsNasch}
 use Rattle.trlab_step.specs.declared.tally.StepTally.{StepTally}
 use Rattle.trlab_step.specs.Laws.{IsLegalLike}
 use Rattle.trlab_step.specs.Next.{IsNext}

@@ -12,8 +12,7 @@ use Rattle.trlab_road.specs.Legal.{IsLegal}
 use Rattle.trlab_road.specs.Motion.{LaneMoves}
 use Rattle.trlab_road.proofs.Ring.{car_in, inside}
 use Rattle.trlab_rules.specs.Published.{brake, nasch_speed, safe_speed}
-use Rattle.trlab_rules.specs.Rules.{Programs}
-use Rattle.trlab_rules.specs.StandardRules.{IsNasch}
+use Rattle.trlab_rules.specs.Rules.{Programs, IsNasch}
 use Rattle.trlab_step.specs.declared.tally.StepTally.{StepTally}
 use Rattle.trlab_step.specs.Next.{IsMotionPhase, IsNext}
 use Rattle.std.specs.Prelude.{sum_by}

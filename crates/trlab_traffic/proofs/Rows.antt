@@ -14,7 +14,7 @@ use Rattle.trlab_step.proofs.RunLaws.{road_at_is_one}
 use Rattle.trlab_step.specs.Next.{IsLaneChangePhase}
 use Rattle.trlab_step.specs.Run.{ComesTo, Seed, Sheet, dice_at, IsRoadAt}
 use Rattle.trlab_step.specs.declared.tally.StepTally.{StepTally}
-use Rattle.trlab_verify.specs.CheckedProgram.{CheckedProgram}
+use Rattle.trlab_verify.specs.Verified.{CheckedProgram}
 use Rattle.trlab_traffic.specs.Terms.{empty_cells, lane_empty_cells, is_taken}
 use Rattle.trlab_traffic.specs.LimitOne.{digit}
 use Rattle.trlab_traffic.specs.Detectors.{cars_ahead_of, passages, all_passages, cells_ahead_to, DifferByAtMost, DetectorHasCounted, RowMeasuresFlow, RowsAgree, RunSatisfiesContinuityByRows, StepIsContinuousByRows, cars_ahead_of_row, row_passages}

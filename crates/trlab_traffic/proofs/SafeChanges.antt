@@ -5,10 +5,10 @@ use Rattle.std.proofs.lemmas.Bool.{and_parts, ltb-true}
 use Rattle.trlab_code.specs.declared.program.Kind.TheVariants.{Change}
 use Rattle.trlab_code.specs.declared.view.View.{View}
 use Rattle.trlab_code.specs.Machine.{Crosses as EndsAcross, Stays, EndsWith}
-use Rattle.trlab_verify.specs.CheckedProgram.{CheckedProgram}
+use Rattle.trlab_verify.specs.Verified.{CheckedProgram}
 use Rattle.trlab_machine.specs.declared.dice.Dice.{Dice}
 use Rattle.trlab_machine.specs.Blocks.{words_of}
-use Rattle.trlab_machine.specs.Crossings.{crossing_answer}
+use Rattle.trlab_machine.specs.Answers.{crossing_answer}
 use Rattle.trlab_machine.proofs.Answers.{one_answer}
 use Rattle.trlab_road.specs.declared.car.Car.{Car}
 use Rattle.trlab_road.specs.Cells.{Cell, Cells, IsAt, Lane, at, cars, cell, lane_of}
@@ -20,11 +20,9 @@ use Rattle.trlab_road.proofs.LaneChangeLaws.{came_from, lane_change_none_lost}
 use Rattle.trlab_road.proofs.MotionLaws.{on_lane}
 use Rattle.trlab_road.proofs.Numbers.{all_present}
 use Rattle.trlab_road.proofs.Ring.{car_in, clear_at, clear_within_gap, greatest_passes, inside}
-use Rattle.trlab_rules.specs.Laws.{ComputesCrossing, ComputesSpeed}
+use Rattle.trlab_rules.specs.Rules.{ComputesCrossing, ComputesSpeed, Programs, IsChangeComputing}
 use Rattle.trlab_rules.specs.Published.{brake, happens_at, nasch_speed, rickert_crosses, safe_speed, vdr_braking_chance}
-use Rattle.trlab_rules.specs.Rules.{Programs}
 use Rattle.trlab_rules.specs.Standard.{rickert_program}
-use Rattle.trlab_rules.specs.StandardRules.{IsChangeComputing}
 use Rattle.trlab_step.specs.declared.tally.StepTally.{StepTally}
 use Rattle.trlab_step.specs.Answers.{AnswersCrossings, change_view_of, motion_view_of}
 use Rattle.trlab_step.specs.Next.{IsLaneChangePhase, IsMotionPhase, IsNext, stopped_cars, total_speed}

@@ -16,17 +16,14 @@ use Rattle.trlab_road.proofs.LaneChangeLaws.{lane_change_legal, lane_change_same
 use Rattle.trlab_road.proofs.MotionLaws.{moved_legal, moves_same_count}
 use Rattle.trlab_road.proofs.Ring.{car_in, none_is}
 use Rattle.trlab_road.specs.Gaps.{gap}
-use Rattle.trlab_rules.specs.Rules.{Programs}
-use Rattle.trlab_rules.specs.Laws.{ComputesSpeed}
+use Rattle.trlab_rules.specs.Rules.{Programs, ComputesSpeed, IsNasch}
 use Rattle.trlab_rules.specs.Published.{brake, nasch_speed, safe_speed}
-use Rattle.trlab_rules.specs.StandardRules.{IsNasch}
 use Rattle.trlab_machine.specs.declared.dice.Dice.{Dice}
 use Rattle.trlab_machine.specs.Blocks.{words_of, word_of}
-use Rattle.trlab_machine.specs.Crossings.{crossing_answer}
-use Rattle.trlab_machine.specs.Moves.{IsAllowed}
+use Rattle.trlab_machine.specs.Answers.{crossing_answer, IsAllowed}
 use Rattle.trlab_machine.proofs.Crossings.{crossing_allowed}
 use Rattle.trlab_machine.proofs.Speeds.{speed_allowed}
-use Rattle.trlab_verify.specs.CheckedProgram.{CheckedProgram}
+use Rattle.trlab_verify.specs.Verified.{CheckedProgram}
 use Rattle.trlab_step.specs.declared.tally.StepTally.{StepTally}
 use Rattle.trlab_step.specs.Answers.{AnswersSpeeds, AnswersCrossings, change_view_of, motion_view_of}
 use Rattle.trlab_step.specs.Laws.{IsLegalLike}

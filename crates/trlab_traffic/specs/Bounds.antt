@@ -9,8 +9,7 @@ use Rattle.trlab_road.specs.Gaps.{gap}
 use Rattle.trlab_road.specs.Legal.{IsLegal}
 use Rattle.trlab_road.specs.Standing.{standing}
 use Rattle.trlab_rules.specs.Published.{vdr_braking_chance}
-use Rattle.trlab_rules.specs.Rules.{Programs}
-use Rattle.trlab_rules.specs.StandardRules.{IsNasch, IsVdr, IsRickert}
+use Rattle.trlab_rules.specs.Rules.{Programs, IsNasch, IsVdr, IsRickert}
 use Rattle.trlab_machine.specs.declared.dice.Dice.{Dice}
 use Rattle.trlab_step.specs.declared.tally.StepTally.{StepTally}
 use Rattle.trlab_step.specs.Next.{IsStep, IsNext}

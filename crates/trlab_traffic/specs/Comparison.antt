@@ -14,12 +14,10 @@ use Rattle.trlab_road.specs.declared.car.Car.{Car}
 use Rattle.trlab_road.specs.Cells.{Cells, IsAt, lane_of, cars}
 use Rattle.trlab_road.specs.Gaps.{ahead, gap}
 use Rattle.trlab_road.specs.Legal.{IsLegal}
-use Rattle.trlab_rules.specs.Laws.{ComputesSpeed}
+use Rattle.trlab_rules.specs.Rules.{ComputesSpeed, Programs, IsNasch, IsVdr, IsRickert}
 use Rattle.trlab_rules.specs.Published.{nasch_speed, vdr_speed}
-use Rattle.trlab_rules.specs.Rules.{Programs}
-use Rattle.trlab_rules.specs.StandardRules.{IsNasch, IsVdr, IsRickert}
 use Rattle.trlab_machine.specs.declared.dice.Dice.{Dice}
-use Rattle.trlab_verify.specs.CheckedProgram.{CheckedProgram}
+use Rattle.trlab_verify.specs.Verified.{CheckedProgram}
 use Rattle.trlab_step.specs.declared.tally.StepTally.{StepTally}
 use Rattle.trlab_step.specs.Next.{IsNext}
 use Rattle.trlab_step.specs.Run.{Seed, Sheet, ComesTo, IsRoadAt}

@@ -7,8 +7,7 @@ use Rattle.trlab_road.specs.Cells.{Cells, IsAt, lane_of, cars}
 use Rattle.trlab_road.specs.Gaps.{gap}
 use Rattle.trlab_road.specs.Legal.{IsLegal}
 use Rattle.trlab_road.specs.Spreading.{IsEvenlySpaced, CanSpread}
-use Rattle.trlab_rules.specs.Rules.{Programs}
-use Rattle.trlab_rules.specs.StandardRules.{IsNasch}
+use Rattle.trlab_rules.specs.Rules.{Programs, IsNasch}
 use Rattle.trlab_step.specs.declared.tally.StepTally.{StepTally}
 use Rattle.trlab_step.specs.Run.{Seed, Sheet, ComesTo}
 use Rattle.trlab_traffic.specs.Terms.{EachRule, StaysInLane, always, counted_steps, empty_cells, lane_max_distance, max_distance}

@@ -8,8 +8,7 @@ use Rattle.trlab_road.specs.Cells.{Cells, IsAt, lane_of, cars}
 use Rattle.trlab_road.specs.Gaps.{gap}
 use Rattle.trlab_road.specs.Legal.{IsLegal}
 use Rattle.trlab_road.specs.Spreading.{CanSpread}
-use Rattle.trlab_rules.specs.Rules.{Programs}
-use Rattle.trlab_rules.specs.StandardRules.{IsNasch, IsVdr}
+use Rattle.trlab_rules.specs.Rules.{Programs, IsNasch, IsVdr}
 use Rattle.trlab_machine.specs.declared.dice.Dice.{Dice}
 use Rattle.trlab_step.specs.declared.tally.StepTally.{StepTally}
 use Rattle.trlab_step.specs.Next.{IsNext}

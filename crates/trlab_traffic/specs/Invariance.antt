@@ -10,13 +10,11 @@ use Rattle.trlab_code.specs.declared.instruction.Instr.TheVariants.{Draw, Get}
 use Rattle.trlab_road.specs.Cells.{Cells, at, lane_of, cars}
 use Rattle.trlab_road.specs.Gaps.{ahead}
 use Rattle.trlab_road.specs.Legal.{IsLegal}
-use Rattle.trlab_rules.specs.Rules.{Programs}
-use Rattle.trlab_rules.specs.StandardRules.{IsNasch, IsVdr, IsRickert}
+use Rattle.trlab_rules.specs.Rules.{Programs, IsNasch, IsVdr, IsRickert}
 use Rattle.trlab_machine.specs.declared.dice.Dice.{Dice}
 use Rattle.trlab_step.specs.declared.tally.StepTally.{StepTally}
-use Rattle.trlab_step.specs.Laws.{IsRuleFor}
+use Rattle.trlab_step.specs.Run.{IsRuleFor, Seed, Sheet, ComesTo, IsRoadAt}
 use Rattle.trlab_step.specs.Next.{IsNext}
-use Rattle.trlab_step.specs.Run.{Seed, Sheet, ComesTo, IsRoadAt}
 use Rattle.trlab_traffic.specs.Terms.{EachRule, StaysInLane, all_cells, always, rotate_road, seed_from}
 
 -- Homogeneity: all places of a ring are alike. The future of a road does not depend on where cell 0 is.

@@ -8,8 +8,7 @@ use Rattle.trlab_words.specs.Words.{random_word}
 use Rattle.trlab_road.specs.Cells.{Cell, Lane, Cells, lane_of, lane_car_count}
 use Rattle.trlab_road.specs.Gaps.{ahead, behind}
 use Rattle.trlab_road.specs.Legal.{IsLegal}
-use Rattle.trlab_rules.specs.Rules.{Programs}
-use Rattle.trlab_rules.specs.StandardRules.{IsNasch}
+use Rattle.trlab_rules.specs.Rules.{Programs, IsNasch}
 use Rattle.trlab_machine.specs.declared.dice.Dice.{Dice}
 use Rattle.trlab_step.specs.declared.tally.StepTally.{StepTally}
 use Rattle.trlab_step.specs.Next.{IsNext}

@@ -6,8 +6,7 @@ use Rattle.trlab_road.specs.Cells.{Lane, Cells, IsAt, lane_of, lane_car_count}
 use Rattle.trlab_road.specs.Gaps.{ahead, gap, next_place}
 use Rattle.trlab_road.specs.Legal.{IsLegal}
 use Rattle.trlab_road.specs.Standing.{standing}
-use Rattle.trlab_rules.specs.Rules.{Programs}
-use Rattle.trlab_rules.specs.StandardRules.{IsNasch}
+use Rattle.trlab_rules.specs.Rules.{Programs, IsNasch}
 use Rattle.trlab_step.specs.declared.tally.StepTally.{StepTally}
 use Rattle.trlab_step.specs.Published.{AllMoveAhead, car_after_motion}
 use Rattle.trlab_step.specs.Run.{Seed, Sheet, ComesTo, IsRoadAt}

@@ -1,7 +1,5 @@
 -- An accepted program is of its kind, and its control only goes forward.
-use Rattle.std.proofs.Common.{◌≡◌, ℕ, zero, suc, ◌<◌, ◌&&◌, refl, arith, inl, inr, List, length, Bool, true, false, IsTrue, Option, Some, None, nat_eq, nat_le}
-use Rattle.std.specs.Prelude.{slice_get}
-use Rattle.std.proofs.lemmas.Bool.{eqb-true, leb-false}
+use Rattle.std.proofs.Common.{◌≡◌, ℕ, zero, suc, ◌<◌, ◌&&◌, refl, arith, inl, inr, List, length, Bool, true, false, IsTrue, Option, Some, None, nat_eq, nat_le, slice_get, eqb-true, leb-false}
 use Rattle.std.proofs.lemmas.Option.{slice_get_within}
 use Rattle.trlab_code.specs.declared.program.Kind.{Kind}
 use Rattle.trlab_code.specs.declared.program.Kind.TheVariants.{Motion, Change}
@@ -11,9 +9,8 @@ use Rattle.trlab_code.specs.Program.{Program, IsValidProgram}
 use Rattle.trlab_code.specs.Flow.{target, falls, is_end, on_target}
 use Rattle.trlab_notes.specs.Reasons.{is_of_kind}
 use Rattle.trlab_notes.specs.Notes.{Note}
-use Rattle.trlab_verify.specs.CheckedProgram.{IsChecked}
-use Rattle.trlab_verify.specs.Longest.{HasPath, IsLongest, IsForward}
-use Rattle.trlab_verify.specs.Verdict.{IsAccepted}
+use Rattle.trlab_verify.specs.Verified.{IsChecked}
+use Rattle.trlab_verify.specs.Verdict.{HasPath, IsLongest, IsForward, IsAccepted}
 use Rattle.trlab_notes.proofs.Steps.{IsClear, clear, not_false}
 use Rattle.trlab_verify.proofs.Reasons.{noted}
 use Rattle.trlab_verify.proofs.Runs.{sound}

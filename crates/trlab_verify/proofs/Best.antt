@@ -1,7 +1,6 @@
 -- If some table of notes checks, the notes of the verdict are at least as strong, and the program is
 -- accepted.
-use Rattle.std.proofs.Common.{◌≡◌, ℕ, zero, suc, ◌<◌, ◌≤◌, ◌&&◌, refl, sym, subst, arith, inl, inr, List, length, Bool, true, false, Option, Some, None, nat_eq}
-use Rattle.std.specs.Prelude.{slice_get, IfSome}
+use Rattle.std.proofs.Common.{◌≡◌, ℕ, zero, suc, ◌<◌, ◌≤◌, ◌&&◌, refl, sym, subst, arith, inl, inr, List, length, Bool, true, false, Option, Some, None, nat_eq, slice_get, IfSome}
 use Rattle.std.proofs.lemmas.Bool.{eqb-true, cases_lt}
 use Rattle.trlab_code.specs.declared.program.Kind.{Kind}
 use Rattle.trlab_code.specs.declared.instruction.Instr.{Instr}
@@ -13,9 +12,7 @@ use Rattle.trlab_notes.specs.Reasons.{some_unset, some_of_wrong_type}
 use Rattle.trlab_notes.specs.Notes.{Note, entry}
 use Rattle.trlab_notes.specs.Transfer.{next_note, jump_note}
 use Rattle.trlab_notes.specs.Order.{join, IsNoStronger}
-use Rattle.trlab_verify.specs.Longest.{Follows}
-use Rattle.trlab_verify.specs.Incoming.{add_note, add_notes, if_here, next_note_to, jump_note_to, is_target, incoming, note_at}
-use Rattle.trlab_verify.specs.Verdict.{IsAccepted}
+use Rattle.trlab_verify.specs.Verdict.{Follows, add_note, add_notes, if_here, next_note_to, jump_note_to, is_target, incoming, note_at, IsAccepted}
 use Rattle.trlab_verify.specs.Tables.{IsNoStrongerThanVerdictNote}
 use Rattle.trlab_verify.proofs.Checking.{ChecksBy}
 use Rattle.trlab_notes.proofs.Order.{Closed, On, through_on, join_most_on}

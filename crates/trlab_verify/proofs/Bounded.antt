@@ -1,6 +1,5 @@
 -- No level above 2 is ever known.
-use Rattle.std.proofs.Common.{ℕ, zero, suc, ◌<◌, ◌≤◌, max, subst, arith, List, length, Bool, true, false, Option, Some, None, nat_eq, cond}
-use Rattle.std.specs.Prelude.{slice_get, IfSome}
+use Rattle.std.proofs.Common.{ℕ, zero, suc, ◌<◌, ◌≤◌, max, subst, arith, List, length, Bool, true, false, Option, Some, None, nat_eq, cond, slice_get, IfSome}
 use Rattle.trlab_code.specs.declared.program.Kind.{Kind}
 use Rattle.trlab_code.specs.declared.instruction.Input.TheVariants.{Speed, Limit, Headspeed}
 use Rattle.trlab_code.specs.declared.instruction.Instr.{Instr}
@@ -16,8 +15,8 @@ use Rattle.trlab_notes.specs.declared.note.AbstractValue.TheVariants.{Nothing, B
 use Rattle.trlab_notes.specs.Notes.{Note, known_level, level_between, same_variable, entry, entry_level, entry_values}
 use Rattle.trlab_notes.specs.Order.{join}
 use Rattle.trlab_notes.specs.Transfer.{sharpen, slacken, chain, least, most, result_value, result_to, to_result, register_to, assign, assign_destination, refine_order, refine_flag, next_note, jump_note}
-use Rattle.trlab_verify.specs.Incoming.{add_note, add_notes, if_here, next_note_to, jump_note_to, is_target, incoming}
-use Rattle.trlab_verify.specs.TableForm.{HasValidLevels}
+use Rattle.trlab_verify.specs.Verdict.{add_note, add_notes, if_here, next_note_to, jump_note_to, is_target, incoming}
+use Rattle.trlab_verify.specs.Tables.{HasValidLevels}
 use Rattle.trlab_verify.proofs.Checking.{ChecksBy}
 use Rattle.trlab_verify.proofs.Best.{best}
 

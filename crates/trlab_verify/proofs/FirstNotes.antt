@@ -1,16 +1,13 @@
 -- The notes of a rejected program, up to the instruction at which the verdict rejects it.
-use Rattle.std.proofs.Common.{◌≡◌, ◌≢◌, ◌∙◌, ℕ, zero, suc, ◌<◌, ◌≤◌, ◌+◌, ap, arith, sym, subst, refl, length, true, false, Bool, List, Option, Some, None, nat_eq, inl, inr}
-use Rattle.std.specs.Prelude.{IfSome}
+use Rattle.std.proofs.Common.{◌≡◌, ◌≢◌, ◌∙◌, ℕ, zero, suc, ◌<◌, ◌≤◌, ◌+◌, ap, arith, sym, subst, refl, length, true, false, Bool, List, Option, Some, None, nat_eq, inl, inr, IfSome}
 use Rattle.std.proofs.lemmas.Bool.{eqb-false, cases_lt}
 use Rattle.std.proofs.lemmas.List.{get_or-map, length-map}
 use Rattle.trlab_code.specs.declared.program.Kind.{Kind}
 use Rattle.trlab_code.specs.Program.{Program}
 use Rattle.trlab_notes.specs.Notes.{Note, entry, closure, maybe_closure}
 use Rattle.trlab_verify.specs.declared.note.Note.{Note as Form}
-use Rattle.trlab_verify.specs.Incoming.{note_at}
-use Rattle.trlab_verify.specs.TableForm.{HasInputRanges, meaning, meaning_at, table_of, form_without_marks}
-use Rattle.trlab_verify.specs.Tables.{AreFirstNotes, empty_note, note_in, noted_count}
-use Rattle.trlab_verify.specs.Verdict.{IsRefused, reason_number_at}
+use Rattle.trlab_verify.specs.Verdict.{note_at, IsRefused, reason_number_at}
+use Rattle.trlab_verify.specs.Tables.{HasInputRanges, meaning, meaning_at, table_of, form_without_marks, AreFirstNotes, empty_note, note_in, noted_count}
 use Rattle.trlab_verify.proofs.Inputs.{incoming_shows, closure_shows}
 use Rattle.trlab_verify.proofs.Reasons.{noted}
 use Rattle.trlab_verify.proofs.Runs.{fetch}

@@ -1,6 +1,5 @@
 -- The tests of a table in its form, and their consequences.
-use Rattle.std.proofs.Common.{◌≡◌, ℕ, suc, ◌<◌, ◌≤◌, ap, refl, sym, subst, List, length, Option, Some, None, ◌∙◌, get_or}
-use Rattle.std.specs.Prelude.{slice_get, IfSome}
+use Rattle.std.proofs.Common.{◌≡◌, ℕ, suc, ◌<◌, ◌≤◌, ap, refl, sym, subst, List, length, Option, Some, None, ◌∙◌, get_or, slice_get, IfSome}
 use Rattle.trlab_code.specs.declared.program.Kind.{Kind}
 use Rattle.trlab_code.specs.declared.instruction.Instr.{Instr}
 use Rattle.trlab_code.specs.Flow.{target}
@@ -15,7 +14,7 @@ use Rattle.trlab_code.specs.declared.instruction.Variable.TheVariants as variabl
 use Rattle.trlab_code.specs.Machine.{variable_number, register_number}
 use Rattle.trlab_notes.specs.Rows.{AreValidLevels, known_level_from, level_at, levels_in, value_in}
 use Rattle.trlab_notes.proofs.Variables.{below, register_below, at_numbers}
-use Rattle.trlab_verify.specs.Longest.{Follows}
+use Rattle.trlab_verify.specs.Verdict.{Follows}
 use Rattle.trlab_notes.specs.declared.note.AbstractValue.{AbstractValue}
 use Rattle.trlab_notes.specs.declared.note.AbstractValue.TheVariants.{Nothing}
 use Rattle.trlab_notes.proofs.Order.{through}
@@ -23,9 +22,8 @@ use Rattle.trlab_notes.proofs.Closure.{settled_less, settled_more, said_same, si
 use Rattle.trlab_notes.proofs.Tables.{note_same, level_same, known_unfolds}
 use Rattle.trlab_verify.specs.declared.note.Note.{Note as Form}
 use Rattle.trlab_verify.specs.declared.note.Mark.TheVariants.{Unset}
-use Rattle.trlab_verify.specs.TableForm.{mark_value, form_value, meaning, HasValidLevels}
+use Rattle.trlab_verify.specs.Tables.{mark_value, form_value, meaning, HasValidLevels, ChecksAt}
 use Rattle.trlab_verify.proofs.Verdicts.{reason_same}
-use Rattle.trlab_verify.specs.Tables.{ChecksAt}
 
 -- the facts that a table checks at pc, with the note there named
 pub record Shown (kind : Kind) (code : List Instr) (len : ℕ) (note : ℕ → Note) (pc : ℕ) (m : Note) (i : Instr) : Type 0 where

@@ -1,6 +1,5 @@
 -- The notes have the same ranges of the inputs as the entry note.
-use Rattle.std.proofs.Common.{◌≡◌, ℕ, zero, suc, ◌+◌, ◌<◌, min, max, refl, sym, subst, arith, List, Bool, true, false, Option, Some, None, nat_eq}
-use Rattle.std.specs.Prelude.{slice_get, IfSome}
+use Rattle.std.proofs.Common.{◌≡◌, ℕ, zero, suc, ◌+◌, ◌<◌, min, max, refl, sym, subst, arith, List, Bool, true, false, Option, Some, None, nat_eq, slice_get, IfSome}
 use Rattle.trlab_code.specs.declared.program.Kind.{Kind}
 use Rattle.trlab_code.specs.declared.instruction.Input.{Input}
 use Rattle.trlab_code.specs.declared.instruction.Input.TheVariants.{Speed, Limit, Gap, SideGap, SideBack, Lane, Headspeed}
@@ -20,8 +19,8 @@ use Rattle.trlab_notes.specs.Reasons.{is_flag}
 use Rattle.trlab_notes.specs.Stored.{note_of, maybe_note}
 use Rattle.trlab_notes.specs.Transfer.{assign, assign_destination, assign_result, refine_order, refine_flag, next_note, jump_note}
 use Rattle.trlab_notes.proofs.Variables.{register_below}
-use Rattle.trlab_verify.specs.Incoming.{add_note, add_notes, if_here, next_note_to, jump_note_to, is_target, incoming}
-use Rattle.trlab_verify.specs.TableForm.{HasInputRanges}
+use Rattle.trlab_verify.specs.Verdict.{add_note, add_notes, if_here, next_note_to, jump_note_to, is_target, incoming}
+use Rattle.trlab_verify.specs.Tables.{HasInputRanges}
 
 -- no input is a flag
 range_plain : (k : Input) → is_flag (input_range k) ≡ false

@@ -1,6 +1,5 @@
 -- Each program is rejected, or it is accepted and has a longest path, and with it is a checked program.
-use Rattle.std.proofs.Common.{◌≡◌, ℕ, zero, suc, ◌+◌, ◌<◌, ◌≤◌, ◌⊎◌, inl, inr, refl, arith, max, cond, length, List, Option, Some, None, subst}
-use Rattle.std.specs.Prelude.{slice_get}
+use Rattle.std.proofs.Common.{◌≡◌, ℕ, zero, suc, ◌+◌, ◌<◌, ◌≤◌, ◌⊎◌, inl, inr, refl, arith, max, cond, length, List, Option, Some, None, subst, slice_get}
 use Rattle.std.proofs.lemmas.Bool.{cases_lt}
 use Rattle.std.proofs.lemmas.Option.{slice_get-get_or}
 use Rattle.trlab_code.specs.declared.program.Kind.{Kind}
@@ -8,9 +7,8 @@ use Rattle.trlab_code.specs.declared.instruction.Instr.{Instr}
 use Rattle.trlab_code.specs.declared.instruction.Instr.TheVariants.{Stay}
 use Rattle.trlab_code.specs.Flow.{falls, target}
 use Rattle.trlab_code.specs.Program.{Program, IsValidProgram}
-use Rattle.trlab_verify.specs.CheckedProgram.{IsChecked}
-use Rattle.trlab_verify.specs.Longest.{Follows, IsLongest, IsForward}
-use Rattle.trlab_verify.specs.Verdict.{IsAccepted, IsRefused, reason_number_at}
+use Rattle.trlab_verify.specs.Verified.{IsChecked}
+use Rattle.trlab_verify.specs.Verdict.{Follows, IsLongest, IsForward, IsAccepted, IsRefused, reason_number_at}
 use Rattle.trlab_verify.proofs.Accepted.{checked, forward}
 use Rattle.trlab_verify.proofs.Ways.{of_target, longest_is}
 

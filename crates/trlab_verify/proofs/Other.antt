@@ -1,6 +1,5 @@
 -- A program with a table that checks is rejected as a program of the other kind only because of its kind.
-use Rattle.std.proofs.Common.{◌≡◌, ℕ, suc, ◌<◌, ◌≤◌, refl, cond, ◌∙◌, ap, sym, subst, arith, List, length, Bool, true, false, Option, Some, None}
-use Rattle.std.specs.Prelude.{slice_get, IfSome}
+use Rattle.std.proofs.Common.{◌≡◌, ℕ, suc, ◌<◌, ◌≤◌, refl, cond, ◌∙◌, ap, sym, subst, arith, List, length, Bool, true, false, Option, Some, None, slice_get, IfSome}
 use Rattle.trlab_code.specs.declared.program.Kind.{Kind}
 use Rattle.trlab_code.specs.declared.program.Kind.TheVariants.{Motion, Change}
 use Rattle.trlab_code.specs.declared.instruction.Input.TheVariants.{Speed, Limit, Gap, SideGap, SideBack, Lane, Headspeed}
@@ -19,8 +18,7 @@ use Rattle.trlab_code.specs.declared.instruction.Input.{Input}
 use Rattle.trlab_code.specs.declared.instruction.Variable.{Variable}
 use Rattle.trlab_code.specs.declared.instruction.Variable.TheVariants as variable
 use Rattle.trlab_notes.specs.Order.{IsNoMorePrecise, IsNoStronger}
-use Rattle.trlab_verify.specs.Incoming.{note_at}
-use Rattle.trlab_verify.specs.Verdict.{first_reason_at, reason_number_at, IsRefused}
+use Rattle.trlab_verify.specs.Verdict.{note_at, first_reason_at, reason_number_at, IsRefused}
 use Rattle.trlab_verify.proofs.Checking.{ChecksBy}
 use Rattle.trlab_notes.proofs.Order.{Closed, On}
 use Rattle.trlab_notes.proofs.Monotone.{Reaches, clear_up, passes}

@@ -1,6 +1,5 @@
 -- The reasons to reject a program are numbered from 1 on.
-use Rattle.std.proofs.Common.{◌≡◌, ℕ, ◌≤◌, subst, arith}
-use Rattle.std.specs.Prelude.{Option, None, Some}
+use Rattle.std.proofs.Common.{◌≡◌, ℕ, ◌≤◌, subst, arith, Option, None, Some}
 use Rattle.std.specs.Option.{option_map}
 use Rattle.trlab_code.specs.declared.program.Kind.{Kind}
 use Rattle.trlab_code.specs.Program.{Program}

@@ -1,6 +1,5 @@
 -- A program without a fault ends for each view and all random words, within its longest path.
-use Rattle.std.proofs.Common.{◌≡◌, ℕ, zero, suc, ◌+◌, ◌<◌, ◌≤◌, ◌&&◌, refl, sym, subst, arith, ◌∙◌, inl, inr, List, [], ◌∷◌, length, Bool, true, false, Option, Some, None, nat_eq, nat_le, cond}
-use Rattle.std.specs.Prelude.{slice_get}
+use Rattle.std.proofs.Common.{◌≡◌, ℕ, zero, suc, ◌+◌, ◌<◌, ◌≤◌, ◌&&◌, refl, sym, subst, arith, ◌∙◌, inl, inr, List, [], ◌∷◌, length, Bool, true, false, Option, Some, None, nat_eq, nat_le, cond, slice_get}
 use Rattle.std.proofs.lemmas.Bool.{eq-eqb, leb-false, cases_lt}
 use Rattle.trlab_code.specs.declared.program.Kind.{Kind}
 use Rattle.trlab_code.specs.declared.program.Kind.TheVariants.{Motion, Change}
@@ -10,23 +9,19 @@ use Rattle.trlab_code.specs.declared.view.View.{View}
 use Rattle.trlab_notes.specs.declared.note.AbstractValue.{AbstractValue}
 use Rattle.trlab_code.specs.Program.{Program}
 use Rattle.trlab_code.specs.Views.{IsViewInRange}
-use Rattle.trlab_code.specs.Machine.{Value, Number, update, Effect, Writes, Falls, Jumps, Ends, Sticks, effect, allows, start, Store, seen, register_number, input_number, Answer, At, state_after, execute, step, EndsFrom, IsSafe}
+use Rattle.trlab_code.specs.Machine.{Value, Number, update, Effect, Writes, Falls, Jumps, Ends, Sticks, effect, allows, start, Store, seen, register_number, input_number, Answer, At, state_after, execute, step, EndsFrom, IsSafe, Unset, allows_input}
 use Rattle.trlab_code.specs.Flow.{target, falls, on_target}
 use Rattle.trlab_notes.specs.Reasons.{reason_against}
-use Rattle.trlab_notes.specs.Notes.{Note, entry}
+use Rattle.trlab_notes.specs.Notes.{Note, entry, entry_values, entry_level, input_range}
 use Rattle.trlab_notes.specs.Transfer.{next_note, jump_note}
 use Rattle.trlab_notes.specs.Order.{join}
-use Rattle.trlab_verify.specs.Longest.{Follows, HasPath, IsLongest}
-use Rattle.trlab_verify.specs.Incoming.{add_note, add_notes, if_here, next_note_to, jump_note_to, is_target, incoming, note_at}
-use Rattle.trlab_verify.specs.Verdict.{IsAccepted}
+use Rattle.trlab_verify.specs.Verdict.{Follows, HasPath, IsLongest, add_note, add_notes, if_here, next_note_to, jump_note_to, is_target, incoming, note_at, IsAccepted}
 use Rattle.trlab_code.specs.declared.instruction.Register.{Register}
 use Rattle.trlab_code.specs.declared.instruction.Input.{Input}
 use Rattle.trlab_code.specs.declared.instruction.Input.TheVariants.{Speed, Limit, Gap, SideGap, SideBack, Lane, Headspeed}
 use Rattle.trlab_code.specs.declared.instruction.Variable.{Variable}
 use Rattle.trlab_code.specs.declared.instruction.Variable.TheVariants as variable
-use Rattle.trlab_code.specs.Machine.{Unset, allows_input}
 use Rattle.trlab_notes.specs.declared.note.AbstractValue.TheVariants.{Nothing}
-use Rattle.trlab_notes.specs.Notes.{entry_values, entry_level, input_range}
 use Rattle.trlab_notes.proofs.Variables.{register_below}
 use Rattle.trlab_verify.proofs.Reasons.{noted}
 use Rattle.trlab_notes.proofs.Fits.{number_is, Fits, FitsSaid, Ahead, joined_left, joined_right, fits_from}

@@ -1,6 +1,5 @@
 -- The notes of an accepted program check.
-use Rattle.std.proofs.Common.{◌≡◌, ◌∙◌, ℕ, zero, suc, ◌<◌, ◌≤◌, refl, sym, ap, subst, arith, inl, inr, List, length, Bool, true, false, Option, Some, None, nat_eq, nat_le}
-use Rattle.std.specs.Prelude.{slice_get, IfSome, map}
+use Rattle.std.proofs.Common.{◌≡◌, ◌∙◌, ℕ, zero, suc, ◌<◌, ◌≤◌, refl, sym, ap, subst, arith, inl, inr, List, length, Bool, true, false, Option, Some, None, nat_eq, nat_le, slice_get, IfSome, map}
 use Rattle.std.specs.List.{range_with_len}
 use Rattle.std.proofs.lemmas.List.{get_or_past}
 use Rattle.std.proofs.lemmas.List.FromFn.{get_or-map-range_with_len, length-map-range_with_len}
@@ -14,9 +13,7 @@ use Rattle.trlab_notes.specs.Reasons.{reason_against}
 use Rattle.trlab_notes.specs.Notes.{Note, entry}
 use Rattle.trlab_notes.specs.Transfer.{next_note, jump_note}
 use Rattle.trlab_notes.specs.Order.{join, IsNoStronger}
-use Rattle.trlab_verify.specs.Longest.{Follows}
-use Rattle.trlab_verify.specs.Incoming.{add_note, add_notes, if_here, next_note_to, jump_note_to, is_target, incoming, note_at}
-use Rattle.trlab_verify.specs.Verdict.{IsAccepted}
+use Rattle.trlab_verify.specs.Verdict.{Follows, add_note, add_notes, if_here, next_note_to, jump_note_to, is_target, incoming, note_at, IsAccepted}
 use Rattle.trlab_verify.specs.Tables.{Checks, ChecksAt, AreVerdictNotes, empty_note, note_in}
 use Rattle.trlab_verify.proofs.Checking.{ChecksBy, as_table}
 use Rattle.trlab_notes.proofs.Order.{same_note, through, join_first, join_second, blank_least}

@@ -9,11 +9,9 @@ ghost use Rattle.trlab_code.specs.Machine.{IsSafe};
 ghost use Rattle.trlab_code.specs.Program.{Program, IsValidProgram};
 ghost use Rattle.trlab_notes.specs.Notes.{Note, known_level};
 ghost use Rattle.trlab_notes.specs.Order.{IsNoStronger};
-ghost use Rattle.trlab_verify.specs.Incoming.{IsSent, note_at};
-ghost use Rattle.trlab_verify.specs.CheckedProgram.{IsChecked};
-ghost use Rattle.trlab_verify.specs.Longest.{IsLongest};
+ghost use Rattle.trlab_verify.specs.Verdict.{IsSent, note_at, IsLongest, IsAccepted, IsRefused};
+ghost use Rattle.trlab_verify.specs.Verified.{IsChecked};
 ghost use Rattle.trlab_verify.specs.Tables.{IsNoStrongerThanVerdictNote, Checks, AreVerdictNotes, HasCertificate, note_in};
-ghost use Rattle.trlab_verify.specs.Verdict.{IsAccepted, IsRefused};
 
 /// Each program that is accepted as one of a kind is safe within its longest path.
 pub fn accepted_is_safe()

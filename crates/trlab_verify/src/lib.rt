@@ -9,7 +9,7 @@
 //! ```
 #![tactic(auto)]
 
-mod check;
+mod for_embedders;
 pub mod laws;
 mod note;
 mod program;
@@ -17,7 +17,7 @@ mod table;
 mod verdict;
 mod verify;
 
-pub use check::check_notes;
+pub use for_embedders::check_notes;
 pub use note::{Mark, Note};
 pub use program::{AcceptedProgram, Change, ChangeKind, Motion, MotionKind, ProgramKind};
 pub use table::{NotesFault, notes, notes_of_rejected};

@@ -7,7 +7,7 @@ ghost use Rattle.trlab_notes.specs.declared.note.TheConstants.{BELOW};
 ghost use Rattle.trlab_notes.specs.Notes.{closure, entry};
 ghost use Rattle.trlab_notes.specs.Rows.{AreValidLevels, known_level_from, value_in};
 ghost use Rattle.trlab_notes.specs.Stored.{note_of};
-ghost use Rattle.trlab_verify.specs.TableForm.{form_value, mark_value, meaning, HasValidLevels, HasInputRanges};
+ghost use Rattle.trlab_verify.specs.Tables.{form_value, mark_value, meaning, HasValidLevels, HasInputRanges};
 
 use trlab_code::{Kind, VARIABLES};
 use trlab_notes::{AbstractValue, BELOW, StoredNote, entry_levels, entry_values, level_between};

@@ -5,8 +5,8 @@ ghost use Rattle.std.specs.Prelude.{◌≡◌, ◌↔◌, IsTrue, IfOk};
 ghost use Rattle.trlab_code.specs.declared.program.Kind.{Kind as AKind};
 ghost use Rattle.trlab_code.specs.declared.program.Kind.TheVariants.{Motion as OfMotion, Change as OfChange};
 ghost use Rattle.trlab_code.specs.Machine.{IsSafe};
-ghost use Rattle.trlab_verify.specs.CheckedProgram.{IsChecked};
-ghost use Rattle.trlab_verify.specs.Longest.{IsLongest};
+ghost use Rattle.trlab_verify.specs.Verified.{IsChecked};
+ghost use Rattle.trlab_verify.specs.Verdict.{IsLongest};
 
 use std::alloc::{AllocError, Global};
 use std::marker::{Model, PhantomData};
@@ -82,7 +82,7 @@ pub type Motion = AcceptedProgram<MotionKind>;
 pub type Change = AcceptedProgram<ChangeKind>;
 
 impl<K: ProgramKind> Model for AcceptedProgram<K> {
-    ghost use Rattle.trlab_verify.specs.CheckedProgram.{CheckedProgram, IsChecked};
+    ghost use Rattle.trlab_verify.specs.Verified.{CheckedProgram, IsChecked};
 
     ghost Value = { CheckedProgram };
 

@@ -5,10 +5,8 @@ ghost use Rattle.trlab_code.specs.Program.{IsInRange, Program};
 ghost use Rattle.trlab_notes.specs.Notes.{Note as ANote, entry, maybe_closure};
 ghost use Rattle.trlab_notes.specs.Stored.{note_of, stored_note_at};
 ghost use Rattle.trlab_verify.specs.declared.table.NotesFault.TheVariants.{Memory};
-ghost use Rattle.trlab_verify.specs.Incoming.{incoming};
-ghost use Rattle.trlab_verify.specs.TableForm.{IsNotesFaultOf, HasInputRanges, meaning, meaning_at, table_of};
-ghost use Rattle.trlab_verify.specs.Tables.{Checks, AreVerdictNotes, AreNotesOfRejected, noted_count};
-ghost use Rattle.trlab_verify.specs.Verdict.{IsAccepted};
+ghost use Rattle.trlab_verify.specs.Verdict.{incoming, IsAccepted};
+ghost use Rattle.trlab_verify.specs.Tables.{IsNotesFaultOf, HasInputRanges, meaning, meaning_at, table_of, Checks, AreVerdictNotes, AreNotesOfRejected, noted_count};
 ghost use Rattle.trlab_notes.specs.Reasons.{reason_number};
 
 use crate::note::{Note, first_note, write};

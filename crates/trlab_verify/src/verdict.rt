@@ -4,11 +4,10 @@
 ghost use Rattle.std.specs.Prelude.{◌≡◌, ℕ, ◌<◌, false, length, Some, nat_eq, if◌then◌else◌, ◌≤◌, All, IfOk, IfSome, MatchOption, None};
 ghost use Rattle.trlab_code.specs.Program.{IsInRange, Program};
 ghost use Rattle.trlab_notes.specs.Transfer.{jump_note};
-ghost use Rattle.trlab_verify.specs.Incoming.{next_note_to, jump_note_to, add_note, add_notes, incoming, note_at};
+ghost use Rattle.trlab_verify.specs.Verdict.{next_note_to, jump_note_to, add_note, add_notes, incoming, note_at, IsAccepted, IsRefused};
 ghost use Rattle.trlab_notes.specs.Stored.{note_of, stored_note_at};
 ghost use Rattle.trlab_notes.specs.Reasons.{may_be_too_large, reason_number};
 ghost use Rattle.trlab_notes.specs.Notes.{maybe_closure};
-ghost use Rattle.trlab_verify.specs.Verdict.{IsAccepted, IsRefused};
 
 use std::alloc::{AllocError, Global};
 use trlab_code::{Code, Instr, Kind, MAX_INSTRUCTIONS};

@@ -4,7 +4,7 @@
 ghost use Rattle.std.specs.Prelude.{◌≡◌, ℕ, ◌+◌, ◌<◌, ◌≤◌, IsTrue, length, slice_index, IfSome, if◌then◌else◌, MatchResult};
 ghost use Rattle.std.specs.Option.{option_map_or};
 ghost use Rattle.trlab_code.specs.Flow.{falls, target};
-ghost use Rattle.trlab_verify.specs.Longest.{IsLongest, IsForward};
+ghost use Rattle.trlab_verify.specs.Verdict.{IsLongest, IsForward};
 ghost use Rattle.trlab_code.specs.declared.program.Kind.TheVariants.{Motion as OfMotion, Change as OfChange};
 ghost use Rattle.trlab_verify.specs.Verified.{IsAcceptedAs, IsVerifyErrorAs};
 

@@ -1,7 +1,7 @@
 use Rattle.std.proofs.Common.{◌≡◌, sym, ◌∙◌, subst}
 use Rattle.trlab_code.specs.declared.program.Kind.{Kind}
 use Rattle.trlab_code.specs.declared.program.Kind.TheVariants.{Motion as OfMotion, Change as OfChange}
-use Rattle.trlab_verify.specs.Faults.{IsFaultOf}
+use Rattle.trlab_verify.specs.Verified.{IsFaultOf}
 use Rattle.trlab_jobs.specs.Check.{check_of}
 use Rattle.trlab_campaign.proofs.Verdicts.{accepted_said}
 use Rattle.trlab_campaign.proofs.check.verdict_of.Goals as goal

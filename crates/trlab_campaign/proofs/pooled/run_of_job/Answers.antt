@@ -1,7 +1,6 @@
 use Rattle.std.proofs.Common.{length, ◌∙◌, ap}
-use Rattle.trlab_step.specs.Progress.{at_start}
+use Rattle.trlab_step.specs.Run.{at_start, Sheet}
 use Rattle.trlab_jobs.specs.Job.{Job, seed_of, sheet_of}
-use Rattle.trlab_step.specs.Run.{Sheet}
 use Rattle.trlab_campaign.proofs.Sheets.{later_rise, plain_sheet}
 use Rattle.trlab_campaign.proofs.pooled.run_of_job.Goals as goal
 

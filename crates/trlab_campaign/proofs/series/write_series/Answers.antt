@@ -2,7 +2,7 @@ use Rattle.std.proofs.Common.{flat_map, ◌∙◌, ap, refl}
 use Rattle.std.proofs.lemmas.Result.{err_from_is_err_and}
 use Rattle.trlab_diagram.specs.Series.{series_heading, window_text}
 use Rattle.trlab_diagram.specs.Table.{line_text}
-use Rattle.trlab_step.specs.Progress.{at_start}
+use Rattle.trlab_step.specs.Run.{at_start}
 use Rattle.trlab_jobs.specs.Job.{Job, seed_of, sheet_of}
 use Rattle.trlab_jobs.specs.Stored.{IsStoredJob}
 use Rattle.trlab_campaign.specs.SeriesOutput.{first_windows}

@@ -1,7 +1,7 @@
 use Rattle.std.proofs.Common.{ℕ, Option, refl}
 use Rattle.std.specs.Prelude.{Ok, Err}
 use Rattle.trlab_code.specs.declared.program.Kind.TheVariants.{Motion}
-use Rattle.trlab_verify.specs.CheckedProgram.{CheckedProgram}
+use Rattle.trlab_verify.specs.Verified.{CheckedProgram}
 use Rattle.trlab_rules.specs.Rules.{Programs}
 use Rattle.trlab_texts.specs.Programs.{part}
 use Rattle.trlab_texts.specs.Reading.{Reading, ◌>>=◌, give}

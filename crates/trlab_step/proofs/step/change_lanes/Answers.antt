@@ -1,5 +1,4 @@
-use Rattle.std.proofs.Common.{◌≤◌, ◌∙◌, ap, arith, length}
-use Rattle.std.specs.Prelude.{count_by}
+use Rattle.std.proofs.Common.{◌≤◌, ◌∙◌, ap, arith, length, count_by}
 use Rattle.trlab_step.proofs.Counts.{few_cars}
 use Rattle.trlab_step.proofs.Stepped.{lane_change_is_done}
 use Rattle.std.proofs.lemmas.Result.{err_from_is_err_and}

@@ -1,6 +1,5 @@
-use Rattle.std.proofs.Common.{◌≤◌, ◌∙◌, ap, arith, length}
+use Rattle.std.proofs.Common.{◌≤◌, ◌∙◌, ap, arith, length, count_by, nat_eq, sum}
 use Rattle.std.proofs.lemmas.Result.{err_from_is_err_and}
-use Rattle.std.specs.Prelude.{count_by, nat_eq, sum}
 use Rattle.trlab_step.proofs.Counts.{few_cars}
 use Rattle.trlab_step.proofs.Parts.{whole_allowed}
 use Rattle.trlab_step.proofs.Stepped.{all_gone, all_stopped, motion_is_done, moved_by_place}

@@ -1,5 +1,4 @@
-use Rattle.std.proofs.Common.{◌≡◌, ◌≤◌, ◌*◌, take}
-use Rattle.std.specs.Prelude.{count_by, nat_eq, sum}
+use Rattle.std.proofs.Common.{◌≡◌, ◌≤◌, ◌*◌, take, count_by, nat_eq, sum}
 use Rattle.trlab_step.proofs.tally.tally_of.Given as goal
 
 abbrev pub invariant-loop-speed : goal.invariant-loop-speed

@@ -6,7 +6,7 @@ use Rattle.trlab_notes.specs.declared.note.AbstractValue.TheVariants.{Nothing}
 use Rattle.trlab_notes.specs.Notes.{entry_values}
 use Rattle.trlab_notes.specs.Rows.{value_in}
 use Rattle.trlab_verify.specs.declared.note.Mark.TheVariants.{Unset}
-use Rattle.trlab_verify.specs.TableForm.{mark_value}
+use Rattle.trlab_verify.specs.Tables.{mark_value}
 use Rattle.trlab_verify.proofs.note.variables.Given as goal
 
 abbrev pub invariant-loop-x : goal.invariant-loop-x

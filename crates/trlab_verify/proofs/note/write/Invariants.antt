@@ -1,7 +1,7 @@
 use Rattle.std.proofs.Common.{◌≡◌, ℕ, ◌<◌, get_or, length}
 use Rattle.trlab_notes.specs.declared.note.AbstractValue.TheVariants.{Nothing}
 use Rattle.trlab_verify.specs.declared.note.Mark.TheVariants.{Unset}
-use Rattle.trlab_verify.specs.TableForm.{mark_value}
+use Rattle.trlab_verify.specs.Tables.{mark_value}
 use Rattle.trlab_verify.proofs.note.write.Given as goal
 
 abbrev pub invariant-loop-x : goal.invariant-loop-x

@@ -1,5 +1,4 @@
-use Rattle.std.proofs.Common.{◌≡◌, ◌∙◌, arith, ℕ, zero, suc, ◌<◌, ap, sym, subst, length, true, false, List, Option, Some, None, refl}
-use Rattle.std.specs.Prelude.{IfSome, MatchOption}
+use Rattle.std.proofs.Common.{◌≡◌, ◌∙◌, arith, ℕ, zero, suc, ◌<◌, ap, sym, subst, length, true, false, List, Option, Some, None, refl, IfSome, MatchOption}
 use Rattle.std.specs.Option.{is_some}
 use Rattle.trlab_code.specs.declared.program.Kind.{Kind}
 use Rattle.trlab_code.specs.declared.instruction.Instr.{Instr}
@@ -8,11 +7,9 @@ use Rattle.trlab_verify.specs.declared.verdict.Rejection.{Rejection}
 use Rattle.std.proofs.lemmas.List.{get_or-map, length-map}
 use Rattle.trlab_notes.specs.Reasons.{reason_number}
 use Rattle.trlab_verify.specs.declared.note.Note.{Note as Form}
-use Rattle.trlab_verify.specs.Tables.{AreVerdictNotes, empty_note, note_in}
+use Rattle.trlab_verify.specs.Tables.{AreVerdictNotes, empty_note, note_in, HasInputRanges, meaning, meaning_at, table_of, form_without_marks}
 use Rattle.trlab_verify.proofs.Verdicts.{incoming_settled}
-use Rattle.trlab_verify.specs.Incoming.{note_at}
-use Rattle.trlab_verify.specs.TableForm.{HasInputRanges, meaning, meaning_at, table_of, form_without_marks}
-use Rattle.trlab_verify.specs.Verdict.{IsAccepted, IsRefused}
+use Rattle.trlab_verify.specs.Verdict.{note_at, IsAccepted, IsRefused}
 use Rattle.trlab_verify.proofs.Inputs.{incoming_shows, closure_shows}
 use Rattle.trlab_verify.proofs.Runs.{fetch}
 use Rattle.trlab_verify.proofs.VerdictChecks.{noted}

@@ -1,5 +1,4 @@
-use Rattle.std.proofs.Common.{◌≡◌, ◌∙◌, ◌<◌, ap, length, sym, subst, None}
-use Rattle.std.proofs.lemmas.List.{get_or-take}
+use Rattle.std.proofs.Common.{◌≡◌, ◌∙◌, ◌<◌, ap, length, sym, subst, None, get_or-take}
 use Rattle.trlab_notes.specs.Reasons.{reason_number}
 use Rattle.trlab_notes.specs.Stored.{stored_note_at, maybe_note}
 use Rattle.trlab_verify.specs.Tables.{noted_count}

@@ -5,7 +5,7 @@ use Rattle.trlab_code.specs.declared.program.Kind.{Kind}
 use Rattle.trlab_notes.specs.Notes.{Note, entry}
 use Rattle.trlab_notes.specs.Stored.{stored_note_at, maybe_note}
 use Rattle.trlab_verify.specs.declared.note.Note.{Note as Form}
-use Rattle.trlab_verify.specs.TableForm.{meaning, meaning_at, form_without_marks}
+use Rattle.trlab_verify.specs.Tables.{meaning, meaning_at, form_without_marks}
 use Rattle.trlab_verify.proofs.Inputs.{same_shown, never_none}
 use Rattle.trlab_verify.proofs.table.write_all.Goals as goal
 

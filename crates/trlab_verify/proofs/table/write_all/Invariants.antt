@@ -1,7 +1,7 @@
 use Rattle.std.proofs.Common.{◌≡◌, ℕ, ◌<◌, length, Some}
 use Rattle.trlab_notes.specs.Stored.{stored_note_at}
 use Rattle.trlab_notes.specs.Notes.{entry}
-use Rattle.trlab_verify.specs.TableForm.{meaning_at}
+use Rattle.trlab_verify.specs.Tables.{meaning_at}
 use Rattle.trlab_verify.proofs.table.write_all.Given as goal
 
 abbrev pub invariant-loop-pc : goal.invariant-loop-pc

@@ -5,7 +5,7 @@ use Rattle.std.proofs.lemmas.Option.{slice_get-get_or}
 use Rattle.std.proofs.lemmas.List.{get_or_default}
 use Rattle.trlab_notes.specs.Stored.{note_of, stored_note_at, maybe_note}
 use Rattle.trlab_notes.specs.Notes.{maybe_closure}
-use Rattle.trlab_verify.specs.Incoming.{note_at}
+use Rattle.trlab_verify.specs.Verdict.{note_at}
 use Rattle.trlab_verify.proofs.Verdicts.{unreached, tested, one_more_kept, is_none, none_back, no_note, whose, reason_same}
 use Rattle.trlab_notes.proofs.Steps.{clear}
 use Rattle.trlab_verify.proofs.verdict.judge.Goals as goal

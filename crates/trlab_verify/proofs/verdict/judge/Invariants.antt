@@ -1,8 +1,7 @@
 use Rattle.std.proofs.Common.{◌≡◌, ℕ, ◌<◌, ◌≤◌, length, None}
 use Rattle.trlab_notes.specs.Notes.{maybe_closure}
 use Rattle.trlab_notes.specs.Stored.{stored_note_at}
-use Rattle.trlab_verify.specs.Incoming.{incoming, note_at}
-use Rattle.trlab_verify.specs.Verdict.{reason_number_at}
+use Rattle.trlab_verify.specs.Verdict.{incoming, note_at, reason_number_at}
 use Rattle.trlab_verify.proofs.verdict.judge.Given as goal
 
 abbrev pub invariant-loop-pc : goal.invariant-loop-pc

@@ -1,7 +1,7 @@
 use Rattle.std.proofs.Common.{◌≡◌, sym, cond, nat_eq, add-one, suc, Some}
 use Rattle.trlab_notes.specs.Transfer.{next_note}
 use Rattle.trlab_notes.specs.Stored.{note_of, stored_note_at}
-use Rattle.trlab_verify.specs.Incoming.{add_note}
+use Rattle.trlab_verify.specs.Verdict.{add_note}
 use Rattle.trlab_verify.proofs.Verdicts.{edge_comes}
 use Rattle.trlab_verify.proofs.verdict.send_next.Goals as goal
 

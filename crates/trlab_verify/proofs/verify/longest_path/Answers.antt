@@ -2,7 +2,7 @@ use Rattle.std.proofs.Common.{◌≡◌, ◌≢◌, ℕ, ◌-◌, ◌<◌, ◌�
 use Rattle.std.proofs.lemmas.Grind.{common_steps}
 use Rattle.std.proofs.lemmas.Bool.{cases_lt}
 use Rattle.trlab_code.specs.declared.instruction.Instr.{Instr}
-use Rattle.trlab_verify.specs.Longest.{IsLongest}
+use Rattle.trlab_verify.specs.Verdict.{IsLongest}
 use Rattle.trlab_verify.proofs.verify.longest_path.Goals as goal
 
 -- the longest paths are right after the one at k is written

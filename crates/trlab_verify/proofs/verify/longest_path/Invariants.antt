@@ -1,6 +1,6 @@
 use Rattle.std.proofs.Common.{◌≡◌, ℕ, ◌<◌, ◌≤◌, length, get_or}
 use Rattle.trlab_bounds.specs.declared.programs.TheConstants.{MAX_INSTRUCTIONS}
-use Rattle.trlab_verify.specs.Longest.{IsLongest}
+use Rattle.trlab_verify.specs.Verdict.{IsLongest}
 use Rattle.trlab_verify.proofs.verify.longest_path.Given as goal
 
 abbrev pub invariant-loop-pc : goal.invariant-loop-pc

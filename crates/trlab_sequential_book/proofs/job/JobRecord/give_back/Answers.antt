@@ -1,5 +1,5 @@
 use Rattle.std.proofs.Common.{◌≡◌, true, ap, refl, subst, sym, ◌∙◌}
-use Rattle.trlab_step.specs.Progress.{IsReachedByRun}
+use Rattle.trlab_step.specs.Run.{IsReachedByRun}
 use Rattle.trlab_sequential_book.specs.Comparison.{offered}
 use Rattle.trlab_sequential_book.specs.Jobs.{progress_of}
 use Rattle.trlab_sequential_book.specs.Machine.{JobState, JobOutcome, accepts_lease}

@@ -1,6 +1,6 @@
 use Rattle.std.proofs.Common.{ap, subst, sym, ◌∙◌}
 use Rattle.std.proofs.lemmas.Bool.{false≢true}
-use Rattle.trlab_step.specs.Progress.{IsReachedByRun}
+use Rattle.trlab_step.specs.Run.{IsReachedByRun}
 use Rattle.trlab_sequential_book.specs.declared.seed.Seed.{Seed}
 use Rattle.trlab_sequential_book.specs.Jobs.{progress_of}
 use Rattle.trlab_sequential_book.specs.Machine.{JobState}

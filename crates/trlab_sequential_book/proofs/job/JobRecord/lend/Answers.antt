@@ -1,5 +1,5 @@
 use Rattle.std.proofs.Common.{refl, subst}
-use Rattle.trlab_step.specs.Progress.{IsReachedByRun}
+use Rattle.trlab_step.specs.Run.{IsReachedByRun}
 use Rattle.trlab_sequential_book.specs.Jobs.{progress_of}
 use Rattle.trlab_sequential_book.specs.Machine.{JobState}
 use Rattle.trlab_sequential_book.proofs.Booking.{job_state}

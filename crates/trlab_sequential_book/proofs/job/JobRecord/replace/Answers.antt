@@ -1,6 +1,5 @@
 use Rattle.std.proofs.Common.{rules, ap, length, subst, sym}
-use Rattle.trlab_step.specs.Laws.{IsRuleFor}
-use Rattle.trlab_step.specs.Run.{IsSheet}
+use Rattle.trlab_step.specs.Run.{IsRuleFor, IsSheet}
 use Rattle.trlab_sequential_book.specs.Machine.{JobState, JobOutcome}
 use Rattle.trlab_sequential_book.specs.Jobs.{run_start}
 use Rattle.trlab_sequential_book.proofs.Entering.{begin_entered, rule_taken, underway_entered}

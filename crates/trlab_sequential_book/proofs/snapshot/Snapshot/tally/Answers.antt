@@ -1,5 +1,5 @@
 use Rattle.std.proofs.Common.{ap}
-use Rattle.trlab_step.specs.Progress.{Progress}
+use Rattle.trlab_step.specs.Run.{Progress}
 use Rattle.trlab_sequential_book.proofs.snapshot.Snapshot.tally.Goals as goal
 
 pub returns-clause-run : goal.returns-clause-run

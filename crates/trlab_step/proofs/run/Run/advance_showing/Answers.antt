@@ -1,10 +1,8 @@
-use Rattle.std.proofs.Common.{◌≡◌, ◌∙◌, ℕ, List, ap, refl, arith, add-one, subst}
-use Rattle.trlab_step.specs.Progress.{Progress}
+use Rattle.std.proofs.Common.{◌≡◌, ◌∙◌, ℕ, List, ap, refl, arith, add-one, subst, nat_le, if◌then◌else◌}
+use Rattle.trlab_step.specs.Run.{Progress, tally_sum}
 use Rattle.trlab_step.proofs.OnTheWay.{rule_here, room_for, counts_fit}
 use Rattle.std.proofs.lemmas.Result.{err_from_is_err_and}
 use Rattle.std.proofs.lemmas.Bool.{le-leb, lt-leb}
-use Rattle.std.specs.Prelude.{nat_le, if◌then◌else◌}
-use Rattle.trlab_step.specs.Run.{tally_sum}
 use Rattle.trlab_machine.specs.declared.dice.Dice.{Dice}
 use Rattle.trlab_road.specs.Cells.{Cells}
 use Rattle.trlab_rules.specs.Rules.{Programs}

@@ -1,6 +1,5 @@
-use Rattle.std.proofs.Common.{◌≡◌, ◌∙◌, ℕ, ◌+◌, ◌<◌, Bool, true, false, Option, Some, None, [], ◌∷◌, Vec, Global, rules, arith, Bor, get_or, length, drop, vec_len, refl, sym, ap, subst}
+use Rattle.std.proofs.Common.{◌≡◌, ◌∙◌, ℕ, ◌+◌, ◌<◌, Bool, true, false, Option, Some, None, [], ◌∷◌, Vec, Global, rules, arith, Bor, get_or, length, drop, vec_len, refl, sym, ap, subst, MatchOption, nat_eq, option_copied, slice_get}
 use Rattle.std.proofs.lemmas.Bool.{false≢true, eqb-true, eqb-false}
-use Rattle.std.specs.Prelude.{MatchOption, nat_eq, option_copied, slice_get}
 use Rattle.trlab_rules.specs.Rules.{Programs}
 use Rattle.trlab_step.specs.Run.{StepsIncreaseFrom, Sheet, sheet_with}
 use Rattle.trlab_step.proofs.schedule.Schedule.new.Goals as goal

@@ -1,6 +1,0 @@
-use Rattle.std.proofs.Common.{ℕ, ◌<◌}
-use Rattle.trlab_verify.specs.Longest.{Follows}
-use Rattle.trlab_verify.proofs.check.is_reached.Given as goal
-
-abbrev pub invariant-loop-pc : goal.invariant-loop-pc
-invariant-loop-pc l = (k : ℕ) → k < l.pc → ¬ (Follows l.fn.instrs k l.fn.q)
