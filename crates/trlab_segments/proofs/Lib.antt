@@ -2,3 +2,4 @@ pub mod Steps
 pub mod Borders
 pub mod Locks
 pub mod Joining
+pub mod Indices

@@ -1,6 +1,6 @@
 -- Parts: the answers of a program for the cars of one segment of a road, and the parts that a worker returns.
-use Rattle.std.specs.Prelude.{◌≡◌, ℕ, ◌+◌, true, Bool, List, All, map, length, slice_get, Some}
-use Rattle.std.specs.Prelude.{Result, IfOk, Vec}
+use Rattle.std.specs.Prelude.{◌≡◌, ℕ, ◌+◌, ◌<◌, true, Bool, List, All, map, length, get_or, slice_get, Some}
+use Rattle.std.specs.Prelude.{Result, IfOk, Vec, vec_len}
 use Rattle.trlab_machine.specs.declared.dice.Dice.{Dice}
 use Rattle.trlab_road.specs.Cells.{Cells, cars}
 use Rattle.trlab_segments.specs.declared.parts.Part.{Part}
@@ -61,6 +61,12 @@ HasWorked Fits tickets old outcome =
 -- the part at this index of the list has this ticket
 abbrev pub IsIndexOfTicket : {A : Type 0} → List (Part A) → ℕ → ℕ → Type 0
 IsIndexOfTicket parts index ticket = slice_get (map ticket_of parts) index ≡ Some ticket
+
+-- for each of `count` tickets, in order, the index of the part that has it
+abbrev pub HasIndices : {A B : Type 0} → List (Part A) → ℕ → Vec ℕ B → Type 0
+HasIndices parts count indices =
+    (vec_len indices ≡ count)
+    × ((ticket : ℕ) → ticket < count → IsIndexOfTicket parts (get_or indices.items ticket 0) ticket)
 
 -- a call with precondition `pre` and postcondition `post` can be made on any road and, unless an allocation
 -- fails, returns the speeds that the motion program answers for its cars, in standing order

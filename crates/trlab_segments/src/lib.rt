@@ -22,6 +22,6 @@ mod tickets;
 
 pub use crew::{Calls, Crew, step_shared};
 pub use phase::{Asked, Phase};
-pub use pool::Pool;
+pub use pool::{Pool, workers_for};
 pub use segment::{Gate, OpenGate, Segment, segment_count};
 pub use tickets::{Drawer, Tickets};

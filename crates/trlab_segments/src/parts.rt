@@ -3,9 +3,9 @@
 
 ghost use Rattle.std.specs.Prelude.{◌≡◌, ◌<◌, ◌++◌, [], ◌∷◌, All, IfOk, IsOkAnd, OnOk, map};
 ghost use Rattle.trlab_road.specs.Cells.{cars};
-ghost use Rattle.trlab_segments.specs.Answered.{IsIndexOfTicket, HasParts, IsPartOfPhase, ticket_of};
+ghost use Rattle.trlab_segments.specs.Answered.{HasIndices, HasParts, IsPartOfPhase, ticket_of};
 ghost use Rattle.trlab_segments.specs.Drawers.{IsDrawerOf, ticket_count, passes_of, tickets_of};
-ghost use Rattle.trlab_segments.specs.Knowledge.{IsPermutation, occurrences};
+ghost use Rattle.trlab_segments.specs.Knowledge.{IsPermutation};
 ghost use Rattle.trlab_segments.specs.Segments.{first_car};
 
 use crate::phase::{Asked, Phase};
@@ -96,17 +96,20 @@ pub fn join_parts<A: Drop>(
     Ok(all)
 }
 
-/// The index of the part with this number.
-fn index_of<A>(parts: &[Part<A>], number: u32) -> usize
-    requires { 0 < occurrences number (map ticket_of parts.now) }
-    ensures { IsIndexOfTicket parts.now result number }
+/// For each of `count` segments, in order, the index of its part.
+///
+/// # Errors
+///
+/// If an allocation fails.
+fn part_indices<A>(alloc: Global, parts: &[Part<A>], count: u32) -> Result<Vec<usize>, AllocError>
+    requires { IsPermutation (map ticket_of parts.now) count }
+    ensures { IfOk result (HasIndices parts.now count) }
 {
+    let mut indices = vec![in alloc; 0; count as usize]?;
     for index in 0..parts.len() {
-        if parts[index].number == number {
-            return index;
-        }
+        indices[parts[index].number as usize] = index;
     }
-    unreachable!()
+    Ok(indices)
 }
 
 /// Replaces a list by the answers of the parts of `count` segments, in the order of their numbers. A list with enough
@@ -126,10 +129,11 @@ pub fn line_up<A: Copy, P: Asked<A>>(
     ensures { OnOk result (P.answers phase.now.program.now phase.now.dice.now
         phase.now.road.now 0 (first_car (cars phase.now.road.now) count count) answers.new.items) }
 {
+    let indices = part_indices(*answers.allocator(), parts, count)?;
     answers.clear();
     answers.reserve(phase.road.cars() as usize)?;
     for number in 0..count {
-        let index = index_of(parts, number);
+        let index = indices[number as usize];
         answers.extend_from_slice(&parts[index].answers)?;
     }
     Ok(())

@@ -52,22 +52,19 @@ impl<'a, R: Threads + Wait + Sync, G: Gate + Sync> Pool<'a, R, G> {
         }
     }
 
-    /// Keeps only as many workers as save time on a road with `cars` cars: at least one, but at most one per processor
-    /// and one per `CARS_PER_WORKER` cars (`DRAWING_CARS_PER_WORKER` if a program `draws` random numbers). The helpers
-    /// stay awake for a while between two phases.
+    /// Keeps only as many workers as save time on a road with `cars` cars (`workers_for`). The helpers stay awake for a
+    /// while between two phases.
     pub fn with_workers_for(self, cars: u32, draws: bool) -> Pool<'a, R, G>
         ensures some { 0 < pool_workers result }
         ensures few { pool_workers result ≤ pool_workers self.entry }
         ensures used { let share = if draws then DRAWING_CARS_PER_WORKER else CARS_PER_WORKER in
             pool_workers result ≤ max 1 (cars / share) }
     {
-        let most = within_processors(self.rt, self.workers);
-        let busy = (cars / cars_per_worker(draws)).max(1);
         Pool {
             rt: self.rt,
             gate: self.gate,
             rendezvous: Rendezvous::new(SPINS_BEFORE_SLEEP),
-            workers: busy.min(most),
+            workers: workers_for(self.rt, self.workers, cars, draws),
         }
     }
 
@@ -98,6 +95,20 @@ impl<'a, R: Threads + Wait + Sync, G: Gate + Sync> Pool<'a, R, G> {
         );
         driven
     }
+}
+
+/// The number of workers, of at most `workers`, that save time on a road with `cars` cars: at least one, but at most one
+/// per processor and one per `CARS_PER_WORKER` cars (`DRAWING_CARS_PER_WORKER` if a program `draws` random numbers).
+pub fn workers_for<R: Threads>(rt: &R, workers: u32, cars: u32, draws: bool) -> u32
+    requires { 0 < workers }
+    ensures some { 0 < result }
+    ensures few { result ≤ workers }
+    ensures used { let share = if draws then DRAWING_CARS_PER_WORKER else CARS_PER_WORKER in
+        result ≤ max 1 (cars / share) }
+{
+    let most = within_processors(rt, workers);
+    let busy = (cars / cars_per_worker(draws)).max(1);
+    busy.min(most)
 }
 
 /// The number of cars that keep a worker busy, if a program `draws` random numbers or if none does.

@@ -1,0 +1,10 @@
+use Rattle.std.proofs.Common.{◌≡◌, length, map}
+use Rattle.trlab_segments.specs.Answered.{ticket_of}
+use Rattle.trlab_segments.proofs.Indices.{HasNoted}
+use Rattle.trlab_segments.proofs.parts.part_indices.Given as goal
+
+abbrev pub invariant-loop-index : goal.invariant-loop-index
+invariant-loop-index g l = record {
+  count : length l.indices.items ≡ l.count;
+  noted : HasNoted (map ticket_of l.parts) l.index l.indices.items;
+}
