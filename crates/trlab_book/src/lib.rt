@@ -16,11 +16,12 @@ mod desk;
 mod kept;
 pub mod laws;
 mod running;
+mod single_step;
 mod team;
 
 pub use desk::{Desk, SharedBook};
 pub use running::{RunFault, run_jobs};
-pub use team::advance;
+pub use single_step::advance;
 pub use trlab_bounds::runs::MAX_RUNNERS;
 pub use trlab_sequential_book::{
     Book, BookFault, BoxedRule, BoxedSeed, Call, Event, Lease, LeaseFault, Offered, Order, Reply,
