@@ -190,8 +190,7 @@ impl<L: Ledger> SharedBook<L> {
     }
 
     /// Adds a job, which runs `steps` steps from the seed, under the rule until it is replaced. Returns the job's
-    /// number. The history shares the seed with the job, and keeps a copy of the rule that is made before the lock
-    /// is taken.
+    /// number. The history shares the seed and the rule with the job.
     ///
     /// # Errors
     ///
@@ -207,13 +206,13 @@ impl<L: Ledger> SharedBook<L> {
     ) -> Result<u32, BookFault>
         ensures { MakesCall desk.old (Submit seed rule steps) (number_reply result) desk.new }
     {
-        let Ok((boxed, call)) = submit_call(alloc, seed, &rule, steps) else {
+        let Ok((seed, rule, call)) = submit_call(alloc, seed, rule, steps) else {
             return Err(self.refuse_without_memory(rt, desk));
         };
         let mut guard = self.lock.lock(rt);
         let Locked { kept, keeper } = &mut *guard;
         let before = kept.history.len();
-        let answer = kept.submit(alloc, boxed, rule, steps, call);
+        let answer = kept.submit(alloc, seed, rule, steps, call);
         desk.note_event(keeper, &self.strands, kept, before);
         answer
     }

@@ -78,7 +78,7 @@ impl Kept {
         &mut self,
         alloc: Global,
         seed: BoxedSeed,
-        rule: Rule,
+        rule: BoxedRule,
         steps: u32,
         call: Call,
     ) -> Result<u32, BookFault>
@@ -236,21 +236,21 @@ fn put_event(history: &mut Vec<Event>, call: Call, reply: Reply)
     }
 }
 
-/// Returns the seed for the job, in shared memory, and the call for the history, which shares the seed and has a copy
-/// of the rule.
+/// Returns the seed and the rule for the job, in shared memory, and the call for the history, which shares both.
 pub(crate) fn submit_call(
     alloc: Global,
     seed: Seed,
-    rule: &Rule,
+    rule: Rule,
     steps: u32,
-) -> Result<(BoxedSeed, Call), AllocError>
+) -> Result<(BoxedSeed, BoxedRule, Call), AllocError>
     ensures seed { IfOk result (λ made. made.0 ≡ seed) }
-    ensures call { IfOk result (λ made. made.1 ≡ Submit made.0 rule.now steps) }
+    ensures rule { IfOk result (λ made. made.1 ≡ rule) }
+    ensures call { IfOk result (λ made. made.2 ≡ Submit made.0 made.1 steps) }
 {
-    let shared = BoxedSeed::new(alloc, seed)?;
-    let for_history = shared.share()?;
-    let copy = BoxedRule::copy_of(alloc, rule)?;
-    Ok((shared, Call::Submit(for_history, copy, steps)))
+    let seed = BoxedSeed::new(alloc, seed)?;
+    let rule = BoxedRule::new(alloc, rule)?;
+    let call = Call::Submit(seed.share()?, rule.share()?, steps);
+    Ok((seed, rule, call))
 }
 
 /// The `Replace` call for the history, with a copy of the rule.

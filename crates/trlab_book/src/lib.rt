@@ -13,14 +13,15 @@
 #![tactic(auto)]
 
 mod desk;
+mod for_embedders;
 mod kept;
 pub mod laws;
 mod running;
 mod team;
 
 pub use desk::{Desk, SharedBook};
+pub use for_embedders::advance;
 pub use running::{RunFault, run_jobs};
-pub use team::advance;
 pub use trlab_bounds::runs::MAX_RUNNERS;
 pub use trlab_sequential_book::{
     Book, BookFault, BoxedRule, BoxedSeed, Call, Event, Lease, LeaseFault, Offered, Order, Reply,

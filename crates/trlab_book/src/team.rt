@@ -1,8 +1,7 @@
-//! The executors of ordered steps: a single worker, the team of a runner, or workers that are started for one step.
+//! The executors of a runner's steps: its team of workers, or a single worker.
 
 ghost use Rattle.std.specs.Prelude.{◌≡◌, ◌↔◌, ◌<◌, ◌≤◌, OnOk, OnErr};
 ghost use Rattle.trlab_bounds.specs.declared.runs.TheConstants.{MAX_WORKERS};
-ghost use Rattle.trlab_segments.specs.Answered.{HasTwoLanes};
 ghost use Rattle.trlab_sequential_book.specs.Leases.{FitsOrder, HasRun};
 ghost use Rattle.trlab_sequential_book.specs.declared.lease.LeaseFault.TheVariants.{WrongOrder};
 
@@ -11,42 +10,10 @@ use std::sync::Wait;
 use std::thread::Threads;
 use trlab_machine::Dice;
 use trlab_road::Road;
-use trlab_segments::{Asked, Calls, Crew, Gate, Pool, segment_count};
+use trlab_segments::{Asked, Gate, Pool, segment_count};
 use trlab_sequential_book::{Lease, LeaseFault, Order};
 use trlab_step::{Caller, Executor, StepObserver};
 use trlab_verify::{Change, Motion};
-
-/// Runs the ordered step of a lease with 1 to `MAX_WORKERS` workers, which pass the gate. It needs no book and holds no
-/// lock.
-///
-/// # Errors
-///
-/// `WrongOrder` if the order is for another job, lease or step, or its rule has a change program and the road has one
-/// lane; `Memory` if an allocation fails. Then nothing changes.
-pub fn advance<R: Threads + Sync, G: Gate + Sync>(
-    rt: &R,
-    alloc: Global,
-    lease: &mut Lease,
-    order: &Order,
-    workers: u32,
-    gate: &G,
-) -> Result<(), LeaseFault>
-    requires { (0 < workers) × (workers ≤ MAX_WORKERS) }
-    ensures ok { OnOk result (HasRun lease.old order.now lease.new) }
-    ensures unchanged { OnErr result (lease.new ≡ lease.old) }
-    ensures wrong { (result ≡ Err WrongOrder) ↔ (FitsOrder lease.old order.now → ⊥) }
-{
-    let crew = Crew::new(rt, workers, gate);
-    let calls = Calls::new(
-        |alloc: Global, road: &Road, motion: &Motion, dice: &Dice| crew.speeds(
-            alloc, road, motion, dice,
-        ),
-        |alloc: Global, road: &Road, change: &Change, dice: &Dice| -> Result<Vec<bool>, AllocError>
-            requires { HasTwoLanes road.now }
-        { crew.crossings(alloc, road, change, dice) },
-    );
-    lease.advance(&calls, alloc, order)
-}
 
 /// A single worker and its gate. It asks all cars of a phase at once, but first passes the gate once for each segment
 /// that a crew of one worker would draw.

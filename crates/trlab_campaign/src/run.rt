@@ -6,14 +6,14 @@ ghost use Rattle.trlab_jobs.specs.Job.{Job as Told, seed_of, sheet_of};
 ghost use Rattle.trlab_jobs.specs.Stored.{IsStoredJob};
 ghost use Rattle.trlab_step.specs.Run.{IsOneStepOn, at_start, IsRoadAt};
 ghost use Rattle.trlab_campaign.specs.Ending.{EngineEnds, LeavesUnflushed, WroteByResult};
-ghost use Rattle.trlab_campaign.specs.Output.{IsOutput, IsShownOutput, IsOutputForJob, every_from, shown_text, step_text};
+ghost use Rattle.trlab_campaign.specs.Output.{IsShownOutput, IsOutputForJob, every_from, shown_text, step_text};
 ghost use Rattle.trlab_campaign.specs.Writers.{AddsByResult, bytes_of};
 
 use crate::device::{Sink, Source, write_text};
 use crate::end::{End, Failure};
 use crate::output::push_step;
 use crate::pooled::{Account, run_of_job, run_pooled};
-use crate::progress::{NoProgress, ProgressObserver};
+use crate::progress::ProgressObserver;
 use std::alloc::{AllocError, AllocGlobal, Global};
 use std::sync::Wait;
 use std::thread::Threads;
@@ -214,31 +214,6 @@ impl<'a> Account for StepPictures<'a> {
         drop(run);
         written
     }
-}
-
-/// Reads a job text, and writes the picture of its road at each step: `run_shown_text` with every step and without
-/// reports of progress. Returns how it ended.
-pub fn run_job_text<R: AllocGlobal + Threads + Wait + Sync, S: Source, K: Sink>(
-    rt: &R,
-    reader: &mut S,
-    writer: &mut K,
-    workers: u32,
-) -> End
-    requires reader_works { S.failed reader.old ≡ false }
-    requires writer_works { K.failed writer.old ≡ false }
-    requires some_worker { 1 ≤ workers }
-    requires few_workers { workers ≤ MAX_WORKERS }
-    ensures { EngineEnds S.Source K.Sink IsOutput result
-        reader.old reader.new writer.old writer.new }
-{
-    run_shown_text(
-        rt,
-        reader,
-        writer,
-        workers,
-        &ShownSteps::new(1, 0),
-        &NoProgress,
-    )
 }
 
 /// Reads a job text, and writes the picture of its road at each step that is `shown`, or the line of the text's

@@ -15,7 +15,7 @@ ghost use Rattle.trlab_campaign.specs.Writers.{AddsNone, bytes_of};
 use crate::device::{Sink, Source};
 use crate::end::{End, refuse, write_output};
 use crate::engine::{Engine, run_engine};
-use crate::progress::{NoProgress, ProgressObserver};
+use crate::progress::ProgressObserver;
 use crate::sweep::runners::Runners;
 use crate::sweep::work::WorkGate;
 use std::alloc::{AllocError, AllocGlobal, Global};
@@ -100,34 +100,13 @@ impl<T: Fn(Global, &Sweep) -> Result<Vec<u8>, AllocError> + Drop> Engine for Swe
     }
 }
 
-/// Reads a sweep text, and writes the table of its points: `run_sweep_with_progress` without reports of progress.
-pub fn run_sweep_text<R: AllocGlobal + Threads + Wait + Sync, S: Source, K: Sink>(
-    rt: &R,
-    reader: &mut S,
-    writer: &mut K,
-    runners: u32,
-    workers: u32,
-) -> End
-    requires reader_works { S.failed reader.old ≡ false }
-    requires writer_works { K.failed writer.old ≡ false }
-    requires some_runner { 1 ≤ runners }
-    requires few_runners { runners ≤ MAX_RUNNERS }
-    requires some_worker { 1 ≤ workers }
-    requires few_workers { workers ≤ MAX_WORKERS }
-    ensures ends { EngineEnds S.Source K.Sink IsSweepOutput result
-        reader.old reader.new writer.old writer.new }
-    ensures kept { result ≡ Memory → AddsNone (bytes_of K.Sink writer.old) (bytes_of K.Sink writer.new) }
-{
-    run_sweep_with_progress(rt, reader, writer, runners, workers, &NoProgress)
-}
-
 /// Reads a sweep text, and writes the table of its points, or the line of the text's first fault. `progress`
 /// observes the work on the points.
 ///
 /// The whole text is read and checked, and all points are complete, before a byte is written. If an allocation fails,
 /// nothing is written; if a call of the reader or writer fails, a prefix of the whole output. Each road is a job of a
-/// book. `runners` runners, 1 to 16, take the jobs, each with `workers` workers, 1 to 16. The output does not depend on
-/// these numbers.
+/// book. `runners` runners, 1 to 16, take the jobs. `workers`, 1 to 16, is the maximum number of threads that compute
+/// the cars of a road; each runner has only as many as help. The output does not depend on these numbers.
 pub fn run_sweep_with_progress<
     R: AllocGlobal + Threads + Wait + Sync,
     S: Source,

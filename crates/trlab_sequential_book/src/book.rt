@@ -16,7 +16,7 @@ use crate::fault::BookFault;
 use crate::job::JobRecord;
 use crate::lease::Lease;
 use crate::order::Order;
-use crate::rule::suits;
+use crate::rule::{BoxedRule, suits};
 use crate::seed::{BoxedSeed, Seed};
 use crate::snapshot::Snapshot;
 use std::alloc::Global;
@@ -104,11 +104,12 @@ impl Book {
         if self.has_full_history() {
             return Err(BookFault::HistoryFull);
         }
-        let boxed = BoxedSeed::new(alloc, seed)?;
-        self.add_job(alloc, boxed, rule, steps)
+        let seed = BoxedSeed::new(alloc, seed)?;
+        let rule = BoxedRule::new(alloc, rule)?;
+        self.add_job(alloc, seed, rule, steps)
     }
 
-    /// `submit`, for a seed that has other owners, such as a history.
+    /// `submit`, for a seed and a rule that have other owners, such as a history.
     ///
     /// # Errors
     ///
@@ -117,7 +118,7 @@ impl Book {
         &mut self,
         alloc: Global,
         seed: BoxedSeed,
-        rule: Rule,
+        rule: BoxedRule,
         steps: u32,
     ) -> Result<u32, BookFault>
         ensures reply { RepliesAs (is_memory result) (number_reply result) self.old (Submit seed rule steps) }
@@ -135,7 +136,7 @@ impl Book {
         &mut self,
         alloc: Global,
         seed: BoxedSeed,
-        rule: Rule,
+        rule: BoxedRule,
         steps: u32,
     ) -> Result<u32, BookFault>
         requires { has_full_history self.old ≡ false }
@@ -351,7 +352,7 @@ fn submit_in(
     jobs: &mut Vec<JobRecord>,
     alloc: Global,
     seed: BoxedSeed,
-    rule: Rule,
+    rule: BoxedRule,
     steps: u32,
 ) -> Result<u32, BookFault>
     requires { length jobs.old.items ≤ MAX_JOBS }
@@ -361,7 +362,7 @@ fn submit_in(
         (jobs.new.items ≡ (submit_outcome jobs.old.items seed rule steps).jobs) }
     ensures at_most_max { length jobs.new.items ≤ MAX_JOBS }
 {
-    make_room(jobs, seed.get(), &rule)?;
+    make_room(jobs, seed.get(), rule.get())?;
     let job = JobRecord::new(alloc, seed, rule, steps)?;
     let number = jobs.len() as u32;
     jobs.push_reserved(job);

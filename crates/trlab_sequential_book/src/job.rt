@@ -12,7 +12,7 @@ ghost use Rattle.trlab_sequential_book.specs.Machine.{cancel_outcome, give_back_
 use crate::fault::BookFault;
 use crate::lease::Lease;
 use crate::order::Order;
-use crate::rule::suits;
+use crate::rule::{BoxedRule, suits};
 use crate::seed::{BoxedRoad, BoxedSeed};
 use crate::sheet::Sheet;
 use crate::snapshot::Snapshot;
@@ -91,7 +91,7 @@ impl JobRecord {
     pub fn new(
         alloc: Global,
         seed: BoxedSeed,
-        rule: Rule,
+        rule: BoxedRule,
         steps: u32,
     ) -> Result<JobRecord, AllocError>
         requires legal { IsLegal seed.road }

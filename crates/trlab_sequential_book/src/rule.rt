@@ -135,7 +135,7 @@ impl BoxedRule {
     /// # Errors
     ///
     /// If an allocation fails; the rule is dropped.
-    pub(crate) fn new(alloc: Global, rule: Rule) -> Result<BoxedRule, AllocError>
+    pub fn new(alloc: Global, rule: Rule) -> Result<BoxedRule, AllocError>
         ensures { IfOk result (λ boxed. boxed ≡ rule) }
     {
         let encoded = EncodedRule::new(alloc, rule)?;
@@ -148,7 +148,7 @@ impl BoxedRule {
     /// # Errors
     ///
     /// If the number of owners would exceed its range.
-    pub(crate) fn share(&self) -> Result<BoxedRule, AllocError>
+    pub fn share(&self) -> Result<BoxedRule, AllocError>
         ensures { IfOk result (λ shared. shared ≡ self.now) }
     {
         let held = Arc::try_clone(&self.held)?;

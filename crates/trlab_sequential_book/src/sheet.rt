@@ -41,10 +41,9 @@ impl Model for Sheet {
 
 impl Sheet {
     /// The sheet with one rule, in force from step 0.
-    pub(crate) fn new(alloc: Global, rule: Rule) -> Result<Sheet, AllocError>
+    pub(crate) fn new(alloc: Global, rule: BoxedRule) -> Result<Sheet, AllocError>
         ensures { IfOk result (λ sheet. sheet ≡ (0, rule) ∷ []) }
     {
-        let rule = BoxedRule::new(alloc, rule)?;
         let mut entries = Vec::new(alloc);
         entries.push((0, rule))?;
         Ok(Sheet { entries })

@@ -6,14 +6,14 @@ use Rattle.trlab_book.proofs.desk.SharedBook.submit.Goals as goal
 pub invariant_of-deref_mut : goal.invariant_of-deref_mut
 invariant_of-deref_mut g c =
     let kept = c.deref_mut.result.now.kept in
-    let call = Submit c.in-Ok.boxed c.args.rule c.args.steps in
+    let call = Submit c.in-Ok.seed c.in-Ok.rule c.args.steps in
     let told = number_reply c.submit-answer.result in
     record { noted = (c.note_event.ensures call told (has_come kept c.submit-answer.new.self call told _ c.submit-answer.ensures.made c.deref_mut.result.now.noted) (full_after kept c.submit-answer.new.self call told c.submit-answer.ensures.made c.submit-answer.ensures.full)).0 }
 
 pub returns : goal.returns
 returns g c =
     let kept = c.deref_mut.result.now.kept in
-    let call = Submit c.in-Ok.boxed c.args.rule c.args.steps in
+    let call = Submit c.in-Ok.seed c.in-Ok.rule c.args.steps in
     let told = number_reply c.submit-answer.result in
-    rw (← c.in-Ok.ensures.seed) (is_made (λ book. Unit {0}) kept c.submit-answer.new.self call told _ c.args.desk.now c.note_event.new.self c.submit-answer.ensures.made c.deref_mut.result.now.noted (λ is. tt) c.submit-answer.ensures.full
+    rw (← c.in-Ok.ensures.seed, ← c.in-Ok.ensures.rule) (is_made (λ book. Unit {0}) kept c.submit-answer.new.self call told _ c.args.desk.now c.note_event.new.self c.submit-answer.ensures.made c.deref_mut.result.now.noted (λ is. tt) c.submit-answer.ensures.full
     (c.note_event.ensures call told (has_come kept c.submit-answer.new.self call told _ c.submit-answer.ensures.made c.deref_mut.result.now.noted) (full_after kept c.submit-answer.new.self call told c.submit-answer.ensures.made c.submit-answer.ensures.full)).1)

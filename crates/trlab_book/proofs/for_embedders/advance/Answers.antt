@@ -1,5 +1,5 @@
 use Rattle.std.proofs.Common.{rules}
-use Rattle.trlab_book.proofs.team.advance.Goals as goal
+use Rattle.trlab_book.proofs.for_embedders.advance.Goals as goal
 
 pub returns-clause-ok : goal.returns-clause-ok
 returns-clause-ok g c = search rules
