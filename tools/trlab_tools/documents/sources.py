@@ -1,0 +1,92 @@
+"""Are the sources in plain English, and does each name mean one thing? Comments of src/ and specs/ may use few of the
+words that often replace a noun or a condition, and none of the phrases in DIALECT. A type of the crates has a name that
+no other type has, and so has a definition of specs/, but for the names in TWICE."""
+import collections
+import os
+import re
+
+from .. import TOP
+from .plain import STAND_INS, content, files_below
+
+COMMENT = re.compile(r"^\s*(?:///?|//!|--) ?(.*)$", re.M)
+CODE = re.compile(r"`[^`]*`")
+EXAMPLE = re.compile(r"^ *//[/!] ```(?:text)?\n(.*?)^ *//[/!] ```$", re.M | re.S)
+DOC_MARK = re.compile(r"^ *//[/!]", re.M)
+REMARK = re.compile(r"//.*$", re.M)
+DIALECT = re.compile(
+    r"\b(?:so many|so much|go(?:es)? by|tells?|hand(?:s|ed)? (?:on|back)|whoever|in vain|by the clock|anew|mends?|"
+    r"memory (?:ran|runs) out|where an? \w+ (?:fails|was refused)|in place of)\b",
+    re.I,
+)
+TYPE = re.compile(r"^\s*(?:pub(?:\([a-z]+\))? )?(?:struct|enum|trait) (\w+)", re.M)
+DEFINITION = re.compile(r"^(?:(?:abbrev|unfoldable|opaque) )*pub (?:record |data )?(\w+)(?= |$)", re.M)
+NO_DEFINITION = {"mod", "use", "record", "data"}
+# Stand-ins per 1000 words of comments; pages may have MAX_STAND_INS.
+MAX_IN_COMMENTS = 10
+# Names that still mean two things. Rename one and take it out; add none.
+TWICE = {"Rejection"}
+
+
+def crate_of(path):
+    return os.path.relpath(path, os.path.join(TOP, "crates")).split(os.sep)[0]
+
+
+def sources(folder, ending):
+    """The sources below src/ or specs/ of all crates."""
+    return [path for path in files_below("crates", ending) if f"{os.sep}{folder}{os.sep}" in path and "/out/" not in path]
+
+
+def comments_are_plain():
+    words = collections.defaultdict(list)
+    for path in [*sources("src", ".rt"), *sources("specs", ".antt")]:
+        words[crate_of(path)].append(CODE.sub(" ", " ".join(COMMENT.findall(content(path)))))
+    for crate, texts in sorted(words.items()):
+        text = " ".join(texts)
+        share = 1000 * len(STAND_INS.findall(text)) / max(1, len(text.split()))
+        yield share <= MAX_IN_COMMENTS, f"comments of {crate}: {share:.1f} of 1000 words are what, alone, told, stand or where"
+        old = collections.Counter(found.lower() for found in DIALECT.findall(text))
+        yield not old, f"comments of {crate} have {dict(old)}"
+
+
+def names_are_of_one_thing():
+    for kind, folder, ending, pattern in (("type", "src", ".rt", TYPE), ("definition", "specs", ".antt", DEFINITION)):
+        found = collections.defaultdict(set)
+        for path in sources(folder, ending):
+            for name in pattern.findall(content(path)):
+                found[name].add(os.path.relpath(path, os.path.join(TOP, "crates")))
+        twice = {name: sorted(paths) for name, paths in found.items() if len(paths) > 1}
+        new = {name: paths for name, paths in twice.items() if name not in NO_DEFINITION | TWICE}
+        yield not new, f"{kind}s of one name: {new}"
+
+
+def without_layout(code):
+    """Code without remarks and spaces, so that it does not matter how it is divided into lines."""
+    return re.sub(r",(?=[)\]}])", "", re.sub(r"\s", "", REMARK.sub("", code)))
+
+
+def has_in_order(code, lines):
+    at = 0
+    for line in lines:
+        at = code.find(line, at) + len(line)
+        if at < len(line):
+            return False
+    return True
+
+
+def examples_are_compiled():
+    files = sources("src", ".rt")
+    compiled = [(crate_of(path), without_layout(content(path))) for path in files]
+    for path in files:
+        crate, name, examples = crate_of(path), os.path.relpath(path, TOP), EXAMPLE.findall(content(path))
+        if path.endswith("src/lib.rt") and not crate.endswith("_tests"):
+            yield bool(examples), f"{name} begins with an example"
+        for example in examples:
+            lines = [without_layout(line) for line in DOC_MARK.sub("", example).splitlines()]
+            found = any(other != crate and has_in_order(code, lines) for other, code in compiled)
+            yield found, f"the example of {name} is compiled in another crate: {lines[0]}"
+
+
+def verdicts():
+    yield from comments_are_plain()
+    yield from examples_are_compiled()
+    yield from names_are_of_one_thing()
