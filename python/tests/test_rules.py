@@ -154,7 +154,7 @@ class Published(unittest.TestCase):
 
 class Random(unittest.TestCase):
     def test_programs_compute_the_same_as_python(self):
-        # tools/hostile/functions tries many more.
+        # tools/functions tries many more.
         accepted = 0
         for seed in range(FUNCTIONS):
             tried = Tried(f"unit {seed}")

@@ -23,8 +23,9 @@ from .systems import fits_native_programs
 _HERE = Path(__file__).resolve().parents[1]
 _PACKED = _HERE / "programs"
 _SCRIPT = _HERE.parents[1] / "trlab"
-# The names that Linux has for the features of a processor of level x86-64-v3 that the oldest ones lack.
-_V3 = set("cx16 lahf_lm pni popcnt sse4_1 sse4_2 ssse3 abm avx avx2 bmi1 bmi2 f16c fma movbe xsave".split())
+# The features of each processor level beyond the first x86-64 processors, in the words of Linux.
+FEATURES_OF_V2 = set("cx16 lahf_lm pni popcnt sse4_1 sse4_2 ssse3".split())
+FEATURES_OF_V3 = FEATURES_OF_V2 | set("abm avx avx2 bmi1 bmi2 f16c fma movbe xsave".split())
 _LONGEST_ANSWER = 65536
 _PATIENCE = 60.0
 """How long a program may take to print its version, in seconds."""
@@ -105,7 +106,7 @@ def _packed() -> Optional[str]:
     """The native program of the installed package, which a checkout and a package for any machine do not have."""
     if not (fits_native_programs() and any(_PACKED.glob("trlab-x86-64-v*.gz"))):
         return None
-    level = "x86-64-v3" if _V3 <= _features() else "x86-64-v2"
+    level = "x86-64-v3" if FEATURES_OF_V3 <= _features() else "x86-64-v2"
     released = dict(line.split() for line in (_PACKED / "release.txt").read_text("utf-8").splitlines() if line[:1] != "#")
     for folder in _folders():
         path = folder / f"trlab-{level}-{released[level]}"

@@ -1,4 +1,4 @@
-//! Limits: a history with 1,000,000 events, and a full lane of 100,000 cells. `tools/bench/book` times both.
+//! Limits: a history with 1,000,000 events, and a full lane of 100,000 cells. `tools/bench-book` times both.
 
 ghost use Rattle.std.specs.Prelude.{◌≡◌, ◌<◌, ◌≤◌};
 ghost use Rattle.trlab_bounds.specs.declared.runs.TheConstants.{MAX_RUNNERS};

@@ -1,2 +1,0 @@
-"""The figures of documents that explain a notion. Each is a module with a function `draw`, which returns the SVG image that
-tools/documents/drawn compares with docs/figures/NAME.svg."""

@@ -1,0 +1,74 @@
+"""Rows of series, which count the cars in windows and write no pictures, and of the memory of a large sweep."""
+import os
+
+from . import measuring
+from .rows import Row, a_move, wish
+
+WINDOWS = 500_000  # of one step each, the most that a series has
+CELLS = 100_000
+CARS = 30_000  # of each lane
+STEPS = 300
+RULES = {
+    "nasch 0": 1,
+    "nasch 536870912": 1,
+    "vdr 33554432 1610612736": 1,
+    "rickert 536870912 1073741824": 2,
+}
+LARGEST_SWEEP = 200, 200_000  # points, and the cars of each
+
+
+def texts_of(rule, lanes, folder):
+    """The jobs of a road whose cars are evenly spread, of some steps and of none, and the sweeps of the same road, of
+    one step more."""
+    cars = lanes * CARS
+    start = measuring.even(CELLS, cars, lanes)
+    jobs = [measuring.job(start, rule, steps) for steps in (STEPS, 0)]
+    sweeps = [measuring.sweep(rule, CELLS, [cars], steps, lanes) for steps in (STEPS + 1, 1)]
+    return [measuring.write(os.path.join(folder, f"text {k}"), text) for k, text in enumerate(jobs + sweeps)]
+
+
+def one_window(programs, rule, lanes, times, folder):
+    """The row of a series with one window, beside a run, which writes pictures, and a sweep, which does not."""
+    job, still, points, first = texts_of(rule, lanes, folder)
+    series = [programs.trlab, "series", "--every", str(STEPS)]
+    commands = {"series": (series, job, still), "a run": ([programs.trlab, "run"], job, still),
+                "a sweep": ([programs.trlab, "sweep"], points, first)}
+    whole = measuring.best_of({name: (command, text) for name, (command, text, _) in commands.items()}, times)
+    idle = measuring.best_of({name: (command, text) for name, (command, _, text) in commands.items()}, times)
+    took = {name: a_move(whole[name], idle[name], lanes * CARS * STEPS) for name in commands}
+    row = Row(f"series of one window, `{rule}`", lanes, CELLS, lanes * CARS, {"trlab": took["series"]})
+    others = {name: (took[name].cpu, took["series"].cpu / took[name].cpu) for name in ("a run", "a sweep")}
+    beside = ", ".join(f"{name} {time:.1f} ({ratio:.2f})" for name, (time, ratio) in others.items())
+    wanted = (wish("a sweep at most 1.02", others["a sweep"][1] <= 1.02),)
+    return row._replace(beside=beside, wanted=wanted)
+
+
+def many_windows(programs, times, folder):
+    """The row of a series whose windows are single steps of one car, beside its run."""
+    rule = "nasch 536870912"
+    path = measuring.write(os.path.join(folder, "windows"), measuring.job(["0" + 9 * "."], rule, WINDOWS))
+    runs = {word: ([programs.trlab, word], path) for word in ("series", "run")}
+    took = {word: a_move(time, (0, 0), WINDOWS) for word, time in measuring.best_of(runs, times).items()}
+    ratio = took["series"].cpu / took["run"].cpu
+    row = Row(f"series of {WINDOWS} windows, `{rule}`", 1, 10, 1, {"trlab": took["series"]})
+    wanted = (wish("a run at most 3", ratio <= 3),)
+    return row._replace(beside=f"a run {took['run'].cpu:.1f} ({ratio:.2f})", wanted=wanted)
+
+
+def memory(programs, folder):
+    """The row of the memory of the largest sweep."""
+    points, cars = LARGEST_SWEEP
+    rule = "nasch 536870912"
+    path = measuring.write(os.path.join(folder, "points"), measuring.sweep(rule, CELLS, points * [cars], 1, 2))
+    peak = measuring.memory([programs.trlab, "sweep"], path) / 1e6
+    row = Row(f"memory, sweep of {points} points, `{rule}`", 2, CELLS, points * cars, {})
+    return row._replace(beside=f"{peak:.1f} MB in all", wanted=(wish("at most 150 MB", peak <= 150),))
+
+
+def rows(programs, is_quick, folder):
+    """All rows of series and of the memory of a sweep; something is wanted of each."""
+    times = 3 if is_quick else 10
+    for rule, lanes in RULES.items():
+        yield one_window(programs, rule, lanes, times, folder)
+    yield many_windows(programs, times, folder)
+    yield memory(programs, folder)

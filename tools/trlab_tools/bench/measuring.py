@@ -1,0 +1,184 @@
+"""The programs that the benchmarks measure, their inputs, and runs that are timed and compared.
+
+The proved program is that of ./trlab, or the one that TRLAB names. All others are compiled for the same processor level."""
+import filecmp
+import os
+import random
+import re
+import subprocess
+import sys
+import time
+from typing import NamedTuple
+
+from .. import TOP
+from ..processes import peak_of
+
+BENCH = os.path.join(TOP, "tools", "bench")
+WITHOUT_PROOFS = ["plain", "interpreter"]
+LONGEST = 2  # at most so many times the planned turns
+REPEATS = 5  # of a run that measures its own time
+SETTLED = []  # whether each best time was found twice
+
+
+class Time(NamedTuple):
+    """The time of a run in seconds: wall-clock time, and CPU time of all its threads."""
+
+    clock: float
+    cpu: float
+
+
+def level(program):
+    """The processor level for which a program is compiled, which its message for older processors names."""
+    with open(program, "rb") as file:
+        named = re.search(rb"x86-64-v[1-4]", file.read())
+    return named[0].decode() if named else "x86-64"
+
+
+def build(level, features=()):
+    """Builds the programs without proofs for a processor level; returns the paths of `plain` and `interpreter`."""
+    folder = os.path.join(BENCH, "target", "-".join([level, *features]))
+    words = ["cargo", "build", "--release", "--quiet", "--offline", "--target-dir", folder]
+    enabled = [f"{name}/{feature}" for name in WITHOUT_PROOFS for feature in features]
+    env = {**os.environ, "RUSTFLAGS": f"-C target-cpu={level}"}
+    subprocess.run(words + ["--features", ",".join(enabled)], cwd=BENCH, check=True, env=env)
+    return [os.path.join(folder, "release", name) for name in WITHOUT_PROOFS]
+
+
+def python_with(*modules):
+    """A Python that has these modules: the one that runs this, or else the system's; or None."""
+    for python in (sys.executable, "/usr/bin/python3"):
+        words = [python, "-c", f"import {', '.join(modules)}"]
+        if os.access(python, os.X_OK) and subprocess.run(words, stderr=subprocess.DEVNULL).returncode == 0:
+            return python
+    return None
+
+
+def machine():
+    """One line on the machine."""
+    with open("/proc/cpuinfo") as lines:
+        name = next((line.partition(": ")[2].strip() for line in lines if line.startswith("model name")), "a processor")
+    return f"{os.cpu_count()} processors ({name}), load {os.getloadavg()[0]:.1f} at the start"
+
+
+def spread(length, cars, seed=1):
+    """A lane of stopped cars in random cells."""
+    cells = ["."] * length
+    for place in random.Random(seed).sample(range(length), cars):
+        cells[place] = "0"
+    return "".join(cells)
+
+
+def even(length, cars, lanes=1):
+    """The lanes of stopped cars, evenly spaced as in a sweep."""
+    cells = [["."] * length for _ in range(lanes)]
+    for number in range(cars):
+        place = number * lanes * length // cars
+        cells[place % lanes][place // lanes] = "0"
+    return ["".join(lane) for lane in cells]
+
+
+def job(lanes, rule, steps):
+    """A job."""
+    lines = ["road 1", "key " + 64 * "0", "limit 5"] + ["lane " + lane for lane in lanes]
+    return ("\n".join(lines + ["rule " + rule, f"steps {steps}"]) + "\n").encode()
+
+
+def sweep(rule, cells, points, steps, lanes=1):
+    """A sweep; the points are numbers of cars, and all steps are counted."""
+    lines = ["sweep 1", "key " + 64 * "0", "limit 5", f"length {cells}", f"lanes {lanes}", "rule " + rule, "warm 0"]
+    return ("\n".join(lines + [f"measure {steps}"] + [f"cars {cars}" for cars in points]) + "\n").encode()
+
+
+def write(path, text):
+    with open(path, "wb") as file:
+        file.write(text)
+    return path
+
+
+def timed(command, path):
+    """The time of a run on the input in a file, in seconds; its output is discarded."""
+    with open(path, "rb") as text:
+        began = time.perf_counter()
+        program = subprocess.Popen(command, stdin=text, stdout=subprocess.DEVNULL)
+        _, status, used = os.wait4(program.pid, 0)
+        clock = time.perf_counter() - began
+    program.returncode = os.waitstatus_to_exitcode(status)
+    if program.returncode != 0:
+        sys.exit(f"{' '.join(command)} ended with {program.returncode}")
+    return Time(clock, used.ru_utime + used.ru_stime)
+
+
+def own_time(command, path):
+    """The best time of `REPEATS` turns that a program measures itself and prints on standard error, in seconds."""
+    env = {**os.environ, "TURNS": str(REPEATS)}
+    with open(path, "rb") as text:
+        ran = subprocess.run(command, stdin=text, stdout=subprocess.DEVNULL, stderr=subprocess.PIPE, check=True, env=env)
+    return Time(*map(float, ran.stderr.split()))
+
+
+def once(command, path, measure=timed):
+    """The time of one run, as a measure finds it."""
+    return measure(command, path)
+
+
+def turns(runs, times):
+    """The times of runs by their names; they alternate so many times. A run is a command, its text, and how it is
+    measured, if it is not `timed`."""
+    took = {name: [] for name in runs}
+    for _ in range(times):
+        for name, run in runs.items():
+            took[name].append(once(*run))
+    return took
+
+
+def best(times):
+    """The least of several times, wall-clock time and CPU time."""
+    return Time(*map(min, zip(*times)))
+
+
+def settled(times):
+    """Whether the two least CPU times of a run agree, to 2 percent or half a millisecond."""
+    least, second = sorted(time.cpu for time in times)[:2]
+    return second - least <= max(0.02 * least, 0.0005)
+
+
+def best_of(runs, count):
+    """The best times of runs by their names. They alternate `count` times, and those whose two least times differ up to
+    `LONGEST` times as often: on a shared machine even the best of a few runs may be disturbed."""
+    took = turns(runs, count)
+    for _ in range((LONGEST - 1) * count):
+        more = {name: run for name, run in runs.items() if not settled(took[name])}
+        for name, times in turns(more, 1).items():
+            took[name] += times
+    SETTLED.extend(settled(times) for times in took.values())
+    return {name: best(times) for name, times in took.items()}
+
+
+def agreement():
+    """How many of the best times so far were found twice."""
+    return f"{sum(SETTLED)} of {len(SETTLED)} best times were found twice, to 2 percent or 0.5 ms"
+
+
+def memory(command, path, output=os.devnull):
+    """The peak memory in bytes of a run on the input in a file."""
+    peak = 0
+    with open(path, "rb") as text, open(output, "wb") as out:
+        program = subprocess.Popen(command, stdin=text, stdout=out)
+        while program.poll() is None:
+            peak = max(peak, peak_of(program.pid))
+            time.sleep(0.001)
+    if program.returncode != 0:
+        sys.exit(f"{' '.join(command)} ended with {program.returncode}")
+    return peak
+
+
+def compare(commands, path, folder):
+    """Runs each command on an input once, and ends if two outputs differ."""
+    outputs = [os.path.join(folder, f"output{k}") for k in range(len(commands))]
+    for command, output in zip(commands, outputs):
+        with open(path, "rb") as text, open(output, "wb") as out:
+            ran = subprocess.run(command, stdin=text, stdout=out, stderr=subprocess.PIPE)
+        if ran.returncode != 0:
+            sys.exit(f"{' '.join(command)} ended with {ran.returncode}: {ran.stderr.decode()}")
+        if not filecmp.cmp(outputs[0], output, shallow=False):
+            sys.exit(f"{' '.join(command)} and {' '.join(commands[0])} write different outputs for {path}")

@@ -1,0 +1,107 @@
+"""A row of the table, and the table as text: all of it as tab-separated values, a few rows of it in Markdown."""
+import re
+from typing import NamedTuple
+
+from . import measuring
+
+OTHERS = ["plain", "interpreter", "floor", "numba", "NumPy"]
+COLUMNS = ["what", "lanes", "cells", "cars", "trlab", "wall clock", *OTHERS, "beside", "wanted"]
+# The columns and the rows of the page: what was measured, and the cells of a lane.
+COLUMNS_OF_PAGE = ["what", "lanes", "cells", "cars", "trlab", *OTHERS, "beside"]
+ROWS_OF_PAGE = [
+    ("`nasch 0`", 100000, 30000),
+    ("`nasch 536870912`", 100000, 30000),
+    ("`vdr 33554432 1610612736`", 100000, 30000),
+    ("`rickert 536870912 1073741824`", 100000, 60000),
+    ("`nasch 536870912`", 1000, 300),
+    ("`nasch 536870912`", 100, 30),
+    ("`nasch 536870912`", 100, 5),
+    ("memory, `nasch 536870912`", 100000, 30000),
+    ("sweep of 7 points, `nasch 536870912`, 4 runners", 1000, 3500),
+    ("`nasch 536870912`, 4 workers", 100000, 30000),
+    ("`nasch 536870912`, four runs at once", 100000, 30000),
+    ("`rickert 536870912 1073741824`, 4 workers", 50000, 30000),
+]
+RATIO = re.compile(r" \(\d+\.\d+\)$")
+
+
+class Programs(NamedTuple):
+    """The programs that are measured, `plain` and `interpreter` also with eight words side by side. Those in numba and
+    NumPy are commands, empty if Python lacks the package."""
+    trlab: str
+    plain: str
+    interpreter: str
+    wide_plain: str
+    wide_interpreter: str
+    numba: list[str]
+    numpy: list[str]
+
+
+class Row(NamedTuple):
+    """What was measured, on lanes of so many cells and cars, if on a road: nanoseconds per car and step of trlab and of
+    others, what was measured beside it, and what is wanted."""
+    what: str
+    lanes: int | str
+    cells: int | str
+    cars: int | str
+    times: dict[str, measuring.Time]
+    beside: str = ""
+    wanted: tuple[str, ...] = ()
+
+    def ratio(self, other):
+        """The time of trlab over another's, on processors."""
+        return self.times["trlab"].cpu / self.times[other].cpu
+
+    def cell(self, column):
+        match column:
+            case "what" | "lanes" | "cells" | "cars" | "beside":
+                return str(getattr(self, column))
+            case "trlab" if "trlab" in self.times:
+                return f"{self.times['trlab'].cpu:.1f}"
+            case "wall clock" if "trlab" in self.times:
+                return f"{self.times['trlab'].clock:.1f}"
+            case "wanted":
+                return ", ".join(self.wanted)
+            case other if other in self.times:
+                return f"{self.times[other].cpu:.1f} ({self.ratio(other):.2f})"
+            case _:
+                return ""
+
+
+def wish(what, is_met):
+    """What is wanted, and whether the row misses it."""
+    return what if is_met else f"{what} (missed)"
+
+
+def a_move(whole, idle, moves):
+    """The nanoseconds per car and step: a run less one of no step, over its cars times its steps."""
+    return measuring.Time(*((more - less) * 1e9 / moves for more, less in zip(whole, idle)))
+
+
+def heading(columns):
+    return [line(columns), "|" + len(columns) * "---|"]
+
+
+def line(cells):
+    return "| " + " | ".join(cells) + " |"
+
+
+def rows_of(table):
+    """The rows of a printed table, each with its cells by column."""
+    lines = [[cell.strip() for cell in text.strip().strip("|").split(" | ")] for text in table.splitlines() if text[:2] == "| "]
+    heading = next((cells for cells in lines if cells[0] == COLUMNS[0]), [])
+    return [dict(zip(heading, cells)) for cells in lines if len(cells) == len(heading) and cells[0] != COLUMNS[0]]
+
+
+def as_data(rows):
+    """All rows as tab-separated values below a heading. Times are without ratios, which they give."""
+    columns = [column for column in COLUMNS if column in rows[0]]
+    values = [[RATIO.sub("", row[column]).replace("`", "") for column in columns] for row in rows]
+    return "\n".join(map("\t".join, [columns, *values])) + "\n"
+
+
+def as_page(rows):
+    """The rows of the page in Markdown, below their heading, without columns that are empty."""
+    found = [row for wanted in ROWS_OF_PAGE for row in rows if (row["what"], int(row["cells"] or 0), int(row["cars"] or 0)) == wanted]
+    columns = [column for column in COLUMNS_OF_PAGE if any(row.get(column) for row in found)]
+    return "\n".join(heading(columns) + [line(row[column] for column in columns) for row in found]) + "\n"

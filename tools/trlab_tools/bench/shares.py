@@ -1,0 +1,148 @@
+"""Rows of work that is shared: runs by several workers, sweeps by several runners, and a sweep beside a run."""
+import filecmp
+import os
+import resource
+import statistics
+import subprocess
+from typing import NamedTuple
+
+from . import measuring
+from .rows import Row, a_move, wish
+
+SECONDS = 0.4
+MOVES = 6_000_000  # of a sweep of one point
+TRIED_MOVES = 1_000_000  # of a run whose time is not known yet
+NOBODY = 65534
+BRAKING = "nasch 536870912"
+CHANGING = "rickert 536870912 1073741824"
+# Four runs at once of a program, with one worker each, on the text in a file.
+AT_ONCE = 'for k in 1 2 3 4; do "$0" run <"$1" >"$2" & done; wait'
+
+
+class Shared(NamedTuple):
+    """A text of so many cars in all and steps of each, which a command runs by several workers or runners."""
+    what: str
+    command: str
+    who: str
+    lanes: int
+    cells: int
+    cars: int
+    steps: int
+    text: bytes
+
+    def by(self, program, count):
+        return [program, self.command, f"--{self.who}s", str(count)]
+
+    def name(self, count):
+        return f"{count} {self.who}{'s' if count > 1 else ''}"
+
+    def a_move(self, took, runs=1):
+        """The nanoseconds of a car and step in the best turn, of so many runs at once."""
+        return a_move(measuring.best(took), (0, 0), self.cars * self.steps * runs)
+
+
+def a_sweep(points, cells, steps):
+    """A sweep of points at even densities, without that of no car and that of a full road."""
+    cars = [cells * k // (points + 1) for k in range(1, points + 1)]
+    text = measuring.sweep(BRAKING, cells, cars, steps)
+    return Shared(f"sweep of {points} points, `{BRAKING}`", "sweep", "runner", 1, cells, sum(cars), steps, text)
+
+
+def a_run(rule, lanes, cells, steps):
+    """A run of three cars on ten cells, in all lanes together."""
+    each, cars = cells // lanes, cells // lanes * 3 // 10
+    pictures = [measuring.spread(each, cars, seed) for seed in range(1, lanes + 1)]
+    return Shared(f"`{rule}`", "run", "worker", lanes, each, lanes * cars, steps, measuring.job(pictures, rule, steps))
+
+
+def fitting_run(program, rule, lanes, cells, folder):
+    """A run that takes one worker about SECONDS."""
+    steps = TRIED_MOVES // (cells * 3 // 10)
+    path = measuring.write(os.path.join(folder, "trial"), a_run(rule, lanes, cells, steps).text)
+    return a_run(rule, lanes, cells, int(steps * SECONDS / measuring.timed([program, "run"], path).cpu))
+
+
+def without_threads():
+    """Has the system start no further thread for this process."""
+    if os.getuid() == 0:
+        os.setuid(NOBODY)
+    resource.setrlimit(resource.RLIMIT_NPROC, (0, 0))
+
+
+def compare_without_threads(shared, program, path, folder):
+    """Stops where the output of 16 is another where no thread is started."""
+    outputs = [os.path.join(folder, name) for name in ("threads", "none")]
+    for output, limit in zip(outputs, (None, without_threads)):
+        with open(path, "rb") as text, open(output, "wb") as out:
+            subprocess.run(shared.by(program, 16), stdin=text, stdout=out, check=True, preexec_fn=limit)
+    if not filecmp.cmp(*outputs, shallow=False):
+        raise SystemExit(f"{shared.what}: another output without threads")
+
+
+def compared(shared, program, plain, counts, folder):
+    """The text in a file, once the outputs by all counts are found to be those of plain."""
+    path = measuring.write(os.path.join(folder, "shared"), shared.text)
+    measuring.compare([plain] + [shared.by(program, count) for count in counts], path, folder)
+    compare_without_threads(shared, program, path, folder)
+    return path
+
+
+def rows_of(programs, shared, counts, bound, times, folder):
+    """The rows by so many workers or runners, the first of them one; four are to be at least so many times as fast."""
+    plain = [programs.plain] + ["sweep"] * (shared.command == "sweep")
+    path = compared(shared, programs.trlab, plain, counts, folder)
+    runs = {shared.name(count): (shared.by(programs.trlab, count), path) for count in counts}
+    runs["plain"] = plain, path
+    if shared.command == "run":
+        runs["four runs at once"] = ["sh", "-c", AT_ONCE, programs.trlab, path, os.devnull], path
+    took = measuring.turns(runs, times)
+    plain_time = shared.a_move(took.pop("plain"))
+    for name, each in took.items():
+        yield row_of(shared, name, each, took[shared.name(1)], plain_time, bound)
+
+
+def row_of(shared, name, took, alone, plain_time, bound):
+    """A row by its name. How many times as fast as one it is, is the median of the turns, by wall-clock time."""
+    runs = 4 if name == "four runs at once" else 1
+    row = Row(f"{shared.what}, {name}", shared.lanes, shared.cells, shared.cars, {"trlab": shared.a_move(took, runs)})
+    if took is alone:
+        return row._replace(times={**row.times, "plain": plain_time})
+    faster = statistics.median(runs * one.clock / each.clock for one, each in zip(alone, took))
+    row = row._replace(beside=f"{faster:.2f} times as fast as one")
+    if bound is None or name != shared.name(4):
+        return row
+    return row._replace(wanted=(wish(f"at least {bound} times", faster >= bound),))
+
+
+def sweep_over_run(programs, cells, cars, bound, times, folder):
+    """The row of a sweep of one road beside a run of it, by time on processors."""
+    steps, runs = MOVES // cars, {}
+    for count in (steps, 0):
+        path = measuring.write(os.path.join(folder, f"run {count}"), measuring.job(measuring.even(cells, cars), BRAKING, count))
+        runs[f"run {count}"] = [programs.trlab, "run"], path
+        measuring.compare([[programs.plain], [programs.trlab, "run"]], path, folder)
+    for count in (steps + 1, 1):
+        path = measuring.write(os.path.join(folder, f"sweep {count}"), measuring.sweep(BRAKING, cells, [cars], count))
+        runs[f"sweep {count}"] = [programs.trlab, "sweep"], path
+        measuring.compare([[programs.plain, "sweep"], [programs.trlab, "sweep"]], path, folder)
+    ran, started, swept, stepped = measuring.best_of(runs, times).values()
+    one, other = a_move(swept, stepped, cars * steps), a_move(ran, started, cars * steps)
+    row = Row(f"sweep of one point, `{BRAKING}`", 1, cells, cars, {"trlab": one})
+    ratio = one.cpu / other.cpu
+    wanted = (wish(f"a run at most {bound}", ratio <= bound),)
+    return row._replace(beside=f"a run {other.cpu:.1f} ({ratio:.2f})", wanted=wanted)
+
+
+def rows(programs, is_quick, folder):
+    """All rows of work that is shared; the quick ones are those of which something is wanted."""
+    times, counts = (3, [1, 4]) if is_quick else (7, [1, 2, 4])
+    for cells, cars, bound in (100, 30, 1.1), (1000, 300, 1.03):
+        yield sweep_over_run(programs, cells, cars, bound, times, folder)
+    for points, cells, steps, bound in (16, 200, 10000, 3), (7, 1000, 10000, 3), (16, 10000, 200, None):
+        if bound or not is_quick:
+            yield from rows_of(programs, a_sweep(points, cells, steps), counts, bound, times, folder)
+    for rule, lanes in (BRAKING, 1), (CHANGING, 2):
+        for cells, bound in (100000, 2.9), (1000, None):
+            if bound or not is_quick:
+                run = fitting_run(programs.trlab, rule, lanes, cells, folder)
+                yield from rows_of(programs, run, counts, bound, times, folder)

@@ -1,0 +1,68 @@
+"""Rows of a program that waits: its threads should sleep."""
+import os
+import subprocess
+import time
+
+from . import measuring
+from .rows import Row, wish
+
+SECONDS = 1.0
+COUNTS = 1, 4
+CELLS, CARS = 100_000, 30_000
+SWITCHES = "voluntary_ctxt_switches:", "nonvoluntary_ctxt_switches:"
+
+
+def switches_of(pid):
+    """How often each thread of a process was put on or off a processor."""
+    found = {}
+    for thread in os.listdir(f"/proc/{pid}/task"):
+        with open(f"/proc/{pid}/task/{thread}/status") as status:
+            words = [line.split() for line in status]
+        found[thread] = sum(int(word[1]) for word in words if word[0] in SWITCHES)
+    return found
+
+
+def settled(program, seconds):
+    """Waits a little, then returns the context switches of a process in so many seconds, and its threads."""
+    time.sleep(0.3)
+    before = switches_of(program.pid)
+    time.sleep(seconds)
+    after = switches_of(program.pid)
+    return sum(after.values()) - sum(before.values()), len(after)
+
+
+def without_input(command):
+    """A process that waits for the last line of its text."""
+    program = subprocess.Popen(command, stdin=subprocess.PIPE, stdout=subprocess.DEVNULL)
+    text = measuring.job([measuring.spread(CELLS, CARS)], "nasch 536870912", 1)
+    program.stdin.write(text[:-2])
+    program.stdin.flush()
+    return program
+
+
+def without_reader(command):
+    """A process whose output nobody reads."""
+    program = subprocess.Popen(command, stdin=subprocess.PIPE, stdout=subprocess.PIPE)
+    program.stdin.write(measuring.job([measuring.spread(CELLS, CARS)], "nasch 536870912", 100))
+    program.stdin.close()
+    return program
+
+
+def row_of(programs, what, start, count):
+    """The row of a process that waits for a second, with so many workers."""
+    program = start([programs.trlab, "run", "--workers", str(count)])
+    try:
+        switches, threads = settled(program, SECONDS)
+    finally:
+        program.kill()
+        program.wait()
+    row = Row(f"waiting for {what}, {count} worker{'s' if count > 1 else ''}", "", "", "", {})
+    beside = f"{switches} context switches in {SECONDS:.0f} s, {threads} thread{'s' if threads > 1 else ''}"
+    return row._replace(beside=beside, wanted=(wish("no context switches", switches == 0),))
+
+
+def rows(programs, is_quick, folder):
+    """All rows of a program that waits."""
+    for what, start in ("its input", without_input), ("its reader", without_reader):
+        for count in COUNTS:
+            yield row_of(programs, what, start, count)

@@ -1,0 +1,133 @@
+"""The cases of the files cases/*.cases: command lines, their input, and how they have to end. cases/README.md describes the
+format."""
+import re
+from collections.abc import Iterator
+from typing import NamedTuple, Optional
+
+from . import TOP
+
+ESCAPES = {"s": " ", "t": "\t", "r": "\r", "0": "\0", "\\": "\\"}
+SIXTEEN = {"run": "--workers 16", "sweep": "--runners 16 --workers 16"}
+EXPLAINED = ("explain", "explain run", "explain sweep", "explain check")
+NUMBERED = ("explain cause", "explain reason")
+
+
+class Broken(Exception):
+    """A line does not belong in a case file, or not at its place."""
+
+
+class Part(NamedTuple):
+    """Words at the left of a file, the number of their line, and the text beside them, or None without text."""
+
+    words: str
+    line: int
+    text: Optional[str]
+
+
+class Case(NamedTuple):
+    """A case: its place, its command lines, and for each of them the same input, exit status and output."""
+
+    name: str
+    calls: list[list[str]]
+    given: bytes
+    status: int
+    output: bytes
+    # How much of the output the case has: "all", its "first lines", or "nothing".
+    extent: str
+
+    def is_met(self, status, output):
+        is_output = {"all": output == self.output, "first lines": output.startswith(self.output), "nothing": True}
+        return status == self.status and is_output[self.extent]
+
+
+def line_of(text, number):
+    """A line of a part, the one with this number among repeated lines; None if it is malformed."""
+    if not re.fullmatch(r"([^\\]|\\[strk0\\])*\\?", text):
+        return None
+    written = re.sub(r"\\(.)", lambda it: str(number) if it[1] == "k" else ESCAPES[it[1]], text)
+    return written[:-1] if re.search(r"(?<!\\)(\\\\)*\\$", text) else written + "\n"
+
+
+def lines_of(text, count):
+    """A line of a part, repeated; the copies differ only if they contain their number."""
+    lines = [line_of(text, number) for number in (range(count) if "\\k" in text else [0])]
+    return None if None in lines else "".join(lines) * (1 if "\\k" in text else count)
+
+
+def parts_of(content):
+    """The parts of a file. A title is a part without text."""
+    parts = []
+    for number, line in enumerate(content.split("\n"), 1):
+        if not line or line.startswith("#"):
+            continue
+        words, bar, text = line.partition("|")
+        words, text = words.strip() if bar else line, text.removeprefix(" ")
+        if words and not words.isdigit():
+            parts.append(Part(words, number, None))
+        if bar:
+            more = lines_of(text, int(words) if words.isdigit() else 1)
+            if not parts or more is None:
+                raise Broken(f"line {number}")
+            parts[-1] = parts[-1]._replace(text=(parts[-1].text or "") + more)
+    return parts
+
+
+def calls_of(part, front):
+    """The command lines of a part and their input; None if its words are not a command."""
+    words, text = part.words, part.text or ""
+    if words == "words":
+        return [line.split() for line in text.split("\n")[:-1]], front
+    if words in SIXTEEN:
+        return [[words], [words, *SIXTEEN[words].split()]], front + text
+    if words == "check" or words in EXPLAINED:
+        return [words.split()], front + text
+    if words in NUMBERED:
+        return [[*words.split(), text.strip()]], ""
+    return None
+
+
+def wanted_by(part):
+    """The status, the output and its extent that a part requires; None if it is not an answer."""
+    if part.words == "status" and (part.text or "").strip().isdigit():
+        return int(part.text), b"", "nothing"
+    ends = {"done": (0, "all"), "refused": (1, "all"), "begins": (0, "first lines")}
+    if part.words not in ends or part.text is None:
+        return None
+    status, extent = ends[part.words]
+    return status, part.text.encode(), extent
+
+
+def cases_of(name, content):
+    """The cases of a file. Its parts are titles, fronts, and commands, each followed by the expected answer."""
+    title, front, command = "", "", None
+    for part in parts_of(content):
+        if command:
+            wanted = wanted_by(part)
+            line, (calls, given) = command
+            if not wanted or not calls:
+                raise Broken(f"line {part.line}")
+            yield Case(f"{name}, line {line}, {title}", calls, given.encode(), *wanted)
+            command = None
+        elif part.words.startswith("== ") and not part.text:
+            title = part.words[3:]
+        elif part.words == "front":
+            front = part.text or ""
+        elif found := calls_of(part, front):
+            command = part.line, found
+        else:
+            raise Broken(f"line {part.line}")
+    if command:
+        raise Broken(f"line {command[0]}")
+
+
+def files() -> Iterator[tuple[str, str]]:
+    """The names and the contents of the case files."""
+    for path in sorted((TOP / "cases").glob("*.cases")):
+        yield path.name, path.read_bytes().decode()
+
+
+def texts():
+    """The name, the first command line and the input of each case."""
+    for name, content in files():
+        for case in cases_of(name, content):
+            yield case.name, case.calls[0], case.given

@@ -1,0 +1,65 @@
+"""Does docs/dev/CALLS.md name functions that exist, each called by the one above it? A row of its blocks has a function, two
+spaces further in than its caller; then, after at least two spaces, its crate if that is not the caller's; and a remark."""
+import collections
+import glob
+import os
+import re
+from typing import NamedTuple
+
+from .. import TOP
+from ..proofs.functions import functions_in
+
+PAGE = "docs/dev/CALLS.md"
+ROW = re.compile(r"( *)([\w:]+)(?: {2,}(trlab_\w+))?(?: {2,}\S.*)?")
+BLOCK = re.compile(r"```text\n(.*?)```", re.S)
+
+
+class Row(NamedTuple):
+    depth: int
+    name: str
+    crate: str
+
+
+def bodies():
+    """The bodies of all functions by their crate and their names; several methods of a trait may have one name."""
+    found = collections.defaultdict(list)
+    crates = os.path.join(TOP, "crates")
+    for path in glob.glob(os.path.join(crates, "*", "src", "**", "*.rt"), recursive=True):
+        crate, _, file = os.path.relpath(path, crates).partition(os.sep)
+        with open(path, encoding="utf-8") as it:
+            text = it.read()
+        for function in functions_in(file, text):
+            found[crate, function.name].append((function.owner, text[function.body:function.end]))
+    return found
+
+
+def bodies_of(row, every):
+    """The bodies of the function of a row. A method of a trait is named by its type, or by its trait."""
+    owner, _, name = row.name.rpartition("::")
+    return [body for other, body in every[row.crate, name] if other == owner or owner and other.startswith(owner)]
+
+
+def rows(block):
+    """The rows of a block, each with the row of its caller, or with None."""
+    above = []
+    for line in block.splitlines():
+        found = ROW.fullmatch(line)
+        if not found or len(found[1]) % 2 or len(found[1]) // 2 > len(above):
+            yield Row(0, line, ""), None
+            continue
+        del above[len(found[1]) // 2:]
+        caller = above[-1] if above else None
+        above.append(Row(len(above), found[2], found[3] or (caller.crate if caller else "")))
+        yield above[-1], caller
+
+
+def verdicts():
+    with open(os.path.join(TOP, PAGE), encoding="utf-8") as file:
+        blocks = BLOCK.findall(file.read())
+    every = bodies()
+    for row, caller in (pair for block in blocks for pair in rows(block)):
+        yield bool(bodies_of(row, every)), f"{PAGE}: {row.crate or 'no crate'} has no function {row.name}"
+        if caller:
+            call = re.compile(rf"\b{row.name.rpartition('::')[2]}(?:::<[^;]*?>)?\(")
+            is_called = any(call.search(body) for body in bodies_of(caller, every))
+            yield is_called, f"{PAGE}: {caller.name} does not call {row.name}"

@@ -1,0 +1,61 @@
+"""Is the English of messages and pages plain? Help texts, explanations, the messages of ./trlab, the docstrings of the
+Python package, the pages for users and those with a word limit may use few of the words that often replace a noun or a
+condition."""
+import ast
+import os
+import re
+
+from .. import TOP
+from .standing import MAX_WORDS
+
+STAND_INS = re.compile(r"\b(?:what|whoever|alone|told|stands?|where)\b", re.I)
+MAX_STAND_INS = 5  # per 1000 words
+COMMENT = re.compile(r"//[^\n]*")
+LITERAL = re.compile(r'"((?:[^"\\]|\\.)*)"', re.S)
+MESSAGE = re.compile(r'\b(?:say|fail|echo) "([^"]*)"')
+DOCUMENTED = ast.Module, ast.ClassDef, ast.FunctionDef
+GUIDES = "README TUTORIAL CHEATSHEET FAQ PROGRAMS PYTHON STUDIES LAWS LAWS_BY_EXAMPLE LAB ERRORS SPEED".split()
+FOLDERS = "cases examples node studies studies/1992 studies/1996 studies/1998 studies/exact studies/paper studies/triangle".split()
+PAGES = ["README.md", *(f"docs/{name}.md" for name in GUIDES), *(f"{name}/README.md" for name in FOLDERS)]
+# Blocks, code, links, and headings, which may be questions.
+NO_PROSE = re.compile(r"^```.*?^```$|`[^`]*`|\]\([^)]*\)|^#[^\n]*$", re.M | re.S)
+
+
+def files_below(folder, ending):
+    """The files of a folder and of the folders below it that end so."""
+    for path, _, names in sorted(os.walk(os.path.join(TOP, folder))):
+        yield from (os.path.join(path, name) for name in sorted(names) if name.endswith(ending))
+
+
+def content(path):
+    with open(os.path.join(TOP, path), encoding="utf-8") as file:
+        return file.read()
+
+
+def literals(path):
+    """The strings of a source."""
+    return " ".join(LITERAL.findall(COMMENT.sub("", content(path))))
+
+
+def docstrings(path):
+    """The docstrings of a Python file."""
+    found = (ast.get_docstring(node) for node in ast.walk(ast.parse(content(path))) if isinstance(node, DOCUMENTED))
+    return " ".join(text for text in found if text)
+
+
+def texts():
+    """Each text that users read, by its name."""
+    yield "the help texts", literals("crates/trlab_command_line/src/help.rt")
+    sources = [*files_below("crates/trlab_messages/src", ".rt"), *files_below("crates/trlab_explain/src", ".rt")]
+    yield "the explanations", " ".join(map(literals, sources))
+    yield "the docstrings of python/trlab", " ".join(map(docstrings, files_below("python/trlab", ".py")))
+    yield "the messages of ./trlab", " ".join(MESSAGE.findall(content("trlab")))
+    for page in sorted({*PAGES, *MAX_WORDS}):
+        yield page, NO_PROSE.sub(" ", content(page))
+
+
+def verdicts():
+    """For each text whether it has few of these words, and how many it has."""
+    for name, text in texts():
+        share = 1000 * len(STAND_INS.findall(text)) / len(text.split())
+        yield share <= MAX_STAND_INS, f"{name}: {share:.1f} of 1000 words are what, whoever, alone, told, stand or where"

@@ -1,0 +1,120 @@
+"""Are the sources in plain English, and does each name mean one thing? The prose of sources, scripts, tests and proofs (see
+remarks.py) may use few of the words that often replace a noun or a condition, and none of the words in DIALECT. A type of
+the crates has a name that no other type has, and so has a definition of specs/, except for the names in TWICE."""
+import collections
+import contextlib
+import os
+import re
+
+from .. import TOP
+from .plain import STAND_INS, content, files_below
+from .remarks import remarks
+from .standing import known_files
+
+CODE = re.compile(r"`[^`]*`")
+EXAMPLE = re.compile(r"^ *//[/!] ```(?:text)?\n(.*?)^ *//[/!] ```$", re.M | re.S)
+DOC_MARK = re.compile(r"^ *//[/!]", re.M)
+REMARK = re.compile(r"//.*$", re.M)
+# Each of these words hides a noun, a verb or a condition.
+DIALECT = re.compile(
+    r"\b(?:so many|so much|go(?:es)? by|tells?|told|stands?|alone|hand(?:s|ed)? (?:on|back)|whoever|in vain|by the clock|anew|"
+    r"mends?|where an? \w+ (?:fails|was refused)|in place of)\b",
+    re.I,
+)
+# In the crates this is called a failed allocation.
+OUT_OF_MEMORY = re.compile(r"\bmemory (?:ran|runs) out\b", re.I)
+TYPE = re.compile(r"^\s*(?:pub(?:\([a-z]+\))? )?(?:struct|enum|trait) (\w+)", re.M)
+DEFINITION = re.compile(r"^(?:(?:abbrev|unfoldable|opaque) )*pub (?:record |data )?(\w+)(?= |$)", re.M)
+NO_DEFINITION = {"mod", "use", "record", "data"}
+# Stand-ins per 1000 words of prose in sources; pages may have MAX_STAND_INS.
+MAX_IN_SOURCES = 2
+# Names that still mean two things. Rename one and take it out; add none.
+TWICE = {"Rejection"}
+
+
+def crate_of(path):
+    return os.path.relpath(path, os.path.join(TOP, "crates")).split(os.sep)[0]
+
+
+def sources(folder, ending):
+    """The sources below src/ or specs/ of all crates."""
+    return [path for path in files_below("crates", ending) if f"{os.sep}{folder}{os.sep}" in path and "/out/" not in path]
+
+
+def area_of(name):
+    """The crate of a file; otherwise its folder at the top, or the one below python/."""
+    first, *rest = name.split("/")
+    if first == "crates" and rest:
+        return rest[0]
+    return f"python/{rest[0]}" if first == "python" and len(rest) > 1 else first
+
+
+def prose_by_area():
+    """The prose of each area: places and words."""
+    found = collections.defaultdict(list)
+    for name in known_files():
+        with contextlib.suppress(UnicodeDecodeError):
+            for line, words in remarks(name, content(name)):
+                found[area_of(name)].append((f"{name}:{line}", CODE.sub(" ", words)))
+    return found
+
+
+def places(pattern, prose):
+    """The first places with these words, for a message."""
+    found = [f"{words[0]} ({place})" for place, text in prose if (words := pattern.search(text))]
+    return ", ".join(found[:3])
+
+
+def prose_is_plain():
+    for area, prose in sorted(prose_by_area().items()):
+        text = "\n".join(words for _, words in prose)
+        share = 1000 * len(STAND_INS.findall(text)) / max(1, len(text.split()))
+        is_plain = share <= MAX_IN_SOURCES
+        yield is_plain, f"{area}: {share:.1f} of 1000 words are like {'' if is_plain else places(STAND_INS, prose)}"
+        for pattern in (DIALECT, OUT_OF_MEMORY) if area.startswith("trlab_") else (DIALECT,):
+            is_free = not pattern.search(text)
+            yield is_free, f"{area} has words like {'' if is_free else places(pattern, prose)}"
+
+
+def names_are_of_one_thing():
+    for kind, folder, ending, pattern in (("type", "src", ".rt", TYPE), ("definition", "specs", ".antt", DEFINITION)):
+        found = collections.defaultdict(set)
+        for path in sources(folder, ending):
+            for name in pattern.findall(content(path)):
+                found[name].add(os.path.relpath(path, os.path.join(TOP, "crates")))
+        twice = {name: sorted(paths) for name, paths in found.items() if len(paths) > 1}
+        new = {name: paths for name, paths in twice.items() if name not in NO_DEFINITION | TWICE}
+        yield not new, f"{kind}s of one name: {new}"
+
+
+def without_layout(code):
+    """Code without remarks and spaces, so that it does not matter how it is divided into lines."""
+    return re.sub(r",(?=[)\]}])", "", re.sub(r"\s", "", REMARK.sub("", code)))
+
+
+def has_in_order(code, lines):
+    at = 0
+    for line in lines:
+        at = code.find(line, at) + len(line)
+        if at < len(line):
+            return False
+    return True
+
+
+def examples_are_compiled():
+    files = sources("src", ".rt")
+    compiled = [(crate_of(path), without_layout(content(path))) for path in files]
+    for path in files:
+        crate, name, examples = crate_of(path), os.path.relpath(path, TOP), EXAMPLE.findall(content(path))
+        if path.endswith("src/lib.rt") and not crate.endswith("_tests"):
+            yield bool(examples), f"{name} begins with an example"
+        for example in examples:
+            lines = [without_layout(line) for line in DOC_MARK.sub("", example).splitlines()]
+            found = any(other != crate and has_in_order(code, lines) for other, code in compiled)
+            yield found, f"the example of {name} is compiled in another crate: {lines[0]}"
+
+
+def verdicts():
+    yield from prose_is_plain()
+    yield from examples_are_compiled()
+    yield from names_are_of_one_thing()

@@ -1,0 +1,354 @@
+"""What documents say of each other and of the sources: numbers of decisions, links, versions, crates, files, names,
+clauses, sources that are shown, a figure; and how they are written: short lines, in the English of today.
+
+Each function yields verdicts, each with a message in case it is False."""
+import contextlib
+import functools
+import os
+import re
+import subprocess
+
+from .. import TOP
+
+ARCHITECTURE = "docs/dev/ARCHITECTURE.md"
+MAPS = ARCHITECTURE, "docs/dev/EXTENDING.md"
+DECISIONS = "docs/dev/DECISIONS.md"
+# It uses the names that crates had at the time.
+OF_OLD = "CHANGELOG.md"
+MAX_WORDS_OF_A_DECISION = 60
+# Pages grow with every change, and each sentence seems useful. A page at its limit needs a cut before an addition.
+MAX_WORDS = {
+    "CHANGELOG.md": 1500,
+    "CONTRIBUTING.md": 1600,
+    "README.md": 1400,
+    "docs/CHEATSHEET.md": 670,
+    "docs/ERRORS.md": 2130,
+    "docs/FAQ.md": 900,
+    "docs/FILES.md": 2230,
+    "docs/GLOSSARY.md": 830,
+    "docs/LAB.md": 1900,
+    "docs/LAWS.md": 3850,
+    "docs/LAWS_BY_EXAMPLE.md": 4000,
+    "docs/PROGRAMS.md": 2950,
+    "docs/PYTHON.md": 11100,
+    "docs/README.md": 260,
+    "docs/RELIABILITY.md": 1680,
+    "docs/SPEED.md": 430,
+    "docs/STUDIES.md": 3120,
+    "docs/TUTORIAL.md": 1240,
+    "docs/VERIFIER.md": 870,
+    "docs/dev/ARCHITECTURE.md": 2450,
+    "docs/dev/CALLS.md": 800,
+    "docs/dev/BOOK.md": 1290,
+    "docs/dev/DECISIONS.md": 3120,
+    "docs/dev/EMBEDDING.md": 690,
+    "docs/dev/EXTENDING.md": 1250,
+    "docs/dev/GLOSSARY.md": 980,
+    "docs/dev/GUARANTEES.md": 4970,
+    "docs/dev/README.md": 110,
+}
+MAX_CHARACTERS = 110
+# A paragraph is indented by a list in a list at most.
+MAX_INDENTED = 5
+# The part of a page that a script writes.
+WRITTEN_BY_A_SCRIPT = re.compile(r"<!-- .*? -->.*?<!-- end -->", re.S)
+# A row of a table, a figure or a comment is one line.
+ONE_LINE = re.compile(r" *(?:\||!\[|<!--|<img )")
+OLD_FORMS = re.compile(
+    r"\b(?:want of|front of a|in vain|dearer|dearest|(?<!there )(?:is|are|was|were) none(?! of)|but for|so it is with|"
+    r"upon|whence|hence|thereof|hereby|shall)\b"
+)
+# In DECISIONS.md a decision is cited as (12) or (12, 14); elsewhere after the name of the file.
+CITED_AT_HOME = re.compile(r"\((\d{1,3}(?:,\s+\d{1,3})*)\)")
+CITED_ELSEWHERE = re.compile(r"DECISIONS\.md\)?,?\s+((?:\d{1,3}(?:,\s+|\s+and\s+|\s+to\s+)?)+)")
+DECISION = re.compile(r"^\*\*(\d+)\. (.*?)(?=\n\n|\n*\Z)", re.M | re.S)
+# A viewer of the page would renumber the items of a list.
+DECISION_IN_A_LIST = re.compile(r"^(\d+)\. \*\*", re.M)
+LAYER = re.compile(r"^# (.*)\n((?:trlab_\w+:.*\n)+)", re.M)
+CRATE = re.compile(r"`(trlab_\w+)(/[\w./]+)?`")
+FILE = re.compile(r"`((?:\w+/)*\w+\.(?:rt|antt))`")
+QUOTED = re.compile(r"`([^`]*)`")
+# Code alone, no file, text or command.
+CODE = re.compile(r"[\w:.<>,&()?]+(?: \w+)*")
+NAME = re.compile(r"\b(?:[A-Z][a-z]\w*|[A-Za-z]\w*_\w*)")
+# Names that documents speak of, and no source uses.
+NOT_USED = {"ord_max"}
+FENCED = re.compile(r"^```.*?^```$", re.M | re.S)
+LINK = re.compile(r"\]\(([^)\s]+)\)")
+# A function that a document names, and the clauses that it names right after it.
+CITED_CLAUSES = re.compile(r"`(?:\w+::)?([a-z]\w*)`(?: \(`trlab_\w+`\))?,? \(?clauses? ((?:`\w+`(?:, | and )?)+)")
+# Records that a document names with fields: "`IsDriven`, fields `start` and `legal`", "field `calls` of `IsCleanStep`".
+LISTED = r"((?:`\w+`(?:, | and )?)+)"
+CITED_FIELDS = re.compile(rf"((?:`[A-Z]\w*`(?: and )?)+)(?: \(`trlab_\w+`\))?[,:] fields? {LISTED}")
+FIELDS_OF = re.compile(rf"\bfields? {LISTED} of (`[A-Z]\w*`)")
+RECORD = re.compile(r"^pub record (\w+)(.*?)(?=^\S|\Z)", re.M | re.S)
+CONTRACT = re.compile(r"\bfn (\w+)(.*?)(?=\n *\{\n|\bfn |\Z)", re.S)
+SHOWN = re.compile(r"^`(crates/[^`]+)`:\n\n```\w*\n(.*?)^```$", re.M | re.S)
+
+
+@functools.cache
+def content(name):
+    with open(os.path.join(TOP, name), encoding="utf-8") as file:
+        return file.read()
+
+
+def known_files():
+    """The files that git knows or would take; all of them where this is no clone."""
+    words = ["git", "ls-files", "-z", "--cached", "--others", "--exclude-standard"]
+    told = subprocess.run(words, cwd=TOP, capture_output=True, text=True)
+    if told.returncode == 0:
+        return [name for name in told.stdout.split("\0") if os.path.isfile(os.path.join(TOP, name))]
+    return [
+        os.path.relpath(os.path.join(folder, name), TOP)
+        for folder, _, names in os.walk(TOP) if "/out" not in folder for name in names
+    ]
+
+
+def documents():
+    return [name for name in known_files() if name.endswith(".md")]
+
+
+def decisions():
+    """The number of each decision and its text, in the order of the page."""
+    return [(int(number), text) for number, text in DECISION.findall(content(DECISIONS))]
+
+
+def decisions_are_short():
+    """Each number is of one decision, and each decision is short. Numbers are permanent, so some are missing."""
+    numbers = [number for number, _ in decisions()]
+    for number, text in decisions():
+        is_short = len(text.split()) <= MAX_WORDS_OF_A_DECISION
+        wrong = f"decision {number} is there twice, or has more than {MAX_WORDS_OF_A_DECISION} words"
+        yield numbers.count(number) == 1 and is_short, wrong
+    for number in DECISION_IN_A_LIST.findall(content(DECISIONS)):
+        yield False, f"{DECISIONS} has decision {number} as an item of a list; begin it with **{number}. "
+
+
+def form_of_citations(name):
+    """How a file cites decisions: the numbers are the first group."""
+    return CITED_AT_HOME if name == DECISIONS else CITED_ELSEWHERE
+
+
+def citations(name):
+    """The numbers of decisions that a file cites."""
+    for cited in form_of_citations(name).findall(content(name)):
+        yield from map(int, re.findall(r"\d+", cited))
+
+
+def citations_exist():
+    """Each decision that a document, a source or a script cites is there."""
+    there = dict(decisions())
+    for name in known_files():
+        try:
+            cited = set(citations(name))
+        except UnicodeDecodeError:
+            continue
+        for number in sorted(cited):
+            yield number in there, f"{name} cites decision {number}, which is not there"
+
+
+def anchor(heading):
+    """The anchor of a heading, as browsers of repositories make it."""
+    words = re.sub(r"[^\w\- ]", "", heading.strip().lower())
+    return words.replace(" ", "-")
+
+
+def links_lead_somewhere():
+    """Each link of a document to a file, or to a heading, leads there."""
+    for name in documents():
+        for link in LINK.findall(FENCED.sub("", content(name))):
+            if re.match(r"[a-z]+:", link):
+                continue
+            path, _, heading = link.partition("#")
+            target = os.path.normpath(os.path.join(os.path.dirname(name), path)) if path else name
+            is_there = os.path.exists(os.path.join(TOP, target))
+            if is_there and heading:
+                headings = re.findall(r"^#+ (.*)$", FENCED.sub("", content(target)), re.M)
+                is_there = heading in map(anchor, headings)
+            yield is_there, f"{name} has a link to {link}, which leads nowhere"
+
+
+def versions_agree():
+    """The version that the program tells is that of the Python module and of the newest changes."""
+    told = re.search(r'VERSION: &str = "(\S+)', content("crates/trlab_command_line/src/help.rt"))[1]
+    module = re.search(r'^__version__ = "(.*)"$', content("python/trlab/_version.py"), re.M)[1]
+    changes = re.search(r"^## (\d\S*)", content("CHANGELOG.md"), re.M)[1]
+    yield module == told, f"python/trlab/_version.py has version {module}, the program {told}"
+    yield changes == told, f"CHANGELOG.md has version {changes}, the program {told}"
+
+
+def sources_are_shown_as_they_are():
+    """A block after the name of a file of crates/ is that file."""
+    for name in documents():
+        for path, shown in SHOWN.findall(content(name)):
+            is_same = os.path.exists(os.path.join(TOP, path)) and content(path) == shown
+            yield is_same, f"{name} shows {path} otherwise than it is"
+
+
+def layers_agree():
+    """Each layer of crates.txt is a table of the map of crates, with the same crates in the same order."""
+    for heading, crates in LAYER.findall(content("crates.txt")):
+        table = re.search(rf"^### {re.escape(heading)}$(.*?)^#", content(ARCHITECTURE), re.M | re.S)
+        told = re.findall(r"^\| `(trlab_\w+)`", table[1], re.M) if table else []
+        wrong = f"{ARCHITECTURE} has other crates in the layer {heading!r} than crates.txt"
+        yield told == re.findall(r"^\w+", crates, re.M), wrong
+
+
+def crates_are_there():
+    """Each crate that a document names is there, and so is each of its files that is named with it."""
+    for name in documents():
+        if name != OF_OLD:
+            for crate, path in sorted(set(CRATE.findall(content(name)))):
+                is_there = os.path.exists(os.path.join(TOP, "crates", crate + path))
+                yield is_there, f"{name} names {crate}{path}, which is not there"
+
+
+def files_of_maps_are_there():
+    """So is each file of the maps of crates: `src/run.rt` is of the crate that its section named last, `run.rt` is beside
+    the file named last."""
+    for document in MAPS:
+        for section in re.split(r"^#+ ", content(document), flags=re.M):
+            for path in files_of(section):
+                is_there = os.path.exists(os.path.join(TOP, "crates", path))
+                yield is_there, f"{document} names {path}, which is not there"
+
+
+def files_of(section):
+    """The files of crates that a section of a map names."""
+    crate, folder = "", ""
+    for named in re.findall(r"`([\w./]+)`", section):
+        if begun := re.match(r"trlab_\w+", named):
+            crate = begun[0]
+        if not (crate and FILE.fullmatch(f"`{named}`")):
+            continue
+        if re.match(r"src/|specs/|proofs/", named):
+            folder, named = os.path.join(crate, os.path.dirname(named)), os.path.basename(named)
+        elif begun:
+            folder, named = os.path.split(named)
+        yield os.path.join(folder, named)
+
+
+def figure_is_of_the_table():
+    """The figure of speeds is what the script draws of the table."""
+    words = ["awk", "-f", "docs/speed.awk", "docs/speed.tsv"]
+    drawn = subprocess.run(words, cwd=TOP, capture_output=True, text=True).stdout
+    yield drawn == content("docs/speed.svg"), "docs/speed.svg is not the figure of the table in docs/speed.tsv"
+
+
+@functools.cache
+def words_of_sources():
+    """Every word of a file that is no document, and of its path."""
+    words = set()
+    for name in known_files():
+        if not name.endswith(".md"):
+            words.update(re.findall(r"\w+", name))
+            with contextlib.suppress(UnicodeDecodeError):
+                words.update(re.findall(r"\w+", content(name)))
+    return words
+
+
+def names_are_there():
+    """Each name of code that a document cites, as `IsNext` or `take_step`, stands in some source."""
+    for document in documents():
+        if document != OF_OLD:
+            cited = filter(CODE.fullmatch, QUOTED.findall(FENCED.sub("", content(document))))
+            for name in sorted({name for code in cited for name in NAME.findall(code)} - NOT_USED):
+                yield name in words_of_sources(), f"{document} names `{name}`, which stands in no source"
+
+
+@functools.cache
+def clauses():
+    """The clauses of the functions of a name, in all crates."""
+    found = {}
+    for name in known_files():
+        if name.endswith(".rt"):
+            for function, contract in CONTRACT.findall(content(name)):
+                found.setdefault(function, set()).update(re.findall(r"\bensures (\w+)", contract))
+    return found
+
+
+def clauses_are_there():
+    """Each clause that a document names after a function is one of it."""
+    for document in documents():
+        if document != OF_OLD:
+            for function, cited in CITED_CLAUSES.findall(re.sub(r"\s+", " ", content(document))):
+                for clause in QUOTED.findall(cited):
+                    is_there = clause in clauses().get(function, ())
+                    yield is_there, f"{document} names the clause `{clause}` of `{function}`, which is not there"
+
+
+@functools.cache
+def fields():
+    """The fields of the records of a name, in all definitions."""
+    found = {}
+    for name in known_files():
+        if name.endswith(".antt"):
+            for record, body in RECORD.findall(content(name)):
+                found.setdefault(record, set()).update(re.findall(r"^  pub (\w+) :", body, re.M))
+    return found
+
+
+def fields_are_there():
+    """Each field that a document names with one or two records is one of them."""
+    for document in documents():
+        if document != OF_OLD:
+            text = re.sub(r"\s+", " ", content(document))
+            cited = CITED_FIELDS.findall(text) + [(record, listed) for listed, record in FIELDS_OF.findall(text)]
+            for records, listed in cited:
+                there = set().union(*(fields().get(record, ()) for record in QUOTED.findall(records)))
+                for field in QUOTED.findall(listed):
+                    yield field in there, f"{document} names the field `{field}` of {records}, which is not there"
+
+
+def pages_are_short():
+    """Each page keeps to its word limit. Bars of tables count, as for `wc -w`; a table that a script writes does not."""
+    for page, most in MAX_WORDS.items():
+        words = len(WRITTEN_BY_A_SCRIPT.sub("", content(page)).split())
+        yield words <= most, f"{page} has {words} words, and may have {most} at most"
+
+
+def prose(name):
+    """The lines of text of a document, no block and no table, by their numbers."""
+    is_fenced = False
+    for number, line in enumerate(content(name).split("\n"), 1):
+        is_fence = line.lstrip().startswith("```")
+        if not (is_fenced or is_fence or ONE_LINE.match(line)):
+            yield number, line
+        is_fenced ^= is_fence
+
+
+def is_wide(line):
+    return len(line) > MAX_CHARACTERS or len(line) - len(line.lstrip()) > MAX_INDENTED
+
+
+def lines_are_short():
+    for name in documents():
+        wide = [number for number, line in prose(name) if is_wide(line)]
+        yield not wide, f"{name}, lines {wide}: over {MAX_CHARACTERS} characters, or indented by over {MAX_INDENTED}"
+
+
+def english_is_of_today():
+    for name in documents():
+        old = {number: found[0] for number, line in prose(name) if (found := OLD_FORMS.search(line))}
+        yield not old, f"{name} has old English, by lines: {old}"
+
+
+def verdicts():
+    for tried in (
+        decisions_are_short,
+        citations_exist,
+        links_lead_somewhere,
+        versions_agree,
+        sources_are_shown_as_they_are,
+        layers_agree,
+        crates_are_there,
+        files_of_maps_are_there,
+        names_are_there,
+        clauses_are_there,
+        fields_are_there,
+        figure_is_of_the_table,
+        pages_are_short,
+        lines_are_short,
+        english_is_of_today,
+    ):
+        yield from tried()

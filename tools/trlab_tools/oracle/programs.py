@@ -1,0 +1,221 @@
+"""A second assembler: driver programs are read from lines and from bytes, and written in their canonical form.
+
+It is written from docs/PROGRAMS.md and docs/FILES.md and not from the proved program, so that the two can be compared. A
+program is a list of instructions. An instruction is its name and the tuple of its operands, which are numbers; that of a
+label is the number of its instruction."""
+import re
+
+MAX_INSTRUCTIONS = 128
+CERTAIN = 2147483648  # the probability 1
+GREATEST = 4294967295
+MAGIC = bytes.fromhex("54524c42")
+KINDS = ("motion", "change")
+INPUTS = ("speed", "limit", "gap", "sidegap", "sideback", "lane", "headspeed")
+HEADSPEED = INPUTS.index("headspeed")
+
+# The names in the order of their opcodes, which count from 1, and their operands: d and r are registers, i is an input,
+# k a random word, t a probability, n a number, q a number that is not 0, and l a target.
+FORMS = {
+    "num": "dn", "get": "di", "side": "d", "draw": "dkt", "copy": "dr", "add": "drr", "sub": "drr",
+    "mul": "drn", "div": "drq", "min": "drr", "max": "drr", "not": "dr", "and": "drr", "or": "drr",
+    "jump": "l", "jlt": "rrl", "jle": "rrl", "jtrue": "rl", "jfalse": "rl", "go": "r", "cross": "",
+    "stay": "",
+}
+NAMES = list(FORMS)
+ENDS = ("go", "cross", "stay")
+LABEL = re.compile(rb"[A-Za-z_][A-Za-z0-9_]{0,31}")
+DIGITS = re.compile(rb"[0-9]+")
+BLANKS = b" \t"
+
+
+class Fault(Exception):
+    """The first fault of an input: its line, counted from 1, and its cause."""
+
+    def __init__(self, line, cause):
+        super().__init__(f"line {line} cause {cause}")
+        self.line, self.cause = line, cause
+
+
+def is_label(word):
+    return LABEL.fullmatch(word) is not None
+
+
+def is_operand(form, word):
+    """Whether a word has the form of an operand; its number may be out of range."""
+    if form in "dr":
+        return re.fullmatch(rb"r[0-7]", word) is not None
+    if form == "i":
+        return word.decode("latin-1") in INPUTS
+    if form == "l":
+        return is_label(word) or word[:1] == b"@" and DIGITS.fullmatch(word[1:]) is not None
+    return DIGITS.fullmatch(word) is not None
+
+
+def is_in_range(form, number):
+    """Whether a number is in the range of operands of this form."""
+    most = {"d": 7, "r": 7, "i": 6, "k": 15, "t": CERTAIN}.get(form, GREATEST)
+    return number <= most and not (form == "q" and number == 0)
+
+
+def number_of(form, word):
+    """The number of an operand of the right form, or None if it is out of range."""
+    if form == "i":
+        return INPUTS.index(word.decode())
+    digits = word.lstrip(b"r@")
+    if len(digits) > 10 or not is_in_range(form, int(digits)):
+        return None
+    return int(digits)
+
+
+def read_operands(forms, text, line):
+    """The operands of an instruction; a target that is a label is still its name."""
+    words = [word.strip(BLANKS) for word in text.split(b",")] if text else []
+    if len(words) != len(forms) or not all(map(is_operand, forms, words)):
+        raise Fault(line, 12)
+    operands = [word if form == "l" and is_label(word) else number_of(form, word) for form, word in zip(forms, words)]
+    if None in operands:
+        raise Fault(line, 13)
+    return operands
+
+
+def read_label(text, labels, place, line):
+    """The rest of a line after its label, which is noted; or the whole line if it has no label."""
+    if b":" not in text:
+        return text
+    label, rest = text.split(b":", 1)
+    label = label.strip(BLANKS)
+    if label in labels:
+        raise Fault(line, 14)
+    if not is_label(label):
+        raise Fault(line, 11)
+    labels[label] = place
+    return rest.strip(BLANKS)
+
+
+def assemble(lines, first):
+    """The program of the lines after its first line, which has the number `first`."""
+    instructions, labels, numbers = [], {}, []
+    for line, text in enumerate(lines, first + 1):
+        text = read_label(text.split(b";")[0].strip(BLANKS), labels, len(instructions), line)
+        if not text:
+            continue
+        name, *_ = re.split(rb"[ \t]", text, maxsplit=1)
+        forms = FORMS.get(name.decode("latin-1"))
+        if forms is None:
+            raise Fault(line, 11)
+        if len(instructions) == MAX_INSTRUCTIONS:
+            raise Fault(line, 16)
+        operands = read_operands(forms, text[len(name):].strip(BLANKS), line)
+        instructions.append((name.decode(), operands))
+        numbers.append(line)
+    if not instructions:
+        raise Fault(first, 17)
+    return [named(instruction, labels, line) for instruction, line in zip(instructions, numbers)]
+
+
+def named(instruction, labels, line):
+    """An instruction whose label, if it has one, is the number of the instruction that it names."""
+    name, operands = instruction
+    for operand in operands:
+        if isinstance(operand, bytes) and operand not in labels:
+            raise Fault(line, 15)
+    return name, tuple(labels[operand] if isinstance(operand, bytes) else operand for operand in operands)
+
+
+def split_fields(code):
+    """The opcode, the three fields and the number of an instruction of eight bytes."""
+    return code[0], code[1:4], int.from_bytes(code[4:8], "little")
+
+
+def instruction_of(code, version, line):
+    """The instruction of eight bytes."""
+    opcode, fields, number = split_fields(code)
+    if not 1 <= opcode <= len(NAMES):
+        raise Fault(line, 26)
+    name = NAMES[opcode - 1]
+    forms = FORMS[name]
+    small = sum(form in "drik" for form in forms)
+    operands = [*fields[:small], number][:len(forms)]
+    unused = [*fields[small:], *([number] if small == len(forms) else [])]
+    is_old = version == 1 and name == "get" and operands[1] == HEADSPEED
+    if any(unused) or is_old or not all(map(is_in_range, forms, operands)):
+        raise Fault(line, 27)
+    return name, tuple(operands)
+
+
+def decode(code, line):
+    """The kind and the program of the bytes on a line."""
+    if len(code) < 8:
+        raise Fault(line, 21)
+    count = int.from_bytes(code[6:8], "little")
+    for cause, is_right in (
+        (22, code[:4] == MAGIC), (23, code[4] in (1, 2)), (24, code[5] in (0, 1)),
+        (25, 1 <= count <= MAX_INSTRUCTIONS), (21, len(code) >= 8 + 8 * count),
+    ):
+        if not is_right:
+            raise Fault(line, cause)
+    instructions = [instruction_of(code[8 + 8 * pc:16 + 8 * pc], code[4], line) for pc in range(count)]
+    if code[4] == 2 and ("get", HEADSPEED) not in ((name, operands[-1:] and operands[-1]) for name, operands in instructions):
+        raise Fault(line, 30)
+    if len(code) > 8 + 8 * count:
+        raise Fault(line, 28)
+    return KINDS[code[5]], instructions
+
+
+def encode(kind, instructions):
+    """The bytes of a program."""
+    version = 2 if any(name == "get" and operands[1] == HEADSPEED for name, operands in instructions) else 1
+    code = MAGIC + bytes([version, KINDS.index(kind)]) + len(instructions).to_bytes(2, "little")
+    for name, operands in instructions:
+        forms = FORMS[name]
+        small = sum(form in "drik" for form in forms)
+        fields = bytes(operands[:small]).ljust(3, b"\0")
+        number = operands[small] if small < len(forms) else 0
+        code += bytes([NAMES.index(name) + 1]) + fields + number.to_bytes(4, "little")
+    return code
+
+
+def targets(instructions):
+    """The instructions to which some jump goes."""
+    return {operands[-1] for name, operands in instructions if "l" in FORMS[name]}
+
+
+def operand_text(form, number, count):
+    if form in "dr":
+        return f"r{number}"
+    if form == "i":
+        return INPUTS[number]
+    if form == "l":
+        return f"L{number}" if number < count else f"@{number}"
+    return str(number)
+
+
+def disassemble(instructions):
+    """The canonical text of a program."""
+    named_ones, lines = targets(instructions), []
+    for pc, (name, operands) in enumerate(instructions):
+        words = ", ".join(operand_text(form, number, len(instructions)) for form, number in zip(FORMS[name], operands))
+        lines.append((f"L{pc}: " if pc in named_ones else "") + name + (" " + words if words else ""))
+    return "".join(line + "\n" for line in lines).encode()
+
+
+def next_of(instructions, pc):
+    """The instructions that may follow one."""
+    name, operands = instructions[pc]
+    if name in ENDS:
+        return []
+    if name == "jump":
+        return [operands[-1]]
+    return [pc + 1] + ([operands[-1]] if "l" in FORMS[name] else [])
+
+
+def budget(instructions):
+    """The number of instructions on the longest path through a program; None if a path goes back or outside."""
+    count = len(instructions)
+    longest = [0] * count
+    for pc in reversed(range(count)):
+        following = next_of(instructions, pc)
+        if not all(pc < after < count for after in following):
+            return None
+        longest[pc] = 1 + max((longest[after] for after in following), default=0)
+    return longest[0]

@@ -1,0 +1,277 @@
+"""A second reader: jobs, sweeps and checks are read as docs/FILES.md describes them.
+
+It is written from the documents and not from the proved program, so that the two can be compared. It returns a Job, a
+Sweep or a Check, and raises the first fault of an input as a Fault. There is no second verifier: the caller passes a
+function `verdict`, which returns the reason for which a program is rejected, or None."""
+import re
+from typing import NamedTuple
+
+from .programs import CERTAIN, Fault, assemble, decode
+
+LONGEST_TEXT = 4194304
+MAX_CELLS = 100000
+MAX_STEPS = 500000
+GREATEST_LIMIT = 35
+MAX_LATER_RULES = 1023
+MAX_POINTS = 200
+NUMBER = re.compile(rb"0|[1-9][0-9]{0,9}")
+HEX = re.compile(rb"[0-9A-Fa-f]*")
+SPEEDS = b"0123456789abcdefghijklmnopqrstuvwxyz"
+STANDARD = {b"nasch": 1, b"vdr": 2, b"rickert": 2}
+
+
+class Job(NamedTuple):
+    """The lanes of a road at the start, its limit and its number of steps."""
+
+    lanes: list
+    limit: int
+    steps: int
+
+
+class Sweep(NamedTuple):
+    """The cells of a road, its steps, those that are counted, and the cars of each point."""
+
+    cells: int
+    steps: int
+    measure: int
+    cars: list
+
+
+class Check(NamedTuple):
+    """A program, its kind, and whether its notes are printed."""
+
+    kind: str
+    program: list
+    notes: bool
+
+
+def lines_of(text):
+    """The lines of an input. After the last LF there is a line only if it is not empty."""
+    lines = text.split(b"\n")
+    return lines[:-1] if lines[-1] == b"" else lines
+
+
+class Lines:
+    """The lines of an input from the next one on, which has this number."""
+
+    def __init__(self, text, verdict):
+        if len(text) > LONGEST_TEXT:
+            raise Fault(0, 9)
+        self.lines, self.number, self.verdict = lines_of(text), 1, verdict
+
+    def is_end(self):
+        return self.number > len(self.lines)
+
+    def head(self):
+        """The first word of the next line, or None at the end."""
+        return None if self.is_end() else self.lines[self.number - 1].split(b" ")[0]
+
+    def fail(self, cause):
+        raise Fault(self.number, cause)
+
+    def words(self):
+        """The words of the next line, which single spaces separate."""
+        if self.is_end():
+            self.fail(1)
+        words = self.lines[self.number - 1].split(b" ")
+        if b"" in words:
+            self.fail(1)
+        return words
+
+    def past(self):
+        self.number += 1
+
+    def value(self, word, least, most):
+        """The number of a word of the next line."""
+        if not NUMBER.fullmatch(word) or not least <= int(word) <= most:
+            self.fail(2)
+        return int(word)
+
+    def named(self, name):
+        """The one word of the next line after its name."""
+        words = self.words()
+        if len(words) != 2 or words[0] != name:
+            self.fail(1)
+        return words[1]
+
+    def number_line(self, name, least, most):
+        value = self.value(self.named(name), least, most)
+        self.past()
+        return value
+
+    def exactly(self, line):
+        if self.is_end() or self.lines[self.number - 1] != line:
+            self.fail(1)
+        self.past()
+
+    def key(self):
+        word = self.named(b"key")
+        if len(word) != 64 or not HEX.fullmatch(word):
+            self.fail(3)
+        self.past()
+
+    def hexadecimal(self, word):
+        if len(word) % 2 or not HEX.fullmatch(word):
+            self.fail(8)
+        return bytes.fromhex(word.decode())
+
+
+def judge(lines, line, kind, program):
+    """Raises the fault of a program that the verifier rejects."""
+    reason = lines.verdict(kind, program)
+    if reason is not None:
+        raise Fault(line, 40 + reason)
+
+
+def read_block(lines, kind):
+    """The lines of a part after its heading, which comes next, up to the line `end`, which is then the next one."""
+    lines.past()
+    first = lines.number
+    while not lines.is_end() and lines.lines[lines.number - 1] != b"end":
+        lines.past()
+    if lines.is_end():
+        lines.fail(1)
+    return lines.lines[first - 1:lines.number - 1]
+
+
+def read_part(lines, kind, fits=True):
+    """Reads a part of this kind: lines up to `end`, or a line of code. `fits` says whether the road may have one."""
+    first, words = lines.number, lines.words()
+    is_block = words == [kind.encode()]
+    if not is_block and (len(words) != 2 or words[0] != b"code"):
+        lines.fail(1)
+    said = read_block(lines, kind) if is_block else lines.hexadecimal(words[1])
+    if not fits:
+        raise Fault(first, 4)
+    found, program = (kind, assemble(said, first)) if is_block else decode(said, first)
+    if found != kind:
+        lines.fail(24)
+    judge(lines, first, kind, program)
+    lines.past()
+
+
+def read_own(lines, lanes):
+    """Reads the parts of `rule own`."""
+    read_part(lines, "motion")
+    if lines.head() in (b"change", b"code"):
+        read_part(lines, "change", lanes == 2)
+
+
+def read_rule(lines, words, lanes, judge_line=lambda: None):
+    """Reads the words of a rule, which end the next line. `judge_line` judges the words before them."""
+    count = STANDARD.get(words[1]) if len(words) > 1 else None
+    is_own = words == [b"rule", b"own"]
+    if not is_own and (words[0] != b"rule" or count is None or len(words) != 2 + count):
+        lines.fail(1)
+    judge_line()
+    for word in words[2:]:
+        lines.value(word, 0, CERTAIN)
+
+
+def finish_rule(lines, words, lanes):
+    """Judges a rule after its words and numbers, and reads its parts."""
+    if words[1] == b"rickert" and lanes == 1:
+        lines.fail(4)
+    lines.past()
+    if words[1] == b"own":
+        read_own(lines, lanes)
+
+
+def read_first_rule(lines, lanes):
+    words = lines.words()
+    read_rule(lines, words, lanes)
+    finish_rule(lines, words, lanes)
+
+
+def read_later_rules(lines, steps, lanes):
+    """Reads the `at` lines, up to the end of the input."""
+    last, count = -1, 0
+    while not lines.is_end():
+        words = lines.words()
+        if words[0] != b"at" or len(words) < 3:
+            lines.fail(1)
+        at = []
+        read_rule(lines, words[2:], lanes, lambda: at.append(lines.value(words[1], 0, 9999999999)))
+        count += 1
+        if count > MAX_LATER_RULES:
+            lines.fail(6)
+        if not last < at[0] < steps:
+            lines.fail(5)
+        finish_rule(lines, words[2:], lanes)
+        last = at[0]
+
+
+def read_lanes(lines, limit):
+    """Reads one or two lanes, and judges them together."""
+    lanes, numbers = [], []
+    while not lanes or len(lanes) < 2 and lines.head() == b"lane":
+        lanes.append(lines.named(b"lane"))
+        numbers.append(lines.number)
+        lines.past()
+    if len({len(lane) for lane in lanes}) > 1 or len(lanes[0]) > MAX_CELLS:
+        raise Fault(numbers[-1], 32)
+    for number, lane in zip(numbers, lanes):
+        for cell in lane:
+            if cell != ord(".") and cell not in SPEEDS:
+                raise Fault(number, 34)
+            if cell != ord(".") and SPEEDS.index(cell) > limit:
+                raise Fault(number, 35)
+    return lanes
+
+
+def read_job(text, verdict):
+    """The job of an input."""
+    lines = Lines(text, verdict)
+    lines.exactly(b"road 1")
+    lines.key()
+    limit = lines.number_line(b"limit", 1, GREATEST_LIMIT)
+    lanes = read_lanes(lines, limit)
+    read_first_rule(lines, len(lanes))
+    steps = lines.number_line(b"steps", 0, MAX_STEPS)
+    read_later_rules(lines, steps, len(lanes))
+    return Job(lanes, limit, steps)
+
+
+def read_sweep(text, verdict):
+    """The sweep of an input."""
+    lines = Lines(text, verdict)
+    lines.exactly(b"sweep 1")
+    lines.key()
+    lines.number_line(b"limit", 1, GREATEST_LIMIT)
+    length = lines.number_line(b"length", 1, MAX_CELLS)
+    lanes = lines.number_line(b"lanes", 1, 2)
+    read_first_rule(lines, lanes)
+    warm = lines.number_line(b"warm", 0, MAX_STEPS)
+    measure = lines.number_line(b"measure", 1, MAX_STEPS)
+    cars = []
+    while not cars or not lines.is_end():
+        count = lines.value(lines.named(b"cars"), 0, 200000)
+        cars.append(count)
+        for cause, is_right in (
+            (6, len(cars) <= MAX_POINTS), (37, count <= lanes * length),
+            (7, len(cars) * (warm + measure) <= MAX_STEPS),
+        ):
+            if not is_right:
+                lines.fail(cause)
+        lines.past()
+    return Sweep(lanes * length, warm + measure, measure, cars)
+
+
+def read_check(text):
+    """The check of an input. Its program is not judged."""
+    lines = Lines(text, None)
+    if lines.is_end():
+        lines.fail(1)
+    line = lines.lines[0]
+    notes = line.startswith(b"notes ")
+    line = line.removeprefix(b"notes ")
+    if line in (b"motion", b"change"):
+        return Check(line.decode(), assemble(lines.lines[1:], 1), notes)
+    words = line.split(b" ")
+    if len(words) != 2 or words[0] != b"code" or words[1] == b"":
+        lines.fail(1)
+    kind, program = decode(lines.hexadecimal(words[1]), 1)
+    lines.past()
+    if not lines.is_end():
+        lines.fail(1)
+    return Check(kind, program, notes)

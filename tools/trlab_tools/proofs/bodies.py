@@ -1,0 +1,389 @@
+"""Wrong bodies, and how the prover is asked to refuse them.
+
+A crate's wrong bodies are the files of must-fail/, one each, and its file wrong.edit. There each has a line `# its_name`,
+and then lines `file: src/NAME.rt`, `old: TEXT` and `new: TEXT`: the text, which is in the file once, is replaced. After a
+line `fn: Type::method` the text only has to be in that function once. A body that changes a constant names the function
+that has to be refused, by a line `in: module::function`. A line `private` marks a body that no clause of a public
+function refuses. A line `without: Type::method: REASON` names a public function that has no wrong body.
+
+They are tried on a copy of the crate, over the libraries that ./test has proved here. Only the functions that they change
+are proved there; the theorem of every other function is taken as proved, by a hole in place of its proof. So a trial
+costs seconds where the whole crate costs minutes, and shows no less: what is refused although everything else is taken as
+proved is refused in any case."""
+import functools
+import glob
+import json
+import os
+import re
+import shutil
+import subprocess
+import tempfile
+from typing import NamedTuple
+
+from .. import TOP
+from .functions import Exports, functions_in
+
+NAME = re.compile(r"(?m)^# (\w+)$")
+# A clause of a law, the words in it that may be constants, and where a constant is declared.
+CLAUSE = re.compile(r"ensures ?(\w*) \{([^}]*)\}")
+WORD = re.compile(r"\b[A-Z][A-Z_]+\b")
+CONSTANT = re.compile(r"\bconst (\w+):")
+WITHOUT = re.compile(r"(?m)^without: ([\w:]+): (.+)$")
+HOLE = """use Rattle.{crate}.proofs.{path}.Statement as stated
+
+pub {name}_spec : {{M : Type 1}} → stated.statement M
+{name}_spec = ?
+"""
+# What is not proved at a place of a source.
+NOTE = re.compile(r"note: (src/\S+):(\d+):\d+: (it is not proved.*)")
+# An error in a proof file only because it names something that the edit took away.
+BY_NAME = re.compile(r"has no field|is not in scope|has no `|was not admitted")
+
+# A goal of a clause: what a function ensures, a type's invariant, or a loop's.
+OF_CLAUSE = re.compile(r"what the function ensures|invariant|`(?:returns|loop)|/Proof\.antt|did not prove|which antt refuses")
+
+
+class Edit(NamedTuple):
+    """A text of a file, or of one function of it, and the text that replaces it."""
+
+    file: str
+    function: str
+    old: str
+    new: str
+
+
+class Body(NamedTuple):
+    """A wrong body: its edits, the function that it names, and whether it is marked as private."""
+
+    name: str
+    edits: list
+    function: str
+    is_private: bool
+
+
+class Change(NamedTuple):
+    """A function that a body changes: its path, as the prover names it, and whether it is public."""
+
+    path: str
+    is_public: bool
+    shown: str
+
+
+class Verdict(NamedTuple):
+    """The functions that are not proved with a body, each with the prover's line about it, and what it says if there are none."""
+
+    refusing: dict
+    said: str
+
+    @property
+    def why(self):
+        return next(iter(self.refusing.values()), self.said)
+
+    @property
+    def by_clauses(self):
+        """The functions of which a clause is not proved, and not only that a call may be made or that a sum fits its type."""
+        return [change for change, line in self.refusing.items() if OF_CLAUSE.search(line)]
+
+
+def read(path):
+    """The text of a file, or nothing if there is none."""
+    if not os.path.exists(path):
+        return ""
+    with open(path, encoding="utf-8") as file:
+        return file.read()
+
+
+def bodies_in(path):
+    """The wrong bodies of a file."""
+    before, *named = NAME.split(read(path))
+    if "old: " in before:
+        raise SystemExit(f"{path}: the first wrong body has no name")
+    return [body_of(name, text) for name, text in zip(named[::2], named[1::2])]
+
+
+def body_of(name, text):
+    edits, lines = [], dict.fromkeys(("file", "fn", "old", "in"))
+    is_private = False
+    for line in text.splitlines():
+        word, _, rest = line.partition(":")
+        rest = rest.removeprefix(" ")
+        if word == "new":
+            edits.append(Edit(lines["file"], lines["fn"], lines["old"], rest))
+        elif word in lines:
+            lines[word] = rest
+            lines["fn"] = None if word == "file" else lines["fn"]
+        is_private |= line.removeprefix("# ") == "private"
+    return Body(name, edits, lines["in"], is_private)
+
+
+@functools.cache
+def kit():
+    """The folder of the toolchain."""
+    return os.path.dirname(subprocess.run(["rt", "doc"], capture_output=True, check=True, text=True).stdout.strip())
+
+
+def libraries_of():
+    """What each crate of the repository names of the others and of the toolchain's, by its name."""
+    lines = [line.partition("#")[0] for line in (TOP / "crates.txt").read_text("utf-8").splitlines()]
+    named = (line.partition(":") for line in lines if line.strip())
+    return {head.strip(): names.split() for head, _, names in named}
+
+
+def crates_of(names):
+    """The crates of these names; all, where no name is given."""
+    libraries = libraries_of()
+    if unknown := [name for name in names if name not in libraries]:
+        raise SystemExit(f"crates.txt names no crate {unknown[0]}")
+    return [Crate(name, libraries[name]) for name in names or libraries]
+
+
+def at_once():
+    """How many trials fit at a time: each needs a processor, and up to 3 GB."""
+    with open("/proc/meminfo", encoding="utf-8") as file:
+        free = int(re.search(r"MemAvailable:\s+(\d+)", file.read())[1])
+    return max(1, min(len(os.sched_getaffinity(0)), free // 3_000_000))
+
+
+def function_around(file, text, at):
+    """The function in which a place of a file is, or None."""
+    around = [it for it in functions_in(file, text) if it.start <= text.index("\n", at) and at < it.end]
+    return around[-1] if around else None
+
+
+def place_of(edit, text, name):
+    """Where the old text of an edit is; a ValueError if it is not there exactly once."""
+    begin, end = 0, len(text)
+    if edit.function:
+        spans = [(it.body, it.end) for it in functions_in(edit.file, text) if str(it) == edit.function]
+        if len(spans) != 1:
+            raise ValueError(f"{name}: {edit.file} has {len(spans)} functions {edit.function}")
+        begin, end = spans[0]
+    if (count := text.count(edit.old, begin, end)) != 1:
+        raise ValueError(f"{name}: {edit.function or edit.file} has this text {count} times: {edit.old}")
+    return text.index(edit.old, begin)
+
+
+def run_timed(words, folder):
+    """What a command prints, and its processor seconds."""
+    with tempfile.TemporaryFile("w+", errors="replace") as said:
+        running = subprocess.Popen(words, cwd=folder, stdin=subprocess.DEVNULL, stdout=said, stderr=subprocess.STDOUT)
+        _, status, used = os.wait4(running.pid, 0)
+        running.returncode = os.waitstatus_to_exitcode(status)
+        said.seek(0)
+        return said.read(), used.ru_utime + used.ru_stime
+
+
+class Crate:
+    """A crate that ./test has proved here, and its wrong bodies."""
+
+    def __init__(self, name, libraries):
+        self.name, self.libraries = name, libraries
+        self.folder = os.path.join(TOP, "crates", name)
+        self.is_program = os.path.exists(os.path.join(self.folder, "src", "main.rt"))
+        files = sorted(glob.glob(os.path.join(self.folder, "must-fail", "*.edit")))
+        self.bodies = [body_of(os.path.basename(file).removesuffix(".edit"), read(file)) for file in files]
+        self.bodies += bodies_in(os.path.join(self.folder, "wrong.edit"))
+        # The reason of each public function that has no wrong body.
+        self.without = dict(WITHOUT.findall(read(os.path.join(self.folder, "wrong.edit"))))
+        self.changed = {}
+        names = [body.name for body in self.bodies]
+        if len(set(names)) < len(names):
+            twice = next(name for name in names if names.count(name) > 1)
+            raise SystemExit(f"{self.name}: two wrong bodies have the name {twice}")
+
+    def of_library(self, name):
+        """A file of the library that was proved here."""
+        path = os.path.join(self.folder, "out", "rlib", f"{self.name}.rlib", "toolchain", name)
+        if not os.path.exists(path):
+            raise SystemExit(f"{self.name} is not proved here: run ./test first")
+        with open(path, encoding="utf-8", errors="replace") as file:
+            return file.read()
+
+    @functools.cached_property
+    def paths(self):
+        """The paths of its functions, as the prover names them; of a program those of its root file."""
+        if self.is_program:
+            root = "src/main.rt"
+            return {function.name for function in functions_in(root, self.text(root)) if not function.owner}
+        return {name.removeprefix(f"{self.name}::") for name, _ in json.loads(self.of_library("mir.json"))}
+
+    @functools.cached_property
+    def exports(self):
+        return Exports(self.folder)
+
+    @functools.cached_property
+    def public(self):
+        """The public functions that have a clause and a body."""
+        found = sorted(glob.glob(os.path.join(self.folder, "src", "**", "*.rt"), recursive=True))
+        files = [os.path.relpath(file, self.folder) for file in found]
+        every = [function for file in files for function in functions_in(file, self.text(file))]
+        return [it for it in every if it.has_clause and not it.is_empty and self.exports.shows(it)]
+
+    @functools.cached_property
+    def proved_alone(self):
+        """The functions, but closures, that have a proof of their own, unless they are in a cycle of calls; of a program none."""
+        if self.is_program:
+            return set()
+        made = self.of_library("made.json")
+        paths = [path.split("/") for path in re.findall(r'(?m)^\["proofs/((?:\w+/)*\w+)/Code"', made)]
+        cycles = re.findall(r'(?m)^\["proofs/((?:\w+/)*)\+[^"/]+/Code/\+([^"/]+)"', made)
+        shared = {(module + name.replace("-", "/")).replace("/", "::") for module, name in cycles}
+        return {"::".join(path) for path in paths if "fn" not in path} - shared
+
+    def text(self, file):
+        with open(os.path.join(self.folder, file), encoding="utf-8") as it:
+            return it.read()
+
+    def edited(self, bodies):
+        """The texts of the files that bodies change, by their names. A text that is not there once is a ValueError."""
+        texts = {}
+        for body in bodies:
+            for edit in body.edits:
+                text = texts.get(edit.file) or self.text(edit.file)
+                at = place_of(edit, text, body.name)
+                texts[edit.file] = text[:at] + edit.new + text[at + len(edit.old):]
+        return texts
+
+    def misfit(self, bodies):
+        """Why the edits of bodies cannot be made, or None."""
+        try:
+            self.edited(bodies)
+        except ValueError as error:
+            return str(error)
+        return None
+
+    def changed_by(self, body):
+        """The functions that a body changes, by their paths; None if it changes something else, and names no function."""
+        if body.name not in self.changed:
+            self.changed[body.name] = self.find_changed(body)
+        return self.changed[body.name]
+
+    def find_changed(self, body):
+        if body.function:
+            return {body.function: Change(body.function, self.is_law_public(body.function), body.function)}
+        texts, changed = {}, {}
+        for edit in body.edits:
+            text = texts.get(edit.file) or self.text(edit.file)
+            at = place_of(edit, text, body.name)
+            function = function_around(edit.file, text, at + len(edit.old) - len(edit.old.lstrip()))
+            path = function and function.path_in(self.paths)
+            if not path:
+                return None
+            texts[edit.file] = text[:at] + edit.new + text[at + len(edit.old):]
+            is_public = self.exports.shows(function) and function.has_clause
+            changed[path] = Change(path, is_public, str(function))
+        return changed
+
+    def can_join(self, body, round_):
+        """Whether a body can be tried together with others: each of them is judged by what no other one changes."""
+        if not round_:
+            return True
+        if bool(body.function) != bool(round_[0].function):
+            return False
+        if body.function:
+            return all(self.clauses_against(it, [*round_, body]) for it in [*round_, body])
+        changed = [self.changed_by(it) for it in [*round_, body]]
+        is_apart = None not in changed and not changed[-1].keys() & set().union(*changed[:-1])
+        return is_apart and not self.misfit([*round_, body])
+
+    def clauses_against(self, body, round_):
+        """The clauses of the law that a body names that are about a constant that only this body changes."""
+        module, _, name = body.function.rpartition("::")
+        file = f"src/{module.replace('::', '/') or 'lib'}.rt"
+        law = next(it for it in functions_in(file, self.text(file)) if it.name == name)
+        others = set().union(*(self.constants_of(it) for it in round_ if it is not body))
+        told = {clause: set(WORD.findall(text)) for clause, text in CLAUSE.findall(self.text(file)[law.start:law.end])}
+        return [clause for clause, words in told.items() if words & self.constants_of(body) and not words & others]
+
+    def constants_of(self, body):
+        """The constants that a body changes."""
+        lines = [line for edit in body.edits for line in self.text(edit.file).splitlines() if edit.old in line]
+        return {name for line in lines for name in CONSTANT.findall(line)}
+
+    def is_law_public(self, path):
+        """Whether a law that a body names is shown: it is in a public module."""
+        return path.rpartition("::")[0] in self.exports.modules
+
+    def check_words(self):
+        """The command that checks a copy of the crate over the libraries here."""
+        root = f"src/{'main' if self.is_program else 'lib'}.rt"
+        words = [os.path.join(kit(), "bin", "rattle"), "check", "--crate-name", self.name, root]
+        for name in ["std", *self.libraries]:
+            own = os.path.join(TOP, "crates", name, "out", "rlib")
+            words += ["--extern", os.path.join(f"{name}={own if os.path.isdir(own) else kit() + '/rlibs'}", f"{name}.rlib")]
+        for folder in [f"{kit()}/rlibs", *glob.glob(os.path.join(TOP, "crates", "*", "out", "rlib"))]:
+            words += ["-L", f"dependency={folder}"]
+        words += ["--antt-project", f"{kit()}/rattle/logic/antt-project.json", "--logic-built", f"{kit()}/logic_built"]
+        return [*words, "--links", f"{self.name}=", "--jobs", "1", "--allow-holes"]
+
+    def write_copy(self, to, bodies, changed):
+        """Writes the crate with these bodies, and with holes for proofs of functions that they do not change."""
+        for part in "src", "specs", "proofs":
+            if os.path.isdir(os.path.join(self.folder, part)):
+                shutil.copytree(os.path.join(self.folder, part), os.path.join(to, part))
+        for file, text in self.edited(bodies).items():
+            with open(os.path.join(to, file), "w", encoding="utf-8") as it:
+                it.write(text)
+        for function in self.proved_alone & self.paths - changed:
+            self.write_hole(to, function.split("::"))
+
+    def write_hole(self, to, path):
+        folder = os.path.join(to, "proofs", *path)
+        os.makedirs(folder, exist_ok=True)
+        for name in "Answers", "Invariants":
+            if os.path.exists(file := os.path.join(folder, f"{name}.antt")):
+                os.remove(file)
+        with open(os.path.join(folder, "Proof.antt"), "w", encoding="utf-8") as file:
+            file.write(HOLE.format(crate=self.name, path=".".join(path), name=path[-1]))
+
+    def try_bodies(self, bodies):
+        """What the prover says of the crate with these bodies, line by line, and its processor seconds."""
+        changed = [self.changed_by(body) for body in bodies]
+        only = set(self.paths) if None in changed else set().union(*changed)
+        with tempfile.TemporaryDirectory() as copy:
+            self.write_copy(copy, bodies, only)
+            words = [word for path in sorted(only) for word in ("--only", path)] if None not in changed else []
+            said, seconds = run_timed([*self.check_words(), *words], copy)
+            return [self.line_with_function(copy, line) for line in said.splitlines()], seconds
+
+    def line_with_function(self, copy, line):
+        """A line that the prover says, with the function of the place in a source that it names."""
+        found = NOTE.match(line)
+        if not found:
+            return line
+        text = self.text(os.path.join(copy, found[1]))
+        at = sum(map(len, text.splitlines(True)[:int(found[2]) - 1]))
+        function = function_around(found[1], text, at)
+        return f"note: {function and function.path_in(self.paths)}: {found[3]}"
+
+    def refusal(self, lines, function):
+        """The line by which the prover refuses a clause of a function, or None."""
+        begin, path = f"fn {self.name}::{function}: ", function.replace("::", "/")
+        begins = f"./proofs/{path}/", f"note: {function}: "
+        if errors := [line for line in lines if line.startswith(begins)]:
+            by_more = [line for line in errors if not BY_NAME.search(line)]
+            return next(filter(OF_CLAUSE.search, by_more), by_more[0] if by_more else None)
+        status = next((line.removeprefix(begin) for line in lines if line.startswith(begin)), "")
+        blamed, is_refused, _ = status.partition("which antt refuses")
+        # (a lemma is refused for what is stated, the answers of another function for that function)
+        refused = [name for name in re.findall(rf"`Rattle\.{self.name}\.proofs\.([^`]+)`", blamed) if is_refused]
+        module, _, last = path.replace("/", ".").rpartition(".")
+        # Its own answers, or those of the cycle of calls in which it is.
+        own = re.compile(rf"{re.escape(module)}\.?(?:\+(?:\S+[-+])?)?{re.escape(last)}\.")
+        is_own = any(own.match(name) or ".Answers." not in name for name in refused)
+        return status if is_own or "did not prove" in status else None
+
+    def verdict(self, lines, body, round_):
+        """The verdict on one of the bodies that were tried together, from what the prover says."""
+        changed = self.changed_by(body) or {path: Change(path, False, path) for path in self.paths}
+        if body.function:
+            goals = tuple(f"`returns-clause-{clause}`" for clause in self.clauses_against(body, round_) if clause)
+            lines = [line for line in lines if not goals or any(goal in line for goal in goals)]
+        refused = {change: self.refusal(lines, path) for path, change in changed.items()}
+        return Verdict({change: line for change, line in refused.items() if line}, self.said_of(lines, changed))
+
+    def said_of(self, lines, changed):
+        """What the prover says of functions that no clause refuses."""
+        begins = tuple(f"fn {self.name}::{path}: " for path in changed)
+        said = [line for line in lines if "error[" in line or line.startswith(begins)]
+        return "; ".join(said[:2]) or (lines or ["nothing"])[-1]

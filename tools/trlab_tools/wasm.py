@@ -1,0 +1,77 @@
+"""Compares the program in WebAssembly, which Node runs, with a native program: exit status, output and standard error."""
+import base64
+import json
+import shutil
+import subprocess
+import threading
+from typing import NamedTuple
+
+from . import TOP
+
+# The further calls for an input of a command. The native program reports the progress of several runners in any order.
+MORE = {
+    "check": ["explain check", "explain --json check"],
+    "run": [
+        "run --every 2 --from 1 --progress --workers 16", "series", "series --every 3 --from 2 --progress", "explain run",
+        "explain --json run",
+    ],
+    "sweep": ["sweep --progress", "sweep --runners 16 --workers 16", "explain sweep", "explain --json sweep"],
+}
+
+
+class Call(NamedTuple):
+    """A call of the program: a name for messages, its arguments and its input."""
+
+    name: str
+    words: list
+    text: bytes
+
+
+class Ended(NamedTuple):
+    status: object
+    output: bytes
+    error: bytes
+
+
+def calls_of(texts):
+    """The calls for inputs, each of which has a name and the words of a command."""
+    for name, words, text in texts:
+        yield Call(name, words, text)
+        for more in MORE.get(words[0], []) if len(words) == 1 else []:
+            yield Call(name, more.split(), text)
+
+
+def by_program(program, call):
+    ran = subprocess.run([program, *call.words], input=call.text, capture_output=True)
+    return Ended(ran.returncode, ran.stdout, ran.stderr)
+
+
+def by_node(page, calls):
+    """How the calls end in WebAssembly, in their order."""
+    words = ["node", TOP / "release" / "wasm" / "answers.mjs", page]
+    with subprocess.Popen(words, stdin=subprocess.PIPE, stdout=subprocess.PIPE, text=True) as running:
+        def send():
+            with running.stdin as questions:
+                for call in calls:
+                    print(json.dumps({"words": call.words, "input": base64.b64encode(call.text).decode()}), file=questions)
+
+        threading.Thread(target=send, daemon=True).start()
+        for line in running.stdout:
+            answer = json.loads(line)
+            yield Ended(answer["status"], *(base64.b64decode(answer[part]) for part in ("output", "error")))
+
+
+def has_node():
+    return shutil.which("node") is not None
+
+
+def compare(count, page, program, texts):
+    """Note for each call of each input whether both programs end in the same way."""
+    calls = list(calls_of(texts))
+    answers = 0
+    for call, found in zip(calls, by_node(page, calls)):
+        answers += 1
+        wanted = by_program(program, call)
+        message = f"{call.name}: `trlab {' '.join(call.words)}` ends with {found}, but {program} with {wanted}"
+        count.note(found == wanted, message[:2000])
+    count.note(answers == len(calls), f"Node answered {answers} of {len(calls)} calls")
