@@ -7,20 +7,21 @@ that has to be refused, by a line `in: module::function`. A line `private` marks
 function refuses. A line `without: Type::method: REASON` names a public function that has no wrong body.
 
 They are tried on a copy of the crate, over the libraries that ./test has proved here. Only the functions that they change
-are proved there; the theorem of every other function is taken as proved, by a hole in place of its proof. So a trial
-costs seconds where the whole crate costs minutes, and shows no less: what is refused although everything else is taken as
-proved is refused in any case."""
+are proved there; the theorem of every other function is taken as proved, by a hole in place of its proof. This shows no
+less: what is refused although everything else is taken as proved is refused in any case. trials.py keeps what was said."""
 import functools
 import glob
 import json
 import os
 import re
+import resource
 import shutil
 import subprocess
 import tempfile
 from typing import NamedTuple
 
 from .. import TOP
+from . import trials
 from .functions import Exports, functions_in
 
 NAME = re.compile(r"(?m)^# (\w+)$")
@@ -38,6 +39,11 @@ pub {name}_spec : {{M : Type 1}} → stated.statement M
 NOTE = re.compile(r"note: (src/\S+):(\d+):\d+: (it is not proved.*)")
 # An error in a proof file only because it names something that the edit took away.
 BY_NAME = re.compile(r"has no field|is not in scope|has no `|was not admitted")
+
+# The processor seconds of a trial at most: a search that has no end is no verdict.
+LIMIT = 1800
+# The exit statuses of a check that says whether all is proved.
+PROVED, NOT_PROVED = 0, 1
 
 # A goal of a clause: what a function ensures, a type's invariant, or a loop's.
 OF_CLAUSE = re.compile(r"what the function ensures|invariant|`(?:returns|loop)|/Proof\.antt|did not prove|which antt refuses")
@@ -134,7 +140,18 @@ def crates_of(names):
     libraries = libraries_of()
     if unknown := [name for name in names if name not in libraries]:
         raise SystemExit(f"crates.txt names no crate {unknown[0]}")
-    return [Crate(name, libraries[name]) for name in names or libraries]
+    return [Crate(name, libraries[name], below(name, libraries)) for name in names or libraries]
+
+
+def below(name, libraries):
+    """The crates of the repository that a crate uses, or that those use."""
+    own = [it for it in libraries[name] if it in libraries]
+    return sorted({*own, *(lower for it in own for lower in below(it, libraries))})
+
+
+def rlib_folder(name):
+    """The folder of the library of a crate that was proved here."""
+    return os.path.join(TOP, "crates", name, "out", "rlib")
 
 
 def at_once():
@@ -164,25 +181,29 @@ def place_of(edit, text, name):
 
 
 def run_timed(words, folder):
-    """What a command prints, and its processor seconds."""
+    """What a command prints, its exit status and its processor seconds. It is ended at the limit, and its last line says so."""
     with tempfile.TemporaryFile("w+", errors="replace") as said:
         running = subprocess.Popen(words, cwd=folder, stdin=subprocess.DEVNULL, stdout=said, stderr=subprocess.STDOUT)
+        resource.prlimit(running.pid, resource.RLIMIT_CPU, (LIMIT, LIMIT))
         _, status, used = os.wait4(running.pid, 0)
         running.returncode = os.waitstatus_to_exitcode(status)
         said.seek(0)
-        return said.read(), used.ru_utime + used.ru_stime
+        ended = f"\nit was ended by signal {-running.returncode}; the limit is {LIMIT} processor seconds"
+        return said.read() + ended * (running.returncode < 0), running.returncode, used.ru_utime + used.ru_stime
 
 
 class Crate:
     """A crate that ./test has proved here, and its wrong bodies."""
 
-    def __init__(self, name, libraries):
-        self.name, self.libraries = name, libraries
+    def __init__(self, name, libraries, lower):
+        self.name, self.libraries, self.lower = name, libraries, lower
         self.folder = os.path.join(TOP, "crates", name)
         self.is_program = os.path.exists(os.path.join(self.folder, "src", "main.rt"))
         files = sorted(glob.glob(os.path.join(self.folder, "must-fail", "*.edit")))
-        self.bodies = [body_of(os.path.basename(file).removesuffix(".edit"), read(file)) for file in files]
-        self.bodies += bodies_in(os.path.join(self.folder, "wrong.edit"))
+        planted = [body_of(os.path.basename(file).removesuffix(".edit"), read(file)) for file in files]
+        planted += bodies_in(os.path.join(self.folder, "wrong.edit"))
+        # (an edit of specs/ makes a law false, which has no body: false_statements.py has those)
+        self.bodies = [body for body in planted if all(edit.file.startswith("src/") for edit in body.edits)]
         # The reason of each public function that has no wrong body.
         self.without = dict(WITHOUT.findall(read(os.path.join(self.folder, "wrong.edit"))))
         self.changed = {}
@@ -193,10 +214,10 @@ class Crate:
 
     def of_library(self, name):
         """A file of the library that was proved here."""
-        path = os.path.join(self.folder, "out", "rlib", f"{self.name}.rlib", "toolchain", name)
+        path = os.path.join(rlib_folder(self.name), f"{self.name}.rlib", name)
         if not os.path.exists(path):
             raise SystemExit(f"{self.name} is not proved here: run ./test first")
-        with open(path, encoding="utf-8", errors="replace") as file:
+        with open(path, "rb") as file:
             return file.read()
 
     @functools.cached_property
@@ -205,7 +226,7 @@ class Crate:
         if self.is_program:
             root = "src/main.rt"
             return {function.name for function in functions_in(root, self.text(root)) if not function.owner}
-        return {name.removeprefix(f"{self.name}::") for name, _ in json.loads(self.of_library("mir.json"))}
+        return {name.removeprefix(f"{self.name}::") for name, _ in json.loads(self.of_library("toolchain/mir.json"))}
 
     @functools.cached_property
     def exports(self):
@@ -224,9 +245,9 @@ class Crate:
         """The functions, but closures, that have a proof of their own, unless they are in a cycle of calls; of a program none."""
         if self.is_program:
             return set()
-        made = self.of_library("made.json")
-        paths = [path.split("/") for path in re.findall(r'(?m)^\["proofs/((?:\w+/)*\w+)/Code"', made)]
-        cycles = re.findall(r'(?m)^\["proofs/((?:\w+/)*)\+[^"/]+/Code/\+([^"/]+)"', made)
+        made = "\n".join(json.loads(row)[0] for row in self.of_library("toolchain/made.json").splitlines())
+        paths = [path.split("/") for path in re.findall(r"(?m)^proofs/((?:\w+/)*\w+)/Code$", made)]
+        cycles = re.findall(r"(?m)^proofs/((?:\w+/)*)\+[^/\n]+/Code/\+([^/\n]+)$", made)
         shared = {(module + name.replace("-", "/")).replace("/", "::") for module, name in cycles}
         return {"::".join(path) for path in paths if "fn" not in path} - shared
 
@@ -253,7 +274,7 @@ class Crate:
         return None
 
     def changed_by(self, body):
-        """The functions that a body changes, by their paths; None if it changes something else, and names no function."""
+        """The functions that a body changes, by their paths."""
         if body.name not in self.changed:
             self.changed[body.name] = self.find_changed(body)
         return self.changed[body.name]
@@ -268,7 +289,7 @@ class Crate:
             function = function_around(edit.file, text, at + len(edit.old) - len(edit.old.lstrip()))
             path = function and function.path_in(self.paths)
             if not path:
-                return None
+                raise SystemExit(f"{self.name}: {body.name} changes no function, and has no line `in`")
             texts[edit.file] = text[:at] + edit.new + text[at + len(edit.old):]
             is_public = self.exports.shows(function) and function.has_clause
             changed[path] = Change(path, is_public, str(function))
@@ -282,8 +303,7 @@ class Crate:
             return False
         if body.function:
             return all(self.clauses_against(it, [*round_, body]) for it in [*round_, body])
-        changed = [self.changed_by(it) for it in [*round_, body]]
-        is_apart = None not in changed and not changed[-1].keys() & set().union(*changed[:-1])
+        is_apart = not self.changed_by(body).keys() & set().union(*map(self.changed_by, round_))
         return is_apart and not self.misfit([*round_, body])
 
     def clauses_against(self, body, round_):
@@ -309,9 +329,9 @@ class Crate:
         root = f"src/{'main' if self.is_program else 'lib'}.rt"
         words = [os.path.join(kit(), "bin", "rattle"), "check", "--crate-name", self.name, root]
         for name in ["std", *self.libraries]:
-            own = os.path.join(TOP, "crates", name, "out", "rlib")
-            words += ["--extern", os.path.join(f"{name}={own if os.path.isdir(own) else kit() + '/rlibs'}", f"{name}.rlib")]
-        for folder in [f"{kit()}/rlibs", *glob.glob(os.path.join(TOP, "crates", "*", "out", "rlib"))]:
+            folder = rlib_folder(name) if name in self.lower else f"{kit()}/rlibs"
+            words += ["--extern", f"{name}={folder}/{name}.rlib"]
+        for folder in [f"{kit()}/rlibs", *map(rlib_folder, self.lower)]:
             words += ["-L", f"dependency={folder}"]
         words += ["--antt-project", f"{kit()}/rattle/logic/antt-project.json", "--logic-built", f"{kit()}/logic_built"]
         return [*words, "--links", f"{self.name}=", "--jobs", "1", "--allow-holes"]
@@ -336,15 +356,30 @@ class Crate:
         with open(os.path.join(folder, "Proof.antt"), "w", encoding="utf-8") as file:
             file.write(HOLE.format(crate=self.name, path=".".join(path), name=path[-1]))
 
-    def try_bodies(self, bodies):
-        """What the prover says of the crate with these bodies, line by line, and its processor seconds."""
-        changed = [self.changed_by(body) for body in bodies]
-        only = set(self.paths) if None in changed else set().union(*changed)
+    def try_bodies(self, bodies, work):
+        """What the prover says of the crate with these bodies. It begins with what earlier trials left in the folder `work`."""
+        changed = sorted(set().union(*map(self.changed_by, bodies)))
         with tempfile.TemporaryDirectory() as copy:
-            self.write_copy(copy, bodies, only)
-            words = [word for path in sorted(only) for word in ("--only", path)] if None not in changed else []
-            said, seconds = run_timed([*self.check_words(), *words], copy)
-            return [self.line_with_function(copy, line) for line in said.splitlines()], seconds
+            self.write_copy(copy, bodies, set(changed))
+            place = trials.path_of([self.name, changed, self.libraries, *self.sum_below, trials.sum_of([copy], copy)])
+            trial = trials.find(place) or self.ask(copy, changed, work)
+            if not trial.is_kept and trial.status in (PROVED, NOT_PROVED):
+                trials.keep(place, trial)
+            return trial._replace(lines=[self.line_with_function(copy, line) for line in trial.lines])
+
+    def ask(self, copy, changed, work):
+        """What the prover says of functions in a copy of the crate. (Lines that begin with a space show a goal.)"""
+        words = [word for path in changed for word in ("--only", path)]
+        said, status, seconds = run_timed([*self.check_words(), "--incremental", work, *words], copy)
+        return trials.Trial([line for line in said.splitlines() if line[:1].strip()], seconds, status, is_kept=False)
+
+    @functools.cached_property
+    def sum_below(self):
+        """What identifies the toolchain, and the sum of what a check reads of the libraries below."""
+        rlibs = [os.path.join(rlib_folder(name), f"{name}.rlib") for name in self.lower]
+        # (a program is also linked with their code)
+        shown = rlibs if self.is_program else [os.path.join(rlib, part) for rlib in rlibs for part in ("interface", "lang/antt")]
+        return [read(f"{kit()}/KIT-ID"), trials.sum_of(shown, TOP)]
 
     def line_with_function(self, copy, line):
         """A line that the prover says, with the function of the place in a source that it names."""
@@ -375,7 +410,7 @@ class Crate:
 
     def verdict(self, lines, body, round_):
         """The verdict on one of the bodies that were tried together, from what the prover says."""
-        changed = self.changed_by(body) or {path: Change(path, False, path) for path in self.paths}
+        changed = self.changed_by(body)
         if body.function:
             goals = tuple(f"`returns-clause-{clause}`" for clause in self.clauses_against(body, round_) if clause)
             lines = [line for line in lines if not goals or any(goal in line for goal in goals)]
