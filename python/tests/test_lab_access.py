@@ -171,6 +171,7 @@ class ForEveryone(OnPage):
         try:
             self.assertTrue(page.holds(lambda: page.js("return window.lab?.player.step >= 0")))
             # The clock of the page goes on by a second, and the next snapshots are there: with motion it would show them.
+            page.js("const {player} = lab; if (!player.run) player.begin(player.open); player.paused = Infinity")  # the run does not rest
             self.hold(lambda: page.js("return lab.player.run.waiting.length > 9"))
             later = "const {player} = lab; for (let k = 1; k <= 10; k++) player.tick(player.before + 100)"
             page.js(later)

@@ -1,7 +1,7 @@
 """Waiting for a condition. No test depends on how long something takes: the one limit is for what hangs."""
 import time
 
-LIMIT = 300  # seconds, because other work may slow everything down
+LIMIT = 900  # seconds, because other work may slow everything down
 
 
 def holds(condition):
