@@ -2,7 +2,7 @@
 // { film, step, share, lens, car, pixels }. `share` is the part of the way from the step before, 0 to 1, and `pixels` draws long roads on
 // a canvas; without it they are drawn as boxes.
 
-import { EMPTY, clamp, speedOf, upTo } from "./job.js";
+import { clamp, upTo } from "./job.js";
 import { colour } from "./colours.js";
 import { Columns, dotOf, isTight, styleOf, sumsOf } from "./columns.js";
 import { mostOf, unitOf } from "./units.js";
