@@ -27,7 +27,7 @@ class Window:
     """A page in a browser, whose size in pixels is given."""
 
     def __init__(self, browser, address, width=1280, height=900, calm=False, dark=False):
-        self.driver = {"chromium": drivers.Chromium, "firefox": drivers.Firefox}[browser](calm, dark)
+        self.driver = drivers.started({"chromium": drivers.Chromium, "firefox": drivers.Firefox}[browser], calm, dark)
         self.driver.set_script_timeout(LIMIT)
         self.size(width, height)
         self.get(address)

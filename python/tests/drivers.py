@@ -36,6 +36,16 @@ COMMANDS = {
 }
 
 
+def started(kind, calm, dark):
+    """A driver whose browser has started. On a busy machine this may take longer than the minute that chromedriver waits."""
+    for _ in range(2):
+        try:
+            return kind(calm, dark)
+        except WebDriverException:
+            pass
+    return kind(calm, dark)
+
+
 class Chromium(Chrome):
     """A driver for Chromium. With `calm` the user wants no motion, and with `dark` a dark page."""
 

@@ -1,9 +1,12 @@
 """Shared by the tests of the page: a server, a browser with its page, and calls that wait for a condition."""
 import threading
+from unittest import mock
 
+import trlab
 from tests.browsers import Keys, Window
+from tests.waiting import LIMIT
 from trlab import Snapshots
-from trlab.lab import Lab
+from trlab.lab import Lab, server
 from trlab._results.written import snapshots_in
 from trlab._runs.calls import ask
 
@@ -17,6 +20,12 @@ def snapshots(text):
     return Snapshots(snapshots_in(ask(["run"], text).splitlines(True)))
 
 
+def job_of(**changes):
+    """The job file of the page's first job, with changes."""
+    what = {"limit": 5, "length": 1000, "cars": 150, "start": trlab.random_cells(1), "rule": trlab.Nasch(0.25), "steps": 5000, "key": 1}
+    return trlab.Job(**{**what, **changes}).text()
+
+
 class OnPage:
     """A page in one browser, which is loaded again for each test."""
 
@@ -24,6 +33,10 @@ class OnPage:
 
     @classmethod
     def setUpClass(cls):
+        # On a busy machine it takes long until runs that have been replaced have ended.
+        patience = mock.patch.object(server, "PATIENCE", LIMIT)
+        patience.start()
+        cls.addClassCleanup(patience.stop)
         cls.lab = Lab()
         cls.addClassCleanup(cls.lab.close)
         thread = threading.Thread(target=cls.lab.serve_forever, kwargs={"poll_interval": 0.05}, daemon=True)
@@ -38,6 +51,10 @@ class OnPage:
         self.page.get(self.lab.address)
         self.hold(lambda: self.page.js("return window.lab !== undefined && lab.player.film !== null && lab.player.step >= 0"))
         self.page.errors()
+
+    def examples(self):
+        """The examples that the page offers."""
+        return server.examples()
 
     def tearDown(self):
         self.assertEqual(self.page.errors(), [])

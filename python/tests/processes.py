@@ -3,7 +3,6 @@ import os
 import signal
 import subprocess
 import sys
-import time
 import uuid
 from pathlib import Path
 
@@ -57,13 +56,3 @@ def end(started):
     for number in marked(started.mark):
         os.kill(number, signal.SIGKILL)
     started.communicate()
-
-
-def until(condition, seconds=300):
-    """Waits for a condition, and returns whether it came true."""
-    end = time.monotonic() + seconds
-    while time.monotonic() < end:
-        if condition():
-            return True
-        time.sleep(0.1)
-    return bool(condition())

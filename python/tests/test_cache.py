@@ -11,7 +11,8 @@ from pathlib import Path
 from unittest import mock
 
 import trlab
-from tests.processes import PYTHON, calls, child, end, logging_program, marked, until
+from tests.processes import PYTHON, calls, child, end, logging_program, marked
+from tests.waiting import holds
 from trlab import Job, Nasch, ParameterError, ProgramError, RejectedInputError, ResultFilesError, Rickert, Sweep
 from trlab._runs import cache as caching
 from trlab._runs.cache import Cache
@@ -38,7 +39,7 @@ print(json.dumps(sorted(found.items())), flush=True)
 
 # Runs that would take minutes, in threads or in processes; the scripts differ in the event after the first result.
 LONG = """
-import signal, sys, time, trlab
+import signal, sys, trlab
 from concurrent.futures import ProcessPoolExecutor, ThreadPoolExecutor
 # A shell has its background processes ignore the signal.
 signal.signal(signal.SIGINT, signal.default_int_handler)
@@ -65,7 +66,7 @@ try:
 except BaseException as error:
     print(type(error).__name__, flush=True)
 print("over", flush=True)
-time.sleep(60)
+sys.stdin.read()
 """
 
 
@@ -258,7 +259,7 @@ class Killed(unittest.TestCase):
                 killed.stdin.flush()
             killed.kill()
             killed.communicate()
-            self.assertTrue(until(lambda: not marked(killed.mark)))
+            self.assertTrue(holds(lambda: not marked(killed.mark)))
             whole, done = list(cache.glob("*.out")), calls(folder, "sweep")
             self.assertTrue(7 <= len(whole) <= done < 30, (len(whole), done))
             second = child(MANY, str(cache), TRLAB=program)
@@ -272,13 +273,13 @@ class Killed(unittest.TestCase):
         with tempfile.TemporaryDirectory() as cache:
             running = child(LONG, "threads", "interrupt", cache)
             self.assertEqual(running.stdout.readline(), "first\n")
-            self.assertTrue(until(lambda: len(marked(running.mark, trlab.find_program())) == 3))
+            self.assertTrue(holds(lambda: len(marked(running.mark, trlab.find_program())) == 3))
             mine = child(LONG, "threads", "interrupt", cache)
             self.assertEqual(mine.stdout.readline(), "first\n")
-            self.assertTrue(until(lambda: len(marked(mine.mark, trlab.find_program())) == 3))
+            self.assertTrue(holds(lambda: len(marked(mine.mark, trlab.find_program())) == 3))
             running.kill()
             running.communicate()
-            self.assertTrue(until(lambda: not marked(running.mark)))
+            self.assertTrue(holds(lambda: not marked(running.mark)))
             Cache(cache).create()
             self.assertEqual(len(marked(mine.mark, trlab.find_program())), 3)
             self.assertEqual(len([file for file in Path(cache).iterdir() if file.name.startswith(".new")]), 3)
@@ -303,7 +304,7 @@ class Stopped(unittest.TestCase):
             running = child(LONG, executor, ending, cache)
             try:
                 self.assertEqual(running.stdout.readline(), "first\n")
-                self.assertTrue(until(lambda: len(marked(running.mark, trlab.find_program())) == 3))
+                self.assertTrue(holds(lambda: len(marked(running.mark, trlab.find_program())) == 3))
                 if ending == "interrupt":
                     running.send_signal(signal.SIGINT)
                 else:
@@ -330,10 +331,10 @@ class Stopped(unittest.TestCase):
         with tempfile.TemporaryDirectory() as cache:
             running = child(LONG, "processes", "interrupt", cache)
             self.assertEqual(running.stdout.readline(), "first\n")
-            self.assertTrue(until(lambda: len(marked(running.mark, trlab.find_program())) == 3))
+            self.assertTrue(holds(lambda: len(marked(running.mark, trlab.find_program())) == 3))
             running.kill()
             running.wait()
-            self.assertTrue(until(lambda: not marked(running.mark, trlab.find_program())))
+            self.assertTrue(holds(lambda: not marked(running.mark, trlab.find_program())))
             end(running)
 
 

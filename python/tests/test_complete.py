@@ -11,7 +11,8 @@ from pathlib import Path
 from unittest import mock
 
 import trlab
-from tests.processes import MARK, PYTHON, child, end, marked, until
+from tests.processes import MARK, PYTHON, child, end, marked
+from tests.waiting import holds
 from trlab import ExitStatusError, IncompleteOutputError, Job, Nasch, OutputFormatError, ProgramError, RejectedInputError, Rickert
 from trlab import Sweep, check, explain, find_program
 from trlab._runs import cache as caching
@@ -103,7 +104,7 @@ class Incomplete(unittest.TestCase):
                     for call in lambda: check("motion\ngo 0\n"), lambda: explain(JOB):
                         if "real" not in lines and "do" not in lines:
                             self.assertRaises(IncompleteOutputError, call)
-            self.assertTrue(until(lambda: not marked(mark, "/bin/sh")))
+            self.assertTrue(holds(lambda: not marked(mark, "/bin/sh")))
 
     def test_snapshots_one_by_one_end_with_the_error(self):
         with fake(self.folder, 'real "$@" | head -n 4'):
@@ -222,10 +223,10 @@ class Signals(unittest.TestCase):
             running = child(ENDLESS, way, cache)
             try:
                 self.assertEqual(running.stdout.readline(), "ready\n")
-                self.assertTrue(until(lambda: len(marked(running.mark, find_program())) == programs))
+                self.assertTrue(holds(lambda: len(marked(running.mark, find_program())) == programs))
                 running.send_signal(sent)
                 status = running.wait()
-                self.assertTrue(until(lambda: not marked(running.mark, find_program()), seconds=20))
+                self.assertTrue(holds(lambda: not marked(running.mark, find_program()), seconds=20))
                 if way != "processes":
                     self.assertEqual([file.name for file in Path(cache).iterdir() if file.name.startswith(".")], [])
                 return status

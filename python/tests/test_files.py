@@ -9,7 +9,8 @@ import unittest
 from dataclasses import replace
 from pathlib import Path
 
-from tests.processes import calls, child, end, logging_program, marked, until
+from tests.processes import calls, child, end, logging_program, marked
+from tests.waiting import holds
 from tests.test_arrays import needs
 from trlab import Grid, Job, Nasch, ParameterError, Point, ProgramNotFoundError, ResultFilesError, Rickert, Sweep
 from trlab import Window, find_program, moving, random_cells, read_tables, write_inputs
@@ -92,11 +93,11 @@ class Arrays(Folder):
             with self.subTest(signal=sent):
                 shell = child(SHELL, str(script), SLURM_ARRAY_TASK_ID="1")
                 new = lambda: [file for file in self.folder.glob(".long.new.*") if file.stat().st_size > 100000]
-                self.assertTrue(until(new))
+                self.assertTrue(holds(new))
                 if sent == signal.SIGTERM:
                     shell.terminate()
                     self.assertEqual(shell.wait(), 143)
-                    self.assertTrue(until(lambda: not marked(shell.mark)))
+                    self.assertTrue(holds(lambda: not marked(shell.mark)))
                     self.assertEqual(list(self.folder.glob(".*")), [])
                 end(shell)
                 self.assertEqual(self.results(), [])

@@ -1,8 +1,11 @@
-"""The page for everyone: names, roles, order of focus and contrast of every control, on light and dark pages and on a phone."""
+"""The page for everyone: names, roles, order of focus, contrast and colours, on light and dark pages, on a phone and without motion."""
+import math
 import unittest
 
 from tests.browsers import Keys, Window, missing
 from tests.lab_pages import OnPage
+from trlab._results.tables import Window as Row, Table
+from trlab._runs.calls import ask
 
 # Controls that a keyboard reaches: those that are shown, enabled, and not in a closed part of the page.
 CONTROLS = """const shown = it => it.checkVisibility({visibilityProperty: true}) && !it.disabled;
@@ -19,6 +22,23 @@ const contrast = it => {
     const behind = paper(it), front = over(parts(getComputedStyle(it).color), behind), [low, high] = [light(behind), light(front)].sort((a, b) => a - b);
     return (high + 0.05) / (low + 0.05);
 };"""
+
+# How eyes without red, green or blue cones see linear red, green and blue (Machado, Oliveira and Fernandes 2009).
+SIGHTS = {
+    "all colours": ((1, 0, 0), (0, 1, 0), (0, 0, 1)),
+    "no red": ((0.152286, 1.052583, -0.204868), (0.114503, 0.786281, 0.099216), (-0.003882, -0.048116, 1.051998)),
+    "no green": ((0.367322, 0.860646, -0.227968), (0.280085, 0.672501, 0.047413), (-0.011820, 0.042940, 0.968881)),
+    "no blue": ((1.255528, -0.076749, -0.178779), (-0.078411, 0.930809, 0.147602), (0.004733, 0.691367, 0.303900)),
+}
+
+
+def lightness_and_hue(colour, sight):
+    """A colour as such eyes see it, in CIELAB: distances are differences that one sees."""
+    times = lambda matrix, column: [sum(a * b for a, b in zip(row, column)) for row in matrix]
+    light = times(sight, [(it / 255 / 12.92 if it <= 10 else ((it / 255 + 0.055) / 1.055) ** 2.4) for it in colour])
+    to_xyz = ((0.4339, 0.3762, 0.1899), (0.2126, 0.7152, 0.0722), (0.0178, 0.1096, 0.8730))  # white is 1, 1, 1
+    x, y, z = (max(it, 0.0089) ** (1 / 3) for it in times(to_xyz, light))
+    return 116 * y - 16, 500 * (x - y), 200 * (y - z)
 
 
 class ForEveryone(OnPage):
@@ -96,6 +116,71 @@ class ForEveryone(OnPage):
             }).map(it => it.outerHTML.slice(0, 100))""")
             self.assertEqual(hidden, [])
             self.assertLessEqual(*page.js("return [document.documentElement.scrollWidth, innerWidth]"))
+        finally:
+            page.close()
+
+    def test_names_and_order(self):
+        self.pause()
+        nameless = self.page.js("""return [...document.querySelectorAll('input, select, button, [role=textbox], summary, canvas, svg, section, form')]
+            .filter(it => it.type !== 'file' && !(it.ariaLabel || it.getAttribute('aria-labelledby') || it.labels?.length || it.textContent.trim() || it.closest('.texts, .top')))
+            .map(it => it.outerHTML.slice(0, 80))""")
+        self.assertEqual(nameless, [])
+        twice = self.page.js("const all = [...document.querySelectorAll('[id]')].map(it => it.id); return all.filter((it, k) => all.indexOf(it) !== k)")
+        self.assertEqual(twice, [])
+        unknown = self.page.js("""return ['aria-describedby', 'aria-labelledby']
+            .flatMap(name => [...document.querySelectorAll(`[${name}]`)].flatMap(it => it.getAttribute(name).split(' ')))
+            .filter(id => !document.getElementById(id))""")
+        self.assertEqual(unknown, [])
+        self.assertEqual(self.page.js("return document.getElementById('rate').getAttribute('aria-valuetext')"), "33 steps per second")
+        self.page.js("document.activeElement.blur(); scrollTo(0, 0)")
+        seen = []
+        for _ in range(60):
+            self.page.press(Keys.TAB)
+            seen.append(self.page.js("const it = document.activeElement; return it.id || it.dataset.set || it.ariaLabel || it.className"))
+        for name in "play", "back", "one", "again", "follow", "rate", "model", "p", "density", "cars", "sweep", "savefigure", "link", "example":
+            self.assertIn(name, seen)
+
+    def test_what_a_screen_reader_says(self):
+        self.pause()
+        controls = self.page.js("""return [...document.querySelectorAll('input, select, button, summary, canvas, #diagram, [role=textbox], [role=region]')]
+            .filter(it => it.checkVisibility() && it.type !== 'file')""")
+        self.assertGreater(len(controls), 40)
+        for element in controls:
+            role, name = self.page.spoken(element)
+            self.assertTrue(name.strip() and role not in ("none", "generic"), (role, name))
+
+    def test_colours_are_safe_for_the_colour_blind(self):
+        colours = self.page.js("return [0, 1, 2, 3, 4, 5].map(v => lab.colour(v / 5))")
+        for kind, sight in SIGHTS.items():
+            seen = [lightness_and_hue(colour, sight) for colour in colours]
+            least = min(math.dist(one, other) for k, one in enumerate(seen) for other in seen[:k])
+            self.assertGreater(least, 15, kind)
+            self.assertGreater(math.dist(seen[0], seen[-1]), 40, kind)
+
+    def test_numbers_as_a_table(self):
+        self.run_to(30)
+        self.page.js("document.getElementById('numbers').open = true")
+        self.hold(lambda: self.page.js("return document.querySelectorAll('#rows tr').length") == 10)
+        row = Table.read(Row, ask(["series"], self.page.job()))[self.page.step() - 1]
+        wanted = f"{row.step}{row.flow:.4f}{row.speed:.3f}{row.stopped_share:.3f}"
+        self.has(wanted, lambda: self.page.js("return document.querySelector('#rows tr').textContent"))
+        self.hold(lambda: f"Step {row.step}: flow" in self.page.text("silent"))
+
+    def test_a_narrow_page_without_motion(self):
+        page = Window(self.browser, self.lab.address, 400, 800, calm=True)
+        try:
+            self.assertTrue(page.holds(lambda: page.js("return window.lab?.player.step >= 0")))
+            # The clock of the page goes on by a second, and the next snapshots are there: with motion it would show them.
+            page.js("const {player} = lab; if (!player.run) player.begin(player.open); player.paused = Infinity")  # the run does not rest
+            self.hold(lambda: page.js("return lab.player.run.waiting.length > 9"))
+            later = "const {player} = lab; for (let k = 1; k <= 10; k++) player.tick(player.before + 100)"
+            page.js(later)
+            self.assertEqual((page.step(), page.text("play")), (0, "Play"))
+            page.click("play")
+            self.hold(lambda: page.step() > 3)
+            wide, inner = page.js("return [document.documentElement.scrollWidth, innerWidth]")
+            self.assertLessEqual(wide, inner)
+            self.assertEqual(page.errors(), [])
         finally:
             page.close()
 

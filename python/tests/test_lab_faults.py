@@ -6,22 +6,18 @@ import zlib
 
 import trlab
 from tests.browsers import Keys, missing
-from tests.lab_pages import OnPage, snapshots
-from trlab import Job, Nasch, Rickert
+from tests.lab_pages import OnPage, job_of, snapshots
+from trlab import Nasch, Rickert
 
 SPEEDS = "0123456789abcdefghijklmnopqrstuvwxyz"
 
 
 class Faults(OnPage):
-    def job_of(self, **changes):
-        what = {"limit": 5, "length": 1000, "cars": 150, "start": trlab.random_cells(1), "rule": Nasch(0.25), "steps": 5000, "key": 1}
-        return Job(**{**what, **changes}).text()
-
     # Long roads
 
     def long(self, **changes):
         """Open a long road and run some of its steps; its lanes at the step that is shown."""
-        self.open(self.job_of(steps=400, **changes))
+        self.open(job_of(steps=400, **changes))
         self.hold(lambda: self.page.js("return lab.job.length === arguments[0] && lab.job.cars === arguments[1]", changes["length"], changes["cars"]))
         self.run_to(40)
         found = snapshots(self.page.job())
@@ -74,7 +70,7 @@ class Faults(OnPage):
                     wanted = [self.colour_of(it, colours) for it in self.pixels(cells, wide)]
                     self.near(self.dots("band", wide, 10 if lanes == 1 else 5 + 11 * lane), wanted)
                 self.assertIn("Colours of pixels are mean speeds", self.page.text("mixed"))
-        self.open(self.job_of(length=100, cars=30))
+        self.open(job_of(length=100, cars=30))
         self.hold(lambda: self.page.js("return lab.job.length === 100 && lab.player.step >= 0") and self.page.text("mixed") == "")
 
     def test_every_car_of_the_enlarged_part_is_drawn(self):
@@ -114,7 +110,7 @@ class Faults(OnPage):
         self.pause()
         self.page.click("again")
         self.type("#p", "1/3")
-        self.has_job(self.job_of(rule=Nasch("1/3")))
+        self.has_job(job_of(rule=Nasch("1/3")))
         self.has(["0.3333333333", False, "", "alert"], lambda: self.box("#p"))
         for selector, text, wanted in (
             (".lead [data-set=p]", "1/4", {}), ("#p", " 5e-1", {"rule": Nasch(0.5)}), ("#p", ".25", {}), ("#density", "1/3", {"cars": 333}),
@@ -122,7 +118,7 @@ class Faults(OnPage):
         ):
             with self.subTest(selector=selector, text=text):
                 self.type(selector, text)
-                self.has_job(self.job_of(**wanted))
+                self.has_job(job_of(**wanted))
                 self.assertFalse(self.box(selector)[1])
         self.has(["0.15", "300"], lambda: [self.page.value("density"), self.page.value("cars")])
 
@@ -211,21 +207,21 @@ class Faults(OnPage):
     def test_the_message_about_an_address_stays(self):
         for fragment, said in (
             ("#job=%%%", "The job in this address is damaged and cannot be read."), ("#job=abcd", "The job in this address is damaged"),
-            (self.link(self.job_of().replace("limit 5", "limit 99")), "The job in this address is rejected at line 3."),
+            (self.link(job_of().replace("limit 5", "limit 99")), "The job in this address is rejected at line 3."),
             (self.link("a" * 64 * 2**20), "The job in this address is too long: at most 4194304 bytes are allowed."),
         ):
             with self.subTest(said=said):
                 self.start_at(fragment)
-                self.has_job(self.job_of())
+                self.has_job(job_of())
                 shown = self.page.text("fault")
                 self.assertTrue(shown.startswith(said), shown)
                 self.assertTrue(shown.endswith("The page plays its first job instead."), shown)
         self.page.set("density", "0.2")
-        self.has_job(self.job_of(cars=200))
+        self.has_job(job_of(cars=200))
         self.hold(lambda: self.page.text("fault") == "")
         self.page.js("location.hash = '#job=!'")
         self.hold(lambda: self.page.text("fault").endswith("The page still plays the job that it had before."))
-        self.has_job(self.job_of(cars=200))
+        self.has_job(job_of(cars=200))
 
     # Playback
 

@@ -1,43 +1,28 @@
-"""The page of trlab-lab as one file that contains the program: the tests of the page that need no server, and how a run ends there.
-
-The program is that of the file that the environment variable TRLAB_WASM names, or of release/trlab-lab.html. The page around it is
-always that of the sources here."""
+"""The page of trlab-lab as one file that contains the program: the tests of the page that need no server, and how a run ends there."""
 import base64
 import gzip
 import hashlib
-import os
 import re
-import tempfile
 import unittest
 from pathlib import Path
 from unittest import mock
 
 from tests import stub_modules
 from tests.browsers import Window, missing
-from tests.lab_pages import SHOTS, OnPage, snapshots
-from tests.test_lab_page import Pages
+from tests.lab_files import PROGRAM, File, InFile, lacking
+from tests.lab_pages import SHOTS, snapshots
+from tests.test_lab_access import ForEveryone
+from tests.test_lab_controls import Controls
+from tests.test_lab_diagram import Diagram
+from tests.test_lab_inputs import Inputs
+from tests.test_lab_page import Playing
 from trlab._runs.calls import ask
 from trlab.lab import server
 from trlab.lab.whole import whole_page
 
-RELEASED = Path(__file__).resolve().parents[2] / "release" / "trlab-lab.html"
-PROGRAM = re.compile(r'<script type="text/plain" id="program">([^<]*)<')
-
-
-def module():
-    """The program in WebAssembly, or None."""
-    if named := os.environ.get("TRLAB_WASM"):
-        return Path(named).read_bytes()
-    found = PROGRAM.search(RELEASED.read_text("utf-8")) if RELEASED.is_file() else None
-    return gzip.decompress(base64.b64decode(found[1])) if found else None
-
-
-MODULE = module()
-WITHOUT = "" if MODULE else "there is no program in WebAssembly: release/trlab-lab.html, or the file that TRLAB_WASM names"
-# Tests about the server and its processes, about rules in Python, and those that import a script of the server.
+# Tests of the server's processes, those of rules in Python, and one that imports a script of the server.
 OF_THE_SERVER = (
-    "test_an_interrupted_run", "test_two_pages", "test_reloading", "test_another_origin", "test_a_paused_run_ends_and_goes_on", "test_sliders",
-    "test_a_rule_in_python", "test_rules_in_python_for_two_lanes", "test_a_change_in_words",
+    "test_a_paused_run_ends_and_goes_on", "test_sliders", "test_a_rule_in_python", "test_rules_in_python_for_two_lanes", "test_a_change_in_words",
 )
 # Tests in which the program computes most. The served page has all tests in both browsers, and the file has them in Chromium, so that
 # in Firefox these suffice for the file.
@@ -61,36 +46,8 @@ window.Worker.prototype.terminate = function() {
 }"""
 
 
-class File:
-    """A page in a file, as the tests of the page know the server."""
-
-    def __init__(self, test, text):
-        folder = tempfile.TemporaryDirectory()
-        test.addClassCleanup(folder.cleanup)
-        path = Path(folder.name) / "trlab-lab.html"
-        path.write_text(text, "utf-8")
-        self.address = path.as_uri()
-
-
-class InFile(OnPage):
-    """A page in a file, in one browser."""
-
-    @classmethod
-    def text(cls):
-        return whole_page(MODULE, server.examples())
-
-    @classmethod
-    def setUpClass(cls):
-        cls.lab = File(cls, cls.text())
-        cls.page = Window(cls.browser, cls.lab.address)
-        cls.addClassCleanup(cls.page.close)
-
-
-class FilePages(InFile, Pages):
+class FilePages(InFile, Playing, Controls, Inputs, Diagram, ForEveryone):
     """The tests of the page, but not those of the server."""
-
-    def examples(self):
-        return {name: text for name, text in server.examples().items() if not name.endswith(".py")}
 
     def test_a_paused_run_ends_and_goes_on_in_its_place(self):
         self.page.js(WATCH)
@@ -155,7 +112,7 @@ class WithoutWaiting(InFile):
     def test_a_table(self):
         self.page.set("stepcount", 12000)
         self.hold(lambda: "steps 12000\n" in self.page.job() and not self.page.js("return lab.isWriting"))
-        self.assertEqual(Pages.saved(self, "savetable"), ask(["series"], self.page.job()))
+        self.assertEqual(Diagram.saved(self, "savetable"), ask(["series"], self.page.job()))
 
 
 class Ends:
@@ -189,27 +146,27 @@ class EndsInFirefox(Ends, unittest.TestCase):
     browser = "firefox"
 
 
-@unittest.skipIf(missing("chromium") or WITHOUT, missing("chromium") or WITHOUT)
+@unittest.skipIf(lacking("chromium"), lacking("chromium"))
 class FileInChromium(FilePages, unittest.TestCase):
     browser = "chromium"
 
 
-@unittest.skipIf(missing("firefox") or WITHOUT, missing("firefox") or WITHOUT)
+@unittest.skipIf(lacking("firefox"), lacking("firefox"))
 class FileInFirefox(FilePages, unittest.TestCase):
     browser = "firefox"
 
 
-for name in dir(Pages):
-    if name.startswith("test_") and name not in OF_THE_PROGRAM:
+for name in dir(FilePages):
+    if name.startswith("test_") and name not in vars(FilePages) and name not in OF_THE_PROGRAM:
         setattr(FileInFirefox, name, None)
 
 
-@unittest.skipIf(missing("chromium") or WITHOUT, missing("chromium") or WITHOUT)
+@unittest.skipIf(lacking("chromium"), lacking("chromium"))
 class WithoutWaitingInChromium(WithoutWaiting, unittest.TestCase):
     browser = "chromium"
 
 
-@unittest.skipIf(missing("firefox") or WITHOUT, missing("firefox") or WITHOUT)
+@unittest.skipIf(lacking("firefox"), lacking("firefox"))
 class WithoutWaitingInFirefox(WithoutWaiting, unittest.TestCase):
     browser = "firefox"
 

@@ -6,7 +6,6 @@ import trlab
 from tests.browsers import Keys, missing
 from tests.lab_pages import OnPage
 from trlab import Job, Nasch, Own, Rickert, SlowToStart, Snapshots
-from trlab.lab import server
 from trlab._runs.calls import ask
 from trlab._results.written import snapshots_in
 
@@ -61,7 +60,7 @@ class Teaching(OnPage):
 
     def test_every_example_has_a_name_and_a_sentence(self):
         listed = self.page.js("return [...document.querySelectorAll('#example option')].slice(1).map(it => [it.value, it.textContent, it.parentNode.label])")
-        self.assertCountEqual([value for value, _, _ in listed if "." in value], server.examples())
+        self.assertCountEqual([value for value, _, _ in listed if "." in value], self.examples())
         for value, name, group in listed:
             self.assertTrue(group, value)
             self.assertNotIn(".", name)

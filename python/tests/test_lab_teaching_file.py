@@ -1,34 +1,34 @@
-"""Teaching with the page as one file that contains the program: sweeps, films and comparisons without a server."""
+"""Teaching with the page as one file that contains the program: models in words, sweeps, films and comparisons."""
 import unittest
 
-from tests.browsers import Window, missing
+from tests.lab_files import InFile, lacking
 from tests.test_lab_compare import Compared
-from tests.test_lab_file import MODULE, WITHOUT, File
 from tests.test_lab_films import Films
 from tests.test_lab_sweeps import SweepsOfThePage
-from trlab.lab import server
-from trlab.lab.whole import whole_page
+from tests.test_lab_teaching import Teaching
+
+# These import a script of the server, or look at its processes.
+OF_THE_SERVER = (
+    "test_a_row_is_that_of_a_sweep", "test_a_film_is_that_of_the_command", "test_a_paused_run_ends_and_goes_on", "test_why_a_car_brakes",
+    "test_what_is_known_of_a_rule_of_ones_own",
+)
 
 
-class InFile(SweepsOfThePage, Films, Compared):
-    """The tests that need neither the server nor its scripts, in one browser."""
-
-    test_a_row_is_that_of_a_sweep = test_a_film_is_that_of_the_command = test_a_paused_run_ends_and_goes_on = None
-
-    @classmethod
-    def setUpClass(cls):
-        cls.lab = File(cls, whole_page(MODULE, server.examples()))
-        cls.page = Window(cls.browser, cls.lab.address)
-        cls.addClassCleanup(cls.page.close)
+class TeachingFile(InFile, Teaching, SweepsOfThePage, Films, Compared):
+    """The tests, in one browser."""
 
 
-@unittest.skipIf(WITHOUT or missing("chromium"), WITHOUT or missing("chromium"))
-class InChromium(InFile, unittest.TestCase):
+for name in OF_THE_SERVER:
+    setattr(TeachingFile, name, None)
+
+
+@unittest.skipIf(lacking("chromium"), lacking("chromium"))
+class InChromium(TeachingFile, unittest.TestCase):
     browser = "chromium"
 
 
-@unittest.skipIf(WITHOUT or missing("firefox"), WITHOUT or missing("firefox"))
-class InFirefox(InFile, unittest.TestCase):
+@unittest.skipIf(lacking("firefox"), lacking("firefox"))
+class InFirefox(TeachingFile, unittest.TestCase):
     browser = "firefox"
 
 

@@ -18,6 +18,7 @@ from unittest import mock
 import trlab
 from tests.processes import PYTHON, calls, logging_program
 from tests.test_arrays import needs
+from tests.waiting import LIMIT
 from trlab import ProgramError, Job, Nasch, RejectedInputError, Rickert, Sweep
 
 SHAPE = Sweep(limit=5, length=100, rule=Nasch(0.25), warm=10, measure=20, cars=[10, 20])
@@ -58,7 +59,7 @@ class Results(unittest.TestCase):
         self.assertEqual(next(found), (0, 0))
 
     def test_the_number_of_calls_at_once(self):
-        lock, running, most, two = threading.Lock(), [], [], threading.Barrier(2, timeout=300)
+        lock, running, most, two = threading.Lock(), [], [], threading.Barrier(2, timeout=LIMIT)
 
         def call(number):
             with lock:
@@ -174,7 +175,7 @@ class Executors(unittest.TestCase):
             self.skipTest("mpiexec is not installed")
         script = PYTHON / "tests" / "with_mpi.py"
         words = ["mpiexec", "--allow-run-as-root", "--oversubscribe", "-n", "3", sys.executable, "-m", "mpi4py.futures"]
-        ran = subprocess.run([*words, str(script)], stdout=subprocess.PIPE, stderr=subprocess.STDOUT, text=True, timeout=100)
+        ran = subprocess.run([*words, str(script)], stdout=subprocess.PIPE, stderr=subprocess.STDOUT, text=True, timeout=LIMIT)
         self.assertEqual((ran.returncode, ran.stdout.strip()[-2:]), (0, "OK"), ran.stdout)
 
 

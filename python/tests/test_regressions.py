@@ -14,12 +14,12 @@ import statistics
 import subprocess
 import sys
 import tempfile
-import time
 import unittest
 import warnings
 from pathlib import Path
 
 import trlab
+from tests.waiting import LIMIT, first_of, holds
 from trlab import Grid, Job, Nasch, Own, Rickert, Sweep
 
 try:
@@ -280,21 +280,14 @@ class Runs(unittest.TestCase):
         place = {**os.environ, "PYTHONPATH": str(PACKAGE), "TRLAB": program}
         study = subprocess.Popen([sys.executable, "-c", script], env=place, stdout=subprocess.PIPE, text=True)
         self.addCleanup(study.stdout.close)
-        number = self.wait_for(lambda: (self.place / mark).exists() and (self.place / mark).read_text().strip())
+        number = first_of(lambda: (self.place / mark).exists() and (self.place / mark).read_text().strip() or None)
         study.send_signal(signal.SIGTERM)
         study.wait()
         try:
-            self.assertTrue(self.wait_for(lambda: not Path(f"/proc/{number}").exists(), seconds=5))
+            self.assertTrue(holds(lambda: not Path(f"/proc/{number}").exists()))
         finally:
             with contextlib.suppress(ProcessLookupError):
                 os.kill(int(number), signal.SIGKILL)
-
-    def wait_for(self, condition, seconds=60):
-        for _ in range(seconds * 20):
-            if found := condition():
-                return found
-            time.sleep(0.05)
-        return None
 
     def test_a_locale_without_utf_8(self):
         script = (
@@ -314,7 +307,7 @@ class Runs(unittest.TestCase):
         entry = next(file for file in cache.iterdir() if not file.name.startswith("."))
         entry.unlink()
         os.mkfifo(entry)
-        self.assertEqual(python(script, str(cache), before=["timeout", "60"]), "10\n")
+        self.assertEqual(python(script, str(cache), before=["timeout", str(LIMIT)]), "10\n")
 
     def test_a_cut_download(self):
         package = self.place / "package"
@@ -331,7 +324,7 @@ class Runs(unittest.TestCase):
 
     def test_a_figure_of_a_run(self):
         """diagram.awk rejects a text that is not a table."""
-        line = ["timeout", "20", "awk", "-f", str(PACKAGE.parent / "docs/diagram.awk")]
+        line = ["timeout", str(LIMIT), "awk", "-f", str(PACKAGE.parent / "docs/diagram.awk")]
         drawn = subprocess.run(line, input=job().run().text().encode(), capture_output=True)
         self.assertEqual((drawn.returncode, drawn.stdout), (1, b""))
 

@@ -3,7 +3,6 @@ import os
 import signal
 import stat
 import tempfile
-import time
 import unittest
 import warnings
 from dataclasses import replace
@@ -11,10 +10,12 @@ from pathlib import Path
 from unittest import mock
 
 from tests.by_pictures import windows
+from tests.waiting import holds
 from trlab import Job, Nasch, Own, ParameterError, Point, ProgramError, RejectedInputError, RenamedError, Rickert, SlowToStart
 from trlab import Snapshots, Sweep, Table, Window
 from trlab import check, even, find_program, jammed, moving, random_cells, read_tables, run_all, write_inputs
 from trlab._runs.calls import ask
+from trlab._runs.systems import is_running
 
 EXAMPLES = Path(__file__).resolve().parents[2] / "examples"
 HALF = "motion\nget r0, gap\ndiv r0, r0, 2\nget r1, limit\nmin r0, r0, r1\ngo r0\n"
@@ -186,29 +187,22 @@ class Refusals(unittest.TestCase):
                 Job(limit=5, length=1, cars=0, rule=Nasch(0), steps=1).run()
         self.assertEqual((caught.exception.status, str(caught.exception)), (4, "trlab ended with status 4: full"))
 
-
     def test_a_stopped_run_leaves_no_process(self):
-        with tempfile.TemporaryDirectory() as folder:
-            mark = Path(folder) / "mark"
-            lines = f'trap "" PIPE; echo step 0; echo .; while sleep 0.1; do date > {mark}; done\n'
-            with stand_in(folder, lines):
-                self._stop_after_a_while(Job(limit=5, length=1, cars=0, rule=Nasch(0), steps=1).snapshots())
-            mark.unlink(missing_ok=True)
-            time.sleep(0.5)
-            self.assertFalse(mark.exists())
-
-    def _stop_after_a_while(self, snapshots):
-        """Reads with an alarm that interrupts, as Ctrl-C does."""
+        """The program interrupts the reader, as Ctrl-C does, when a file says that it has read the first snapshot."""
         def interrupt(*_):
             raise KeyboardInterrupt
 
-        before = signal.signal(signal.SIGALRM, interrupt)
-        signal.setitimer(signal.ITIMER_REAL, 0.5)
-        try:
-            self.assertRaises(KeyboardInterrupt, list, snapshots)
-        finally:
-            signal.setitimer(signal.ITIMER_REAL, 0)
-            signal.signal(signal.SIGALRM, before)
+        self.addCleanup(signal.signal, signal.SIGALRM, signal.signal(signal.SIGALRM, interrupt))
+        with tempfile.TemporaryDirectory() as folder:
+            number, is_read = Path(folder) / "number", Path(folder) / "is_read"
+            lines = f"echo $$ > {number}; echo step 0; echo .; echo step 1; until [ -e {is_read} ]; do sleep 0.1; done; kill -ALRM $PPID; exec sleep 1000\n"
+            with stand_in(folder, f'trap "" PIPE; {lines}'):
+                snapshots = Job(limit=5, length=1, cars=0, rule=Nasch(0), steps=1).snapshots()
+                next(snapshots)
+                with self.assertRaises(KeyboardInterrupt):
+                    is_read.touch()
+                    next(snapshots)
+            self.assertTrue(holds(lambda: not is_running(int(number.read_text()))))
 
 
 class Many(unittest.TestCase):

@@ -15,6 +15,7 @@ from unittest import mock
 
 import trlab
 from tests.test_arrays import needs
+from tests.waiting import LIMIT
 from trlab import Job, Nasch, Own, Snapshot, Snapshots, Point, RejectedInputError, RenamedError, Rickert, SlowToStart, Sweep, Table, Window
 from trlab import InitialState, ParameterError, ProgramError, check, explain, find_program, jammed, random_cells, version
 from trlab._runs.calls import ask
@@ -57,7 +58,7 @@ class Values(unittest.TestCase):
                 list(processes.map(Job.run, [JOB, rejected]))
         self.assertEqual((caught.exception.line, caught.exception.cause), (5, 4))
         with Pool(1) as processes:
-            self.assertRaises(RejectedInputError, processes.map_async(Job.run, [JOB, rejected]).get, timeout=60)
+            self.assertRaises(RejectedInputError, processes.map_async(Job.run, [JOB, rejected]).get, timeout=LIMIT)
 
     def test_parts_and_sums_keep_their_type(self):
         table, snapshots = SWEEP.sweep(), JOB.run()

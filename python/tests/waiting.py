@@ -1,16 +1,18 @@
 """Waiting for a condition. No test depends on elapsed time: the only limit is for a call that hangs."""
 import time
 
-LIMIT = 300  # seconds, because other work may slow everything down
+LIMIT = 900  # seconds, because other work may slow everything down
+SHORTEST, LONGEST = 0.02, 0.3  # between two looks, in seconds: a slow machine is not kept busy with them
 
 
 def holds(condition):
     """Whether a condition comes true before the limit."""
-    end = time.monotonic() + LIMIT
+    end, rest = time.monotonic() + LIMIT, SHORTEST
     while not condition():
         if time.monotonic() > end:
             return False
-        time.sleep(0.02)
+        time.sleep(rest)
+        rest = min(1.2 * rest, LONGEST)
     return True
 
 

@@ -14,11 +14,12 @@ from collections.abc import Generator, Iterator
 from typing import IO, TYPE_CHECKING, NamedTuple, Optional
 
 from .._errors import ProgramError, ProgramNotFoundError
+from .children import Child
 from .location import find_program
 from .node import command_of
 from .ownership import remove_owned
 from .requests import Length, Request
-from .signals import Ending, exit_status, need_exit_statuses
+from .signals import Ending, need_exit_statuses
 from .systems import after_fork
 
 if TYPE_CHECKING:
@@ -41,16 +42,16 @@ class Processes:
 
     def __init__(self, outer: Optional[Processes] = None, is_stopped: bool = False) -> None:
         self.is_stopped = is_stopped
-        self._running: set[subprocess.Popen[bytes]] = set()
+        self._running: set[Child] = set()
         # A signal may come while the main thread holds it.
         self._lock, self._outer = threading.RLock(), outer
 
-    def start(self, request: Request, source: IO[bytes], said: IO[bytes]) -> subprocess.Popen[bytes]:
+    def start(self, request: Request, source: IO[bytes], said: IO[bytes]) -> Child:
         """A new process, which is killed if all were stopped before."""
         program = find_program()
         with self._lock:
             try:
-                process = subprocess.Popen([*command_of(program), *request.words], stdin=source, stdout=subprocess.PIPE, stderr=said)
+                process = Child([*command_of(program), *request.words], stdin=source, stdout=subprocess.PIPE, stderr=said)
             except OSError as fault:
                 if fault.errno in _NOT_FOUND:
                     raise ProgramNotFoundError(f"{program} cannot be run: {fault.strerror}") from None
@@ -58,7 +59,7 @@ class Processes:
             self._add(process)
         return process
 
-    def _add(self, process: subprocess.Popen[bytes]) -> None:
+    def _add(self, process: Child) -> None:
         with self._lock:
             self._running.add(process)
             if self.is_stopped:
@@ -66,7 +67,7 @@ class Processes:
         if self._outer is not None:
             self._outer._add(process)
 
-    def remove(self, process: subprocess.Popen[bytes]) -> None:
+    def remove(self, process: Child) -> None:
         with self._lock:
             self._running.discard(process)
         if self._outer is not None:
@@ -164,7 +165,7 @@ def run(request: Request) -> Generator[bytes, None, int]:
             try:
                 rejection = yield from _blocks(process.stdout, request, length)
                 process.stdout.close()
-                status = exit_status(process)
+                status = process.exit_status()
             except BaseException:
                 # Also if the caller is interrupted or wants no more: the program does not continue without a reader.
                 process.kill()

@@ -3,7 +3,6 @@ from __future__ import annotations
 
 import os
 import signal
-import subprocess
 import threading
 from contextlib import contextmanager
 from collections.abc import Callable, Iterator
@@ -11,7 +10,8 @@ from types import FrameType
 from typing import Optional
 
 from .._errors import ExitStatusError
-from .systems import ENDING_SIGNALS, after_fork, can_ask_for_ends, ignores_ends_of_children
+from .systems import ENDING_SIGNALS, after_fork, ignores_ends_of_children
+
 
 def need_exit_statuses() -> None:
     """Raises `ExitStatusError` if SIGCHLD is ignored: Linux then forgets how a program ended, and Python calls it success."""
@@ -20,25 +20,6 @@ def need_exit_statuses() -> None:
             "SIGCHLD is ignored, possibly since before Python started, so that a failed run would go unnoticed: "
             "call signal.signal(signal.SIGCHLD, signal.SIG_DFL) first"
         )
-
-
-def exit_status(process: subprocess.Popen[bytes]) -> int:
-    """Waits until a process has ended, and returns its exit status, or minus the signal that ended it. Raises `ExitStatusError`
-    if it is lost, which only systems with `os.waitid` report."""
-    if not can_ask_for_ends():
-        return process.wait()
-    try:
-        ended = os.waitid(os.P_PID, process.pid, os.WEXITED | os.WNOWAIT)
-    except ChildProcessError:
-        # `Popen.kill` in another thread takes the status first.
-        if process.returncode is not None:
-            return process.returncode
-        raise ExitStatusError(
-            "the exit status of trlab is lost, because something else in this process waits for all child processes: "
-            "run trlab in another process"
-        ) from None
-    assert ended is not None
-    return ended.si_status if ended.si_code == os.CLD_EXITED else -ended.si_status
 
 
 class Ending:

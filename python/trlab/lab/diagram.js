@@ -94,7 +94,7 @@ export function diagramOf(what) {
     known ?? "", ...limits.map(triangle), ...drawAxes({ up, ground, most, top, exact }),
     tag("path", { d: `M${across(density)} ${ground}V${up(Math.min(limit * density, 1 - density))}`, stroke: ACCENT, "stroke-dasharray": "1 3" }),
     ...drawMarks(what, path, up), ...legend,
-    flow === null ? "" : tag("circle", { cx: across(density), cy: up(flow), r: 5, fill: "#fff", stroke: ACCENT, "stroke-width": 2 }),
+    flow === null ? "" : tag("circle", { cx: across(density).toFixed(1), cy: up(flow).toFixed(1), r: 5, fill: "#fff", stroke: ACCENT, "stroke-width": 2 }),
   ].join("\n");
 }
 export function diagramFile(what) {

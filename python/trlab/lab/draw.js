@@ -1,9 +1,10 @@
 // Drawings of a road. Each draws with a pen, which is the context of a canvas or an `SvgPen`, and a view:
-// { film, step, scene, share, lens, car }. `share` is the part of the way from the step before, 0 to 1.
+// { film, step, share, lens, car, pixels }. `share` is the part of the way from the step before, 0 to 1, and `pixels` draws long roads on
+// a canvas; without it they are drawn as boxes.
 
-import { EMPTY, clamp, speedOf, upTo } from "./job.js";
+import { clamp, upTo } from "./job.js";
 import { colour } from "./colours.js";
-import { dotOf, isTight, paintColumns, styleOf, sumsOf } from "./columns.js";
+import { Columns, dotOf, isTight, styleOf, sumsOf } from "./columns.js";
 import { mostOf, unitOf } from "./units.js";
 
 export const ACCENT = "#1d5f9e";
@@ -84,6 +85,13 @@ function paintCars(pen, { limit }, call, draw) {
     call(v, (x, lane) => draw(x, lane));
   }
 }
+/** Draw the pixels of a long road that have cars: `draw(dot, lane)` draws one with the pen's colour. */
+function paintColumns(pen, { film, step, share }, dots, draw) {
+  new Columns(film, step, dots).forEach(share, (dot, lane, style) => {
+    pen.fillStyle = style;
+    draw(dot, lane);
+  });
+}
 /** The place and the lane of the followed car, as `marksOf` gives them. */
 export function carNow({ film, share, car, step }) {
   if (!car || car.step !== step) return null;
@@ -93,10 +101,13 @@ export function carNow({ film, share, car, step }) {
 
 // The ring
 
-const ringOf = ({ film }, size) => ({ middle: size / 2, outer: size / 2 - 4, tall: film.lanes === 2 ? 13 : 18 });
+function ringOf({ film }, size) {
+  const tall = film.lanes === 2 ? 13 : 18;
+  return { middle: size / 2, outer: size / 2 - 4, tall, depth: lane => 2.5 + lane * (tall + 5) };
+}
 /** Cars are boxes on a turned pen, which is much faster than lines in Firefox. */
 export function drawRing(pen, size, view) {
-  const { film } = view, { middle, outer, tall } = ringOf(view, size), turn = turned / film.length;
+  const { film } = view, ring = ringOf(view, size), { middle, outer, tall, depth } = ring, turn = turned / film.length;
   const thick = clamp(turn * (outer - 12) * 0.72, 1.7, 12), dots = Math.round(outer * turned), car = carNow(view);
   Object.assign(pen, { strokeStyle: LINE, lineWidth: 1 });
   for (const k of upTo(film.lanes + 1)) {
@@ -109,17 +120,18 @@ export function drawRing(pen, size, view) {
   const turnTo = (to, wide, lane, more) => {
     pen.rotate(to - angle);
     angle = to;
-    pen.fillRect(-wide / 2 - more, 2.5 + lane * (tall + 5) - outer - more, wide + 2 * more, tall + 2 * more);
+    pen.fillRect(-wide / 2 - more, depth(lane) - outer - more, wide + 2 * more, tall + 2 * more);
   };
   const box = (x, lane, more = 0) => turnTo((x + 0.5) * turn, thick, lane, more);
   pen.translate(middle, middle);
   const tight = isTight(film.length, dots);
-  if (tight) paintColumns(pen, view, dots, (dot, lane) => turnTo((dot + 0.5) / dots * turned, 1.3, lane, 0));
+  if (tight && view.pixels) view.pixels.ring.draw(pen, view, dots, ring);
+  else if (tight) paintColumns(pen, view, dots, (dot, lane) => turnTo((dot + 0.5) / dots * turned, 1.3, lane, 0));
   for (const [style, more] of car ? [["#fff", 3], [INK, 2]] : []) {
     pen.fillStyle = style;
     box(...car, more);
   }
-  if (!tight) paintCars(pen, film, marksOf(view, view.scene), box);
+  if (!tight) paintCars(pen, film, marksOf(view, film.whole(view.step)), box);
 }
 /** The direction of the traffic: clockwise. */
 function drawArrow(pen, middle, radius) {
@@ -143,7 +155,7 @@ export function ringAt(view, size, x, y) {
 // The straight road: all of it, and below it a part of it that is drawn larger
 
 function drawRoad(pen, view, { top, tall, from, cells, width }) {
-  const { film, step, scene } = view, { length, lanes, limit } = film;
+  const { film, step } = view, { length, lanes, limit } = film;
   const scale = width / cells, wide = Math.max(1.4, scale * 0.78), between = tall > 14 ? 4 : 2, tight = isTight(cells, width);
   const box = (x, lane, more = 0) => {
     let place = (((x - from) % length) + length) % length;
@@ -154,12 +166,14 @@ function drawRoad(pen, view, { top, tall, from, cells, width }) {
   pen.fillStyle = LINE;
   for (const k of upTo(lanes + 1)) pen.fillRect(0, top + k * tall, width, 1);
   const dots = Math.round(width), car = carNow(view);
-  if (tight) paintColumns(pen, view, dots, (dot, lane) => pen.fillRect(dot / dots * width, top + lane * tall + between + 0.5, width / dots, tall - 2 * between));
+  const laneAt = lane => top + lane * tall + between + 0.5, high = tall - 2 * between;
+  if (tight && view.pixels) view.pixels.road.draw(pen, view, dots, lane => [0, laneAt(lane), width, high]);
+  else if (tight) paintColumns(pen, view, dots, (dot, lane) => pen.fillRect(dot / dots * width, laneAt(lane), width / dots, high));
   if (car) {
     pen.fillStyle = INK;
     box(...car, tall > 14 ? 3 : 2);
   }
-  if (!tight) paintCars(pen, film, marksOf(view, cells < length ? film.scene(step, Math.floor(from) - 1, cells + limit + 3) : scene), box);
+  if (!tight) paintCars(pen, film, marksOf(view, cells < length ? film.scene(step, Math.floor(from) - 1, cells + limit + 3) : film.whole(step)), box);
 }
 /** The places of both bands; a short road has only one. */
 function bandsOf({ film: { length, lanes }, lens }, width, height) {
@@ -294,13 +308,13 @@ function timeAxis(pen, view) {
 export const FIGURES = {
   ring(view) {
     const pen = new SvgPen();
-    drawRing(pen, 300, { ...view, share: 1 });
+    drawRing(pen, 300, { ...view, share: 1, pixels: null });
     pen.text(view.step, 150, 154, { "text-anchor": "middle", "font-size": 28 });
     return pen.image(300, 300, [8, 8, 8, 8]);
   },
   road(view) {
     const pen = new SvgPen();
-    drawBands(pen, 1000, 84, { ...view, share: 1 });
+    drawBands(pen, 1000, 84, { ...view, share: 1, pixels: null });
     return pen.image(1000, 84, [8, 8, 8, 8]);
   },
   spacetime(view) {

@@ -1,6 +1,8 @@
 // A run: its snapshots arrive as a stream, and the last ones are kept so that the page can step back.
 
-import { EMPTY, clamp, speedOf, upTo } from "./job.js";
+import { CARS, EMPTY, SPEEDS, clamp, speedOf, upTo } from "./job.js";
+
+const STOPPED = 48; // the byte `0`
 
 /** The bytes of a run's output before the snapshot of a step: `step N` and the lanes, each with its line end. */
 export function bytesBefore(step, { length, lanes }) {
@@ -64,11 +66,9 @@ export class Film {
     for (let lane = 0, k = 0; lane < lanes; lane++) {
       const before = shot.cars;
       for (const end = k + length; k < end; k++) {
-        if (cells[k] === EMPTY) continue;
-        const v = speedOf(cells[k]);
-        shot.cars++;
-        distance += v;
-        if (v === 0) stopped++;
+        shot.cars += CARS[cells[k]];
+        distance += SPEEDS[cells[k]];
+        if (cells[k] === STOPPED) stopped++;
       }
       shot.densities.push((shot.cars - before) / length);
     }
@@ -82,9 +82,28 @@ export class Film {
   /** Forget the snapshots after a step. */
   cutAfter(step) { this.shots.length = clamp(step - this.first + 1, 0, this.shots.length); }
 
-  /** The cars of a step by speed, of the whole road or of a part of it: their cell and lane, and the lane that they come from. Cars
-   * change lanes before they move, and only to an empty cell: so a car comes from the other lane if the cell it comes from was
-   * empty on its lane. */
+  /** The lane from which a car comes, if the cells of the step `before` are known. Cars change lanes before they move, and only to an
+   * empty cell: so it is the other lane if the cell that the car comes from was empty on its lane. */
+  origin(before, lane, cell, v) {
+    if (this.lanes === 1 || !before) return lane;
+    const from = cell < v ? cell - v + this.length : cell - v;
+    return before[lane * this.length + from] === EMPTY ? 1 - lane : lane;
+  }
+  /** The cars that have changed lanes in a step, as places in its cells; they are kept until another step is asked for. */
+  changed(step) {
+    const { cells } = this.of(step);
+    if (this.changes?.cells !== cells) this.changes = { cells, places: this.findChanged(cells, this.of(step - 1)?.cells) };
+    return this.changes.places;
+  }
+  findChanged(cells, before) {
+    const { length, lanes } = this, places = [];
+    if (lanes === 1 || !before) return places;
+    for (let lane = 0, k = 0; lane < lanes; lane++) {
+      for (let x = 0; x < length; x++, k++) if (cells[k] !== EMPTY && this.origin(before, lane, x, SPEEDS[cells[k]]) !== lane) places.push(k);
+    }
+    return places;
+  }
+  /** The cars of a step by speed, of the whole road or of a part of it: their cell and lane, and the lane that they come from. */
   scene(step, from = 0, part = this.length) {
     const { length, lanes, limit } = this, { cells } = this.of(step), before = this.of(step - 1)?.cells;
     const first = (from % length + length) % length, count = Math.min(part, length), starts = new Int32Array(limit + 2);
@@ -104,10 +123,16 @@ export class Film {
         const v = speedOf(sign), car = next[v]++;
         place[car] = x;
         lane[car] = on;
-        origin[car] = lanes === 2 && before && before[on * length + (x - v + length) % length] === EMPTY ? 1 - on : on;
+        origin[car] = this.origin(before, on, x, v);
       }
     }
     return { step, cars, starts, place, lane, origin };
+  }
+  /** All cars of a step, which are kept until another step is asked for. */
+  whole(step) {
+    const { cells } = this.of(step);
+    if (this.seen?.cells !== cells) this.seen = { cells, scene: this.scene(step) };
+    return this.seen.scene;
   }
 
   /** The same car at another step, or null if a snapshot in between is not kept. */

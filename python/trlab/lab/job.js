@@ -5,6 +5,9 @@ export const EMPTY = 46; // the byte `.`
 export const speedOf = sign => sign < 58 ? sign - 48 : sign - 87;
 export const clamp = (x, least, most) => Math.min(most, Math.max(least, x));
 export const upTo = count => Array.from({ length: count }, (_, k) => k);
+/** By the byte of a cell, its number of cars and their speed: sums of these need no branches, so that they are fast. */
+export const CARS = Uint8Array.from({ length: 256 }, (_, sign) => sign === EMPTY ? 0 : 1);
+export const SPEEDS = Uint8Array.from({ length: 256 }, (_, sign) => sign === EMPTY ? 0 : speedOf(sign));
 
 /** Call when no call has come for some milliseconds. */
 export function soon(wait, call) {

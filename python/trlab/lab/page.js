@@ -5,18 +5,19 @@ import { FIRST, clamp, roadFits, soon } from "./job.js";
 import { answer, exampleInputs, isAlone } from "./carrier.js";
 import { jobFile, sweepFile } from "./jobs.js";
 import { jobOf } from "./reading.js";
-import { exactCurve } from "./exact.js";
-import { MOST_BYTES, linkOf, textOfLink } from "./links.js";
+import { MOST_BYTES, textOfLink } from "./links.js";
 import { attempt, free, isKept, watch } from "./boxes.js";
 import { NumberError, numberOf, probabilityOf, seedOf } from "./numbers.js";
 import { bytesBefore } from "./film.js";
 import { colour } from "./colours.js";
 import { FIGURES, rowsOf } from "./draw.js";
-import { across, boxOf, diagramFile, diagramOf } from "./diagram.js";
+import { across } from "./diagram.js";
+import { Fundamental } from "./fundamental.js";
 import { Editor, explain, lineOf, messageOf } from "./editor.js";
+import { judgedProgram, judgedText, tellFacts } from "./verdicts.js";
 import { Comparison } from "./compare.js";
 import { disturbanceWords, disturbed } from "./disturbance.js";
-import { filmOf } from "./filming.js";
+import { copyLink, save, saveFilm, saveTable } from "./saving.js";
 import { tellModel } from "./models.js";
 import { listExamples, tellExample } from "./phenomena.js";
 import { units } from "./units.js";
@@ -27,11 +28,12 @@ import { PythonRules, WITHOUT_SERVER } from "./rules.js";
 const MAX_CELLS = 100000;
 /** The milliseconds for which changes are collected before they are run, for example those of a slider that moves. */
 const COLLECTING = 25;
-let job = structuredClone(FIRST), examples = {}, marks = [], means = null, table = "", drawn = 0;
+let job = structuredClone(FIRST), examples = {}, table = "";
 let since = Infinity; // the first step that changes, as long as the change is not run (-1: the road)
 const motion = new Editor("motion"), change = new Editor("change"), text = new Editor("text");
 let stays = false; // whether the message outlives the start of the next run
 const complain = fault => { $("fault").textContent = fault.message ?? fault; };
+const fundamental = new Fundamental(() => ({ job, rule: inForce() }));
 /** The rules in Python, whose programs the cars follow from the shown step on. */
 const python = new PythonRules(({ motion, change }, isNew) => {
   const rule = inForce(), found = { motion: motion ?? (rule.motion || examples["nasch.rule"]), change: change ?? (motion === null ? rule.change : "") };
@@ -41,18 +43,21 @@ const python = new PythonRules(({ motion, change }, isNew) => {
   } else if (rule.model !== "own" || found.motion !== rule.motion || found.change !== rule.change) changeRule({ model: "own", ...found });
 }, complain);
 const player = new Player({
-  shot: count,
+  shot: shot => fundamental.count(shot),
   rule: step => step < 0 ? undefined : ruleAt(step),
   keys: { b: brake, B: brake },
   moved(now) {
     if (inForce() !== shown) show();
-    if (now - drawn > 100 || !player.playing) drawDiagram(now);
+    fundamental.follow(now, !player.playing);
   },
-  over() { settle(); drawDiagram(); },
+  over() {
+    fundamental.settle();
+    fundamental.draw();
+  },
 }, complain);
 const comparison = new Comparison(player, complain);
 globalThis.lab = { // for the console and for tests
-  player, comparison, colour, python, open: (name, source) => load(name, source).catch(complain), get job() { return job; }, get marks() { return marks; }, get table() { return table; }, get isWriting() { return since < Infinity; },
+  player, comparison, colour, python, open: (name, source) => load(name, source).catch(complain), get job() { return job; }, get marks() { return fundamental.marks; }, get table() { return table; }, get isWriting() { return since < Infinity; },
   rows: () => rowsOf(player.view, $("spacetime").clientWidth, $("spacetime").clientHeight),
 };
 
@@ -65,27 +70,15 @@ function ruleAt(step) { return job.rules.findLast(rule => rule.at <= step) ?? jo
 
 /** Run a job file from the start, or on from a step. */
 function drive(source, step = -1) {
-  settle();
   const { length, lanes, steps } = job;
   const open = (from, signal) => answer(`run?skip=${bytesBefore(from, { length, lanes })}`, source, signal);
-  means = { from: Math.max(0, step) + Math.min(200, steps >> 2), sum: 0, steps: 0, limit: job.limit, length, lanes, density: job.cars / length / lanes };
+  fundamental.begin(job, step);
   since = Infinity;
   if (!stays) complain("");
   stays = false;
   if (step < 0) player.load(open, job);
   else player.resume(open, steps, step);
   comparison.follow(job);
-}
-function count(shot) {
-  if (!means || shot.step <= means.from) return;
-  Object.assign(means, { from: shot.step, sum: means.sum + shot.flow, steps: means.steps + 1 });
-}
-/** The last run becomes a point of the fundamental diagram: its flow, averaged without the first 200 steps. */
-function settle() {
-  const { limit, length, lanes, density, sum, steps } = means ?? {};
-  if (steps >= 10) marks.push({ limit, length, lanes, points: [{ density, flow: sum / steps }] });
-  marks.splice(0, marks.length - 200);
-  means = null;
 }
 /** A control of the road has changed: start again, with the rule in force as the first one. */
 function begin() {
@@ -206,45 +199,18 @@ function show() {
   for (const [id, place] of own ? [["motion", motion], ["change", change]] : []) {
     if (place.busy || place.value === rule[id]) continue;
     place.value = rule[id];
-    judgeProgram(id, place);
+    judgedProgram(id, place, complain);
   }
-  drawDiagram();
+  fundamental.draw();
 }
 
-// The fundamental diagram
+// Sweeps
 
-let exact = { words: "", curve: null };
-/** The exact curve of the road and the rule, made again if they have changed; null if it is not known, or if the rule is not one. */
-function exactNow() {
-  const { limit, length, lanes } = job, { model, p, q, motion, change } = inForce(), asked = { limit, length, lanes, rule: { model, p, q, motion, change } };
-  const words = JSON.stringify(asked);
-  if (words !== exact.words) exact = { words, curve: known(asked) };
-  return exact.curve;
-}
-function known(asked) {
-  try {
-    return exactCurve(asked);
-  } catch (fault) {
-    if (fault instanceof RangeError) return null; // The job file of this rule has the same fault, which is shown.
-    throw fault;
-  }
-}
-const diagram = () => ({
-  limit: job.limit, length: job.length, lanes: job.lanes, density: job.cars / (job.length * job.lanes),
-  flow: means?.steps ? means.sum / means.steps : null, marks, exact: exactNow(),
-});
-function drawDiagram(now = 0) {
-  const what = diagram();
-  $("diagram").setAttribute("viewBox", boxOf(what));
-  $("diagram").innerHTML = diagramOf(what);
-  drawn = now;
-}
 const nameOf = ({ model, p, q }) => ({ nasch: `p ${p}`, vdr: `p ${p}, ${q}`, rickert: `p ${p}, two lanes`, own: "own program" })[model];
 const sweeps = new Sweeps((mark, csv) => {
-  marks.push(mark);
   table = csv;
   $("savesweep").disabled = false;
-  drawDiagram();
+  fundamental.add(mark);
 }, complain);
 const SWEEP = { warm: { least: 0, most: 10000, isWhole: true }, measure: { least: 1, most: 10000, isWhole: true } };
 /** Sweep the road with the rule in force, from its initial state or from several ones. */
@@ -258,42 +224,15 @@ function sweepNow(id, states) {
 
 // Inputs that you type
 
-/** The verdict of trlab on an input, shown at the line of its error: whether it is accepted; null if you typed on meanwhile. */
-async function judged(kind, id, place) {
-  const source = place.value, found = await explain(kind, source).catch(complain);
-  if (!found || source !== place.value) return null;
-  const { error, repairs, numbers } = found, line = lineOf(error);
-  place.tell(line, error && messageOf(found), repairs);
-  $(id + "verdict").className = `verdict ${error ? "bad" : "good"}`;
-  $(id + "verdict").textContent = error ? `Rejected at line ${line}. The cars follow the last accepted one.`
-    : kind === "check" ? `Accepted: at most ${numbers.budget} instructions per car and step.` : "Accepted.";
-  place.facts = new Map(found.known.map(it => [it.line, it.facts]));
-  if (place.busy) place.moved?.(place.caretLine());
-  return error ? null : source;
-}
-async function judgeText() {
-  const accepted = await judged("run", "text", text);
-  answer("explain", text.value).then(got => got.text()).then(said => $("explained").textContent = said).catch(complain);
-  return accepted;
-}
-async function judgeProgram(id, place) {
-  if (id !== "change" || place.value.trim()) return judged("check", id, place);
-  place.tell(0);
-  place.facts = null;
-  $("changeverdict").textContent = "No program: no car changes lanes.";
-  return "";
-}
+const judgeText = () => judgedText(text, complain);
 const judge = soon(250, judgeText);
 text.changed = soon(300, () => judgeText().then(source => source !== null && take(source)).catch(complain));
 for (const [id, place] of [["motion", motion], ["change", change]]) {
   place.changed = soon(200, async () => {
-    const source = await judgeProgram(id, place);
+    const source = await judgedProgram(id, place, complain);
     if (source !== null && source !== inForce()[id]) changeRule({ [id]: source });
   });
-  place.moved = line => {
-    const facts = place.facts?.get(line);
-    $(id + "facts").textContent = facts?.length ? `Known before line ${line}: ${facts.join("; ")}.` : facts ? `Nothing is known before line ${line}.` : "";
-  };
+  place.moved = line => tellFacts(id, place, line);
 }
 /** Run a job file that trlab accepts, as it is. */
 function take(source) {
@@ -344,29 +283,11 @@ function openFile(file) {
   if (file.size > MOST_BYTES) return complain(`${file.name} is too long: at most ${MOST_BYTES} bytes are allowed.`);
   file.text().then(source => load(file.name, source)).catch(complain);
 }
-function save(name, parts, type) {
-  const link = document.createElement("a");
-  link.href = URL.createObjectURL(new Blob(parts, { type }));
-  link.download = name;
-  link.click();
-  setTimeout(() => URL.revokeObjectURL(link.href), 10000);
-}
-/** The film of the whole run, from its start. */
-async function saveFilm() {
-  $("savefilm").disabled = true;
-  await lastFile().then(filmOf).then(parts => save("traffic.html", parts, "text/html")).catch(complain);
-  $("savefilm").disabled = false;
-}
-const saveTable = () => lastFile().then(file => answer("series", file)).then(got => got.blob()).then(blob => save("series.csv", [blob], "text/csv")).catch(complain);
+/** A call of the job file that shows why it fails. */
+const saving = call => () => lastFile().then(call).catch(complain);
 function saveFigure() {
-  const name = $("figure").value, image = name === "diagram" ? diagramFile(diagram()) : FIGURES[name](player.view);
+  const name = $("figure").value, image = name === "diagram" ? fundamental.file() : FIGURES[name](player.view);
   save(`${name}.svg`, [image], "image/svg+xml");
-}
-async function copyLink() {
-  history.replaceState(null, "", await linkOf(await lastFile()));
-  await navigator.clipboard?.writeText(location.href).catch(() => {});
-  $("silent").textContent = $("link").textContent = "Link copied";
-  setTimeout(() => $("link").textContent = "Copy a link", 2000);
 }
 /** Open the job in the address, if there is one. If it cannot be opened, a message stays, because the page plays another job. */
 async function openLink() {
@@ -400,9 +321,9 @@ function listen() {
   for (const id in SWEEP) watch($(id), id, written => numberOf(written, SWEEP[id]), () => $(id).value = $(id).defaultValue);
   $("controls").addEventListener("submit", event => event.preventDefault());
   const click = {
-    brake, newkey: () => again({ key: String(crypto.getRandomValues(new Uint32Array(1))[0]) }), clear: () => { marks = []; drawDiagram(); },
-    open: () => $("file").click(), savejob: () => lastFile().then(file => save("traffic.job", [file], "text/plain")), savetable: saveTable, savefilm: saveFilm,
-    savesweep: () => save("sweep.csv", [table], "text/csv"), savefigure: saveFigure, link: copyLink,
+    brake, newkey: () => again({ key: String(crypto.getRandomValues(new Uint32Array(1))[0]) }), clear: () => fundamental.clear(),
+    open: () => $("file").click(), savejob: saving(file => save("traffic.job", [file], "text/plain")), savetable: saving(saveTable), savefilm: saving(saveFilm),
+    savesweep: () => save("sweep.csv", [table], "text/csv"), savefigure: saveFigure, link: saving(copyLink),
   };
   for (const id in click) $(id).onclick = click[id];
   $("sweep").onclick = () => sweepNow("sweep", [stateOf(job.start)]);
@@ -410,7 +331,7 @@ function listen() {
     units.now = $("units").value;
     player.legend(job.limit);
     player.redraw();
-    drawDiagram();
+    fundamental.draw();
   };
   $("branches").onclick = () => sweepNow("branches", BRANCHES);
   $("file").onchange = event => event.target.files[0] && openFile(event.target.files[0]);

@@ -6,6 +6,7 @@ import { Film, Run } from "./film.js";
 import { colour } from "./colours.js";
 import { followedWords } from "./following.js";
 import { shownAs, speedWords, tellUnits, unitOf } from "./units.js";
+import { RingPixels, RoadPixels } from "./pixels.js";
 import { Rows, bandAt, carNow, drawBands, drawCurves, drawRing, fresh, isMixed, ringAt, rowsOf, smooth } from "./draw.js";
 
 export const $ = id => document.getElementById(id);
@@ -17,6 +18,7 @@ export class Player {
   constructor(hear, fail) {
     Object.assign(this, { hear, fail, film: null, run: null, step: -1, car: null, lens: 0, phase: 1, drawn: -1 });
     Object.assign(this, { playing: !calm, moving: false, isDue: false, stale: true, rows: new Rows(), before: 0, paused: 0 });
+    this.pixels = { ring: new RingPixels(), road: new RoadPixels() };
     this.listen();
     this.setPlaying(this.playing);
     this.setRate();
@@ -45,8 +47,11 @@ export class Player {
   }
   get over() { return this.step === this.film.steps; }
   get view() {
-    return { film: this.film, step: this.step, scene: this.scene, share: calm ? 1 : this.phase, lens: this.lens, car: this.car };
+    return { film: this.film, step: this.step, share: calm ? 1 : this.phase, lens: this.lens, car: this.car, pixels: this.pixels };
   }
+  get isShown() { return this.film !== null && this.film.has(this.step); }
+  /** All cars of the step that is shown, or null before the first one. */
+  get scene() { return this.isShown ? this.film.whole(this.step) : null; }
 
   /** Show the next snapshot, if there is one. */
   next() {
@@ -94,7 +99,6 @@ export class Player {
     this.run = null;
   }
   draw(now) {
-    if (this.scene?.step !== this.step || this.scene.film !== this.film) this.scene = { ...this.film.scene(this.step), film: this.film };
     const { view } = this, ring = fresh($("ring")), band = fresh($("band"));
     if (this.car) view.lens = this.lens = carNow(view)[0];
     drawRing(ring.pen, ring.width, view);
@@ -121,7 +125,7 @@ export class Player {
       car: followed ?? (this.hint ??= $("car").textContent),
       mixed: isMixed(film, $("spacetime").clientWidth) ? "Colours of pixels are mean speeds, paler where there are fewer cars." : "",
     };
-    for (const id in words) $(id).textContent = words[id];
+    for (const id in words) if ($(id).textContent !== String(words[id])) $(id).textContent = words[id];
     $("follow").setAttribute("aria-pressed", car !== null);
     if ($("brake")) $("brake").disabled = car === null;
     if (!this.playing) $("silent").textContent = `Step ${step}: flow ${flow} ${unitOf("flow").words}, mean speed ${speed} ${unitOf("speed").words}, stopped ${stopped}. ${followed ?? ""}`;
@@ -175,7 +179,7 @@ export class Player {
   }
   /** Follow the car nearest to a place, or no car if none is within `reach` cells. */
   choose(place, reach = place?.reach) {
-    if (!this.scene) return null;
+    if (!this.isShown) return null;
     const { scene, film } = this, share = calm ? 1 : this.phase;
     let best = null, least = reach ?? -1;
     for (let v = 0; place && v <= film.limit; v++) {
@@ -201,19 +205,19 @@ export class Player {
   listen() {
     const click = { play: () => this.setPlaying(!this.playing), back: () => this.back(), one: () => this.one(), again: () => this.restart() };
     for (const id in click) $(id).onclick = click[id];
-    $("follow").onclick = () => this.car || !this.scene ? this.choose(null) : this.neighbour(1);
+    $("follow").onclick = () => this.car || !this.isShown ? this.choose(null) : this.neighbour(1);
     $("rate").oninput = () => this.setRate();
     const point = (id, event) => {
       const box = $(id).getBoundingClientRect();
       return [event.clientX - box.left, event.clientY - box.top, box.width, box.height];
     };
     $("ring").onclick = event => {
-      if (!this.scene) return;
+      if (!this.isShown) return;
       const [x, y, width] = point("ring", event);
       this.choose(ringAt(this.view, width, x, y));
     };
     $("band").onpointerdown = event => {
-      if (!this.scene) return;
+      if (!this.isShown) return;
       const [x, y, width, height] = point("band", event), place = bandAt(this.view, width, height, x, y);
       if (this.choose(place) || !place.isWhole) return;
       this.lens = place.cell;
@@ -226,7 +230,7 @@ export class Player {
       this.stale = true;
     };
     $("spacetime").onclick = event => {
-      if (!this.scene) return;
+      if (!this.isShown) return;
       const [x, y, width, height] = point("spacetime", event), { high, top } = rowsOf(this.view, width, height), { film } = this;
       const step = top + Math.floor(y / high), lane = Math.floor(y % high / high * film.lanes);
       this.car = film.has(step) && step <= this.step ? film.follow(film.near(step, lane, x / width * film.length, 8 * film.length / width), this.step) : null;
@@ -242,7 +246,7 @@ export class Player {
       ArrowUp: () => this.neighbour(1), ArrowDown: () => this.neighbour(-1), Escape: () => this.choose(null),
       ...this.hear.keys,
     }[event.key];
-    if (!what || !this.scene) return;
+    if (!what || !this.isShown) return;
     event.preventDefault();
     what();
   }

@@ -19,8 +19,9 @@ from http.server import BaseHTTPRequestHandler, ThreadingHTTPServer
 from pathlib import Path
 from typing import Any, Optional
 
+from .._runs.children import Child
 from .._runs.location import find_program
-from .._runs.signals import exit_status, need_exit_statuses
+from .._runs.signals import need_exit_statuses
 from . import rules
 from .export import film_page
 from .scripts import HERE, reached
@@ -92,7 +93,7 @@ class Lab(ThreadingHTTPServer):
         self.runs = threading.BoundedSemaphore(processors)
         self.questions = threading.BoundedSemaphore(processors)
         self.lock, self.closing = threading.Lock(), False
-        self.children: set[subprocess.Popen[bytes]] = set()
+        self.children: set[Child] = set()
 
     @property
     def address(self) -> str:
@@ -118,7 +119,7 @@ class Lab(ThreadingHTTPServer):
         self.strangers.remove(request)
         super().shutdown_request(request)
 
-    def start(self, words: list[str], text: bytes) -> subprocess.Popen[bytes]:
+    def start(self, words: list[str], text: bytes) -> Child:
         """A process of trlab that reads this input. Progress lines, if any, come before the output."""
         source = os.memfd_create("trlab-lab")
         try:
@@ -129,13 +130,13 @@ class Lab(ThreadingHTTPServer):
             with self.lock:
                 if self.closing:
                     raise ConnectionAbortedError("the server is closing")
-                child = subprocess.Popen([self.program, *words], stdin=source, stdout=subprocess.PIPE, stderr=errors)
+                child = Child([self.program, *words], stdin=source, stdout=subprocess.PIPE, stderr=errors)
                 self.children.add(child)
                 return child
         finally:
             os.close(source)
 
-    def end(self, child: subprocess.Popen[bytes]) -> None:
+    def end(self, child: Child) -> None:
         """End a process, if it still runs."""
         child.kill()
         child.wait()
@@ -247,7 +248,7 @@ class Page(BaseHTTPRequestHandler):
         try:
             child = self.server.start(RUNS.get(name) or QUESTIONS[name], text)
             try:
-                is_whole = self.stream(child, self.skipped()) and exit_status(child) in (0, 1)
+                is_whole = self.stream(child, self.skipped()) and child.exit_status() in (0, 1)
                 # Without the last chunk the page knows that the output is cut.
                 self.close_connection = self.close_connection or not is_whole
                 if is_whole:
@@ -257,7 +258,7 @@ class Page(BaseHTTPRequestHandler):
         finally:
             turns.release()
 
-    def stream(self, child: subprocess.Popen[bytes], skip: int) -> bool:
+    def stream(self, child: Child, skip: int) -> bool:
         """Whether the page has the whole output. A page that sends or closes anything meanwhile has gone away."""
         self.connection.settimeout(None)
         self.begin(200, "text/plain", {"Transfer-Encoding": "chunked"})

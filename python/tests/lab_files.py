@@ -1,0 +1,64 @@
+"""The page of trlab-lab as one file, for its tests.
+
+The program is that of the file that the environment variable TRLAB_WASM names, or of release/trlab-lab.html. The page around it is
+always that of the sources here."""
+import base64
+import gzip
+import os
+import re
+import tempfile
+from pathlib import Path
+
+from tests.browsers import Window, missing
+from tests.lab_pages import OnPage
+from trlab.lab import server
+from trlab.lab.whole import whole_page
+
+RELEASED = Path(__file__).resolve().parents[2] / "release" / "trlab-lab.html"
+PROGRAM = re.compile(r'<script type="text/plain" id="program">([^<]*)<')
+
+
+def module():
+    """The program in WebAssembly, or None."""
+    if named := os.environ.get("TRLAB_WASM"):
+        return Path(named).read_bytes()
+    found = PROGRAM.search(RELEASED.read_text("utf-8")) if RELEASED.is_file() else None
+    return gzip.decompress(base64.b64decode(found[1])) if found else None
+
+
+MODULE = module()
+WITHOUT = "" if MODULE else "there is no program in WebAssembly: release/trlab-lab.html, or the file that TRLAB_WASM names"
+
+
+def lacking(browser):
+    """The reason why the page cannot be tested as a file in a browser, or nothing."""
+    return missing(browser) or WITHOUT
+
+
+class File:
+    """A page in a file, as the tests of the page know the server."""
+
+    def __init__(self, test, text):
+        folder = tempfile.TemporaryDirectory()
+        test.addClassCleanup(folder.cleanup)
+        path = Path(folder.name) / "trlab-lab.html"
+        path.write_text(text, "utf-8")
+        self.address = path.as_uri()
+
+
+class InFile(OnPage):
+    """A page in a file, in one browser."""
+
+    @classmethod
+    def text(cls):
+        return whole_page(MODULE, server.examples())
+
+    @classmethod
+    def setUpClass(cls):
+        cls.lab = File(cls, cls.text())
+        cls.page = Window(cls.browser, cls.lab.address)
+        cls.addClassCleanup(cls.page.close)
+
+    def examples(self):
+        """The examples that the page offers: rules in Python need the server."""
+        return {name: text for name, text in server.examples().items() if not name.endswith(".py")}

@@ -1,0 +1,25 @@
+"""Long roads, numbers that are not accepted, and damaged addresses, in the page as one file that contains the program."""
+import unittest
+
+from tests.lab_files import InFile, lacking
+from tests.test_lab_faults import Faults
+
+
+class FaultsFile(InFile, Faults):
+    """The tests, in one browser."""
+
+    test_parameters_of_rules_in_python = None  # Only the server translates them.
+
+
+@unittest.skipIf(lacking("chromium"), lacking("chromium"))
+class InChromium(FaultsFile, unittest.TestCase):
+    browser = "chromium"
+
+
+@unittest.skipIf(lacking("firefox"), lacking("firefox"))
+class InFirefox(FaultsFile, unittest.TestCase):
+    browser = "firefox"
+
+
+if __name__ == "__main__":
+    unittest.main()
