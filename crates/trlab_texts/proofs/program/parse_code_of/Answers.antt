@@ -7,12 +7,12 @@ use Rattle.trlab_texts.proofs.program.parse_code_of.Goals as goal
 pub returns-then-eq : goal.returns-then-eq
 returns-then-eq c =
     let same : c.kind.result ≡ c.args.kind = same_true kinds (search rules) _ _ (sym c.eq.ensures ∙ c.if-eq.true) in
-    code_of_kind c.args.kind c.args.line.now c.in-Ok.code (rw c.in-Ok.is at c.in_ok-parse_code.ensures) (sym c.kind.ensures ∙ same)
+    code_of_kind c.args.kind c.args.line.now c.in-Ok.code (rw c.in-Ok.is at c.in_ok-code.ensures) (sym c.kind.ensures ∙ same)
 
-pub returns-else-eq : goal.returns-else-eq
-returns-else-eq c =
+pub returns-in-Ok : goal.returns-in-Ok
+returns-in-Ok c =
     let other : c.kind.result ≢ c.args.kind = λ same. let clash : true ≡ false = sym (true_same kinds _ _ same) ∙ (sym c.eq.ensures ∙ c.if-eq.false) in cc in
-    rw c.bare.ensures (code_of_other c.args.kind c.args.line.now c.in-Ok.code (rw c.in-Ok.is at c.in_ok-parse_code.ensures) (λ is. other (c.kind.ensures ∙ is)))
+    rw c.bare.ensures (code_of_other c.args.kind c.args.line.now c.in-Ok.code (rw c.in-Ok.is at c.in_ok-code.ensures) (λ is. other (c.kind.ensures ∙ is)))
 
-pub returns-in-Err : goal.returns-in-Err
-returns-in-Err c = code_of_none c.args.kind c.args.line.now c.in-Err.objection (rw c.in-Err.is at c.in_ok-parse_code.ensures)
+pub returns : goal.returns
+returns c = code_of_none c.args.kind c.args.line.now c.in-Err.objection (rw c.in-Err.is at c.in_ok-code.ensures)
