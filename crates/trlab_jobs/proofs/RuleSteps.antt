@@ -33,7 +33,8 @@ verified_change crosses program (Some change) is checked = (is.same, (is.accepte
 
 -- a rule with no change program suits each road
 no_change : (change : Option CheckedProgram) → change ≡ None → IsSome change → ⊥
-no_change change none some = rw none at some
+no_change None none some = cc some
+no_change (Some change) none some = cc none
 
 suits_each : (lanes : ℕ) (rule : Programs) → rule.change ≡ None → IsRule rule → IsRuleFor lanes rule
 suits_each lanes rule none own = record { motion = own.motion; change = own.change; two_lanes = λ some. absurd (no_change rule.change none some) }

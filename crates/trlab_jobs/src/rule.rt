@@ -140,7 +140,7 @@ fn rule_with_rest(
     rest: Rest<'_>,
 ) -> Result<(Rule, Rest<'_>), Refusal<'_>>
     requires { IfErr rule (λ fault. fault ≡ StandardFault.Memory) }
-    ensures { MatchResult rule.entry (λ rule. result ≡ Ok (rule, rest.entry)) (λ _. result ≡ Err TextFault.Memory) }
+    ensures { MatchResult rule (λ rule. result ≡ Ok (rule, rest.entry)) (λ _. result ≡ Err TextFault.Memory) }
 {
     match rule {
         Ok(rule) => Ok((rule, rest)),

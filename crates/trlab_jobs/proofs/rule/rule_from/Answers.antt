@@ -14,12 +14,12 @@ returns-in-Vdr c =
 
 pub returns-then-lanes-eq1 : goal.returns-then-lanes-eq1
 returns-then-lanes-eq1 c = record {
-  told = rw (c.in-Rickert.is, c.at.ensures, c.too_few.ensures) (no_second_lane c.in-Rickert.brake c.in-Rickert.crossing c.args.lanes.count c.args.number c.args.rest c.if-lanes-eq1.true);
-  suits = rw c.at.ensures tt;
+  told = rw (c.at.ensures, c.too_few.ensures, c.in-Rickert.is) (no_second_lane c.in-Rickert.brake c.in-Rickert.crossing c.args.lanes.count c.args.number c.args.rest c.if-lanes-eq1.true);
+  suits = tt;
 }
 
 pub returns-else-lanes-eq1 : goal.returns-else-lanes-eq1
 returns-else-lanes-eq1 c =
     let two : c.args.lanes.count ≡ 2 = omega (arith, c.args.lanes.in_range.0, c.args.lanes.in_range.1, c.if-lanes-eq1.false) in
-    let read = rickert_read c.in-Rickert.brake c.in-Rickert.crossing c.args.lanes.count c.args.number c.args.rest c.rickert.result c.rule_with_rest-in-Rickert.result two c.rickert.ensures.published c.rickert.ensures.rule c.rule_with_rest-in-Rickert.ensures in
+    let read = rickert_read c.in-Rickert.brake c.in-Rickert.crossing c.args.lanes.count c.args.number c.args.rest c.rickert.result c.rule_with_rest-else-lanes-eq1.result two c.rickert.ensures.published c.rickert.ensures.rule c.rule_with_rest-else-lanes-eq1.ensures in
     record { told = rw c.in-Rickert.is read.0; suits = read.1 }
