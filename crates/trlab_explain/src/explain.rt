@@ -48,15 +48,13 @@ fn push_quote(page: &mut Page, number: u32, line: Option<&[u8]>) -> Result<()>
     page.end_line()
 }
 
-/// Explains a rejected input by its first fault. Positions in the fault are counted in `within`, a part of the line;
-/// `wanted` has the lines or values that the reader expected there.
+/// Explains a rejected input by its first fault; `wanted` has the lines or values that the reader expected there.
 fn explain_fault(
     explanation: &mut Explanation,
     text: &[u8],
     line: u32,
     cause: Cause,
-    within: &[u8],
-    wanted: &Wanted,
+    wanted: &Wanted<'_>,
 ) -> Result<()>
     requires { IsBlankHead explanation.old.head }
     ensures { OnOk result (IsFaultHead text.now (record { line = line; cause = cause }) explanation.new.head) }
@@ -68,7 +66,6 @@ fn explain_fault(
         line: place.line.unwrap_or(b""),
         cause,
         wanted,
-        within,
     };
     explanation.head.is_rejected = true;
     push_fault_line(&mut explanation.head.answer, line, cause)?;
@@ -91,10 +88,10 @@ fn explain_refusal(
     ensures { OnOk result (IsHeadAs subject text.now explanation.new.head) }
 {
     match refusal.into_parts() {
-        (TextFault::At { line, cause }, within, wanted) => {
-            explain_fault(explanation, text, line, cause, within, &wanted)
+        (TextFault::At { line, cause }, wanted) => {
+            explain_fault(explanation, text, line, cause, &wanted)
         }
-        (TextFault::Memory, ..) => Err(AllocError),
+        (TextFault::Memory, _) => Err(AllocError),
     }
 }
 

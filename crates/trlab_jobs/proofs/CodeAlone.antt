@@ -2,12 +2,11 @@
 use Rattle.std.proofs.Common.{◌≡◌, ◌≢◌, ℕ, List, [], ◌∷◌, refl, subst}
 use Rattle.std.specs.Prelude.{Ok, Err}
 use Rattle.trlab_code.specs.Program.{Program}
+use Rattle.trlab_texts.specs.declared.fault.Cause.{Cause}
 use Rattle.trlab_texts.specs.declared.fault.Cause.TheVariants.{Line}
-use Rattle.trlab_texts.specs.declared.fault.LineFault.{LineFault}
-use Rattle.trlab_texts.specs.declared.fault.LineFault.TheVariants.{Wrong, Memory as NoMemory}
 use Rattle.trlab_texts.specs.declared.fault.TextFault.{TextFault}
 use Rattle.trlab_texts.specs.declared.fault.TextFault.TheVariants.{At, Memory}
-use Rattle.trlab_texts.specs.Reading.{Reports, ReportsLine, text_fault}
+use Rattle.trlab_texts.specs.Reading.{Reports}
 use Rattle.trlab_texts.specs.Programs.{code_line}
 use Rattle.trlab_jobs.specs.declared.check.Question.{Question}
 use Rattle.trlab_jobs.specs.Check.{check_of, question_of, Check, CheckLinesParseTo, LoneCodeParsesTo, ProgramParsesTo, QuestionParsesTo}
@@ -20,9 +19,8 @@ pub code_before_others : (text : List ℕ) (left : List (List ℕ)) (program : P
 code_before_others text [] program says some = absurd (some refl)
 code_before_others text (next ∷ left) program says some = (Ok program, (says, refl))
 
-pub no_code_alone : (text : List ℕ) (left : List (List ℕ)) (fault : LineFault) → ReportsLine (code_line text) (Err fault) → Reports (LoneCodeParsesTo text left) (Err (text_fault 1 fault))
-no_code_alone text left (Wrong cause) says = (Err cause, (says, refl))
-no_code_alone text left NoMemory says = tt
+pub no_code_alone : (text : List ℕ) (left : List (List ℕ)) (cause : Cause) → code_line text (Err cause) → LoneCodeParsesTo text left (Err (record { line = 1; cause = cause }))
+no_code_alone text left cause says = (Err cause, (says, refl))
 
 -- the question about a program, from the first line: the line states the question, or begins the program
 pub check_says : (text line : List ℕ) (question : Question) (left : List (List ℕ)) (program : Program) → (question, line) ≡ question_of text

@@ -1,4 +1,3 @@
-pub mod HandedOn
 pub mod Shown
 pub mod RuleSteps
 pub mod JobLines

@@ -1,27 +1,71 @@
 -- The result for a rule, from its line and the lines after it.
-use Rattle.std.proofs.Common.{◌≡◌, ◌≤◌, ℕ, Bool, true, false, Option, None, Some, arith, ap, refl, subst}
-use Rattle.std.specs.Prelude.{Result, Ok, Err, MatchResult, IsSome, nat_eq}
+use Rattle.std.proofs.Common.{◌≡◌, ◌≤◌, ℕ, Bool, true, false, List, Option, None, Some, arith, ap, refl, subst}
+use Rattle.std.specs.Prelude.{Result, Ok, Err, IfOk, IfSome, MatchOption, MatchResult, IsSome, nat_eq}
 use Rattle.std.proofs.lemmas.Bool.{eqb-false}
-use Rattle.trlab_rules.specs.Rules.{Programs}
-use Rattle.trlab_verify.specs.Verified.{CheckedProgram}
-use Rattle.trlab_texts.specs.declared.fault.Cause.{Cause}
-use Rattle.trlab_texts.specs.declared.fault.LineFault.{LineFault}
-use Rattle.trlab_texts.specs.declared.fault.LineFault.TheVariants.{Wrong, Memory as NoMemory}
+use Rattle.trlab_code.specs.declared.program.Kind.TheVariants.{Motion, Change}
+use Rattle.trlab_code.specs.declared.view.View.{View}
+use Rattle.trlab_code.specs.Program.{Program}
+use Rattle.trlab_rules.specs.declared.standard.StandardFault.{StandardFault}
+use Rattle.trlab_rules.specs.Published.{nasch_speed, vdr_speed, rickert_crosses}
+use Rattle.trlab_rules.specs.Rules.{IsRule, Programs, IsChangeComputing, IsMotionComputing, IsNasch, IsRickert, IsVdr}
+use Rattle.trlab_rules.specs.Standard.{nasch_program, vdr_program, rickert_program}
+use Rattle.trlab_step.specs.Run.{IsRuleFor}
+use Rattle.trlab_verify.specs.Verified.{CheckedProgram, IsChecked}
+use Rattle.trlab_texts.specs.declared.fault.Cause.TheVariants.{OneLane}
 use Rattle.trlab_texts.specs.declared.fault.TextFault.{TextFault}
+use Rattle.trlab_texts.specs.declared.fault.TextFault.TheVariants.{At, Memory}
 use Rattle.trlab_jobs.specs.declared.rule_line.RuleLine.{RuleLine}
 use Rattle.trlab_texts.specs.Lines.{Rest}
-use Rattle.trlab_texts.specs.Reading.{Fault, Reading, line, exactly, give, ◌>>=◌, result_of_line, read_if, text_fault, Reports, ReportsLine}
+use Rattle.trlab_texts.specs.Reading.{Fault, Reading, line, exactly, give, ◌>>=◌, result_of_line, read_if, Reports}
 use Rattle.trlab_jobs.specs.RuleLines.{later_line, rule_line}
-use Rattle.trlab_jobs.specs.RuleParts.{change_if_two_lanes, next_is_change, change_part, rule, rule_from}
+use Rattle.trlab_jobs.specs.RuleParts.{IsMotionRule, IsTwoLaneRule, VerifiesAs, change_if_two_lanes, next_is_change, change_part, rule, rule_from}
 use Rattle.trlab_jobs.specs.Later.{later_rule}
 use Rattle.trlab_texts.proofs.Readings.{goes_on, stops}
 
--- the result for a line is that of the line before a place
-pub line_told : (Says : Result Programs Cause → Type 0) (number : ℕ) (place : Rest) (found : Result Programs LineFault) (out : Result (Programs × Rest) TextFault)
-    → ReportsLine Says found → MatchResult found (λ rule. out ≡ Ok (rule, place)) (λ fault. out ≡ Err (text_fault number fault)) → Reports (result_of_line number Says place) out
-line_told Says number place (Ok rule) out told is = rw is (Ok rule, (told, refl))
-line_told Says number place (Err (Wrong cause)) out told is = rw is (Err cause, (told, refl))
-line_told Says number place (Err NoMemory) out told is = rw is tt
+verified : (speed : View → List ℕ → ℕ) (program : Program) (motion : CheckedProgram) → IsMotionComputing speed program motion → IsChecked Motion motion → VerifiesAs Motion program motion
+verified speed program motion is checked = (is.same, (is.accepted, checked))
+
+verified_change : (crosses : View → List ℕ → Bool) (program : Program) (change : Option CheckedProgram) → MatchOption change ⊥ (IsChangeComputing crosses program)
+    → IfSome change (IsChecked Change) → MatchOption change ⊥ (VerifiesAs Change program)
+verified_change crosses program None is checked = is
+verified_change crosses program (Some change) is checked = (is.same, (is.accepted, checked))
+
+-- a rule with no change program suits each road
+no_change : (change : Option CheckedProgram) → change ≡ None → IsSome change → ⊥
+no_change None none some = cc some
+no_change (Some change) none some = cc none
+
+suits_each : (lanes : ℕ) (rule : Programs) → rule.change ≡ None → IsRule rule → IsRuleFor lanes rule
+suits_each lanes rule none own = record { motion = own.motion; change = own.change; two_lanes = λ some. absurd (no_change rule.change none some) }
+
+-- the standard rule of a line before a place, or a failed allocation; it suits the road
+pub nasch_read : (p lanes number : ℕ) (place : Rest) (found : Result Programs StandardFault) (out : Result (Programs × Rest) TextFault)
+    → IfOk found (IsNasch p) → IfOk found IsRule → MatchResult found (λ rule. out ≡ Ok (rule, place)) (λ _. out ≡ Err Memory)
+    → Reports (result_of_line number (IsMotionRule (nasch_program p)) place) out × IfOk out (λ at. IsRuleFor lanes at.0)
+nasch_read p lanes number place (Ok rule) out is own end =
+    rw end ((Ok rule, ((verified (nasch_speed p) (nasch_program p) rule.motion is.motion own.motion, is.change), refl)), suits_each lanes rule is.change own)
+nasch_read p lanes number place (Err fault) out is own end = rw end (tt, tt)
+
+pub vdr_read : (p p0 lanes number : ℕ) (place : Rest) (found : Result Programs StandardFault) (out : Result (Programs × Rest) TextFault)
+    → IfOk found (IsVdr p p0) → IfOk found IsRule → MatchResult found (λ rule. out ≡ Ok (rule, place)) (λ _. out ≡ Err Memory)
+    → Reports (result_of_line number (IsMotionRule (vdr_program p p0)) place) out × IfOk out (λ at. IsRuleFor lanes at.0)
+vdr_read p p0 lanes number place (Ok rule) out is own end =
+    rw end ((Ok rule, ((verified (vdr_speed p p0) (vdr_program p p0) rule.motion is.motion own.motion, is.change), refl)), suits_each lanes rule is.change own)
+vdr_read p p0 lanes number place (Err fault) out is own end = rw end (tt, tt)
+
+pub rickert_read : (p c lanes number : ℕ) (place : Rest) (found : Result Programs StandardFault) (out : Result (Programs × Rest) TextFault) → lanes ≡ 2
+    → IfOk found (IsRickert p c) → IfOk found IsRule → MatchResult found (λ rule. out ≡ Ok (rule, place)) (λ _. out ≡ Err Memory)
+    → Reports (result_of_line number (IsTwoLaneRule (nat_eq lanes 1) (nasch_program p) (rickert_program c)) place) out × IfOk out (λ at. IsRuleFor lanes at.0)
+rickert_read p c lanes number place (Ok rule) out two is own end = rw (end, two) (
+  (Ok rule, ((verified (nasch_speed p) (nasch_program p) rule.motion is.motion own.motion, verified_change (rickert_crosses c) (rickert_program c) rule.change is.change own.change), refl)),
+  record { motion = own.motion; change = own.change; two_lanes = λ some. refl },
+)
+rickert_read p c lanes number place (Err fault) out two is own end = rw end (tt, tt)
+
+-- a rule with lane changes on a road of one lane
+pub no_second_lane : (p c lanes number : ℕ) (place : Rest) → lanes ≡ 1
+    → Reports {A = Programs × Rest} (result_of_line number (IsTwoLaneRule (nat_eq lanes 1) (nasch_program p) (rickert_program c)) place) (Err (At number OneLane))
+no_second_lane p c lanes number place one = rw one (Err OneLane, (refl, refl))
 
 -- the line of a rule has a fault
 pub rule_line_fails : (lanes : ℕ) (place : Rest) (fault : TextFault) → Reports {A = RuleLine ℕ × Rest} (line (exactly rule_line) place) (Err fault)

@@ -12,8 +12,7 @@ use trlab_bounds::texts::TEXT_LIMIT;
 use trlab_code::{Code, Kind};
 use trlab_lines::next_line;
 use trlab_texts::program::{is_heading, parse_code, program_after};
-use trlab_texts::word::without_prefix;
-use trlab_texts::{Cause, LineName, LineNames, Refusal, TextFault};
+use trlab_texts::{Cause, Excerpt, LineName, LineNames, Refusal, TextFault};
 
 /// The question about a program.
 #[derive(Clone, Copy, PartialEq, Eq)]
@@ -42,10 +41,10 @@ impl Model for Check {
 
 /// Splits the first line of a check text: with the prefix `notes ` it asks for notes, otherwise only for the
 /// verdict.
-fn question_of(line: &[u8]) -> (Question, &[u8])
-    ensures { (result.0, result.1.now) ≡ question_of line.now }
+fn question_of<'a>(line: Excerpt<'a>) -> (Question, Excerpt<'a>)
+    ensures { result ≡ question_of line.entry }
 {
-    match without_prefix(b"notes ", line) {
+    match line.after(b"notes ") {
         Some(rest) => (Question::Notes, rest),
         None => (Question::Verdict, line),
     }
@@ -72,27 +71,28 @@ fn headings() -> LineNames {
 }
 
 /// The program of the line `code X`, which must be the only line of the text.
-fn lone_code<'a>(alloc: Global, line: &'a [u8], rest: &[u8]) -> Result<Code, Refusal<'a>>
+fn lone_code<'a>(alloc: Global, line: &Excerpt<'a>, rest: &[u8]) -> Result<Code, Refusal<'a>>
     ensures { Reports (LoneCodeParsesTo line.now (lines_of rest.now)) result }
 {
     match parse_code(alloc, line) {
-        Ok(code) => {
+        Ok(Ok(code)) => {
             if rest.is_empty() {
                 Ok(code)
             } else {
                 Err(Refusal::no_line(2, LineNames::none()))
             }
         }
-        Err(refusal) => Err(refusal.at(1, headings())),
+        Ok(Err(objection)) => Err(objection.at(1, headings())),
+        Err(_) => Err(Refusal::memory()),
     }
 }
 
 /// The program that begins with `line`; a block continues in the lines of `rest`.
-fn read_program<'a>(alloc: Global, line: &'a [u8], rest: &'a [u8]) -> Result<Code, Refusal<'a>>
+fn read_program<'a>(alloc: Global, line: &Excerpt<'a>, rest: &'a [u8]) -> Result<Code, Refusal<'a>>
     requires { length rest.now ≤ TEXT_LIMIT }
     ensures { Reports (ProgramParsesTo line.now (lines_of rest.now)) result }
 {
-    match heading_kind(line) {
+    match heading_kind(line.bytes()) {
         Some(kind) => program_after(alloc, kind, 1, rest),
         None => lone_code(alloc, line, rest),
     }
@@ -106,8 +106,8 @@ fn read_lines(alloc: Global, text: &[u8]) -> Result<Check, Refusal<'_>>
     let Some((first, rest)) = next_line(text) else {
         return Err(Refusal::no_line(1, headings()));
     };
-    let (question, line) = question_of(first);
-    let code = read_program(alloc, line, rest)?;
+    let (question, line) = question_of(Excerpt::of(first));
+    let code = read_program(alloc, &line, rest)?;
     Ok(Check { question, code })
 }
 

@@ -16,7 +16,7 @@ use trlab_bounds::runs::MAX_STEPS;
 use trlab_bounds::texts::TEXT_LIMIT;
 use trlab_road::Road;
 use trlab_rules::Rule;
-use trlab_texts::{Cause, Excerpt, LineName, Objection, Quantity, Refusal, Rest, TextFault};
+use trlab_texts::{Cause, Excerpt, LineName, Objection, Refusal, Rest, TextFault};
 use trlab_words::Key;
 
 /// A job that can be run: its road is legal, and its rules suit the number of lanes.
@@ -73,7 +73,7 @@ pub fn road_line(line: &[u8]) -> Result<(), Objection<'_>>
 pub fn key_line(line: &[u8]) -> Result<[u8; 32], Objection<'_>>
     ensures { result ≡ key_line line.now }
 {
-    let digits = Excerpt::word_after(LineName::Key.name_and_space(), line)?;
+    let digits = Excerpt::of(line).word_after(LineName::Key.name_and_space())?;
     match <[u8; 32]>::from_hex(digits.bytes()) {
         Ok(key) => Ok(key),
         Err(_) => Err(digits.no_key()),
@@ -84,14 +84,14 @@ pub fn key_line(line: &[u8]) -> Result<[u8; 32], Objection<'_>>
 pub fn limit_line(line: &[u8]) -> Result<u32, Objection<'_>>
     ensures { result ≡ limit_line line.now }
 {
-    Excerpt::number_after(LineName::Limit, 1, MAX_LIMIT, Quantity::Other, line)
+    Excerpt::number_after(LineName::Limit, 1, MAX_LIMIT, line)
 }
 
 /// Reads the line `steps n`, where n is 0 to `MAX_STEPS`.
 pub fn steps_line(line: &[u8]) -> Result<u32, Objection<'_>>
     ensures { result ≡ steps_line line.now }
 {
-    Excerpt::number_after(LineName::Steps, 0, MAX_STEPS, Quantity::Other, line)
+    Excerpt::number_after(LineName::Steps, 0, MAX_STEPS, line)
 }
 
 /// Reads the lines after the lanes: a rule, the number of steps, and rules of later steps.

@@ -1,10 +1,10 @@
 //! The lanes of a job's road: one or two lines `lane P`, whose pictures are judged together.
 
-ghost use Rattle.std.specs.Prelude.{◌≡◌, ◌+◌, [], ◌∷◌, IfOk, option_map, option_to_list};
+ghost use Rattle.std.specs.Prelude.{◌≡◌, ◌+◌, ◌∷◌, IfOk, option_map, option_to_list};
 ghost use Rattle.std.specs.Result.{result_map_both};
 ghost use Rattle.trlab_road.specs.Legal.{IsLegal};
 ghost use Rattle.trlab_road.specs.Pictures.{pictures_of};
-ghost use Rattle.trlab_texts.specs.Wanted.{IsWantedIn};
+ghost use Rattle.trlab_texts.specs.Wanted.{IsWantedFor};
 ghost use Rattle.trlab_texts.specs.Reading.{Reports, line, exactly};
 ghost use Rattle.trlab_jobs.specs.Lanes.{lane_word, second_lane, line_of_fault, LanesParseTo, PicturesParseTo, lanes};
 
@@ -17,7 +17,7 @@ use trlab_texts::{Cause, Excerpt, LineName, Objection, Refusal, Rest, TextFault,
 fn lane_word(line: &[u8]) -> Result<Excerpt<'_>, Objection<'_>>
     ensures { result ≡ lane_word line.now }
 {
-    Excerpt::word_after(LineName::Lane.name_and_space(), line)
+    Excerpt::of(line).word_after(LineName::Lane.name_and_space())
 }
 
 /// Reads the picture of a lane.
@@ -58,8 +58,8 @@ fn line_of_fault(first: u32, last: u32, fault: RoadFault) -> u32
 }
 
 /// The input that is wanted instead of lanes with this fault; the first lane has `cells` cells.
-fn wanted_lanes(limit: u32, cells: usize, fault: RoadFault) -> Wanted
-    ensures { IsWantedIn [] (Cause.Road fault) result }
+fn wanted_lanes<'a>(limit: u32, cells: usize, fault: RoadFault) -> Wanted<'a>
+    ensures { IsWantedFor (Cause.Road fault) result }
 {
     match fault {
         RoadFault::Length => Wanted::Cells {
@@ -92,7 +92,7 @@ fn lanes_refusal<'a>(
         line: line_of_fault(first, last, fault),
         cause: Cause::Road(fault),
     };
-    Refusal::new(text_fault, b"", wanted_lanes(limit, cells, fault))
+    Refusal::new(text_fault, wanted_lanes(limit, cells, fault))
 }
 
 /// The road that pictures on the lines from `first` to `last` show; the first picture has `cells` cells.

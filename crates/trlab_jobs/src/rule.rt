@@ -1,28 +1,24 @@
 //! Rules in texts: the rule from step 0 on, and rules of later steps.
 
-ghost use Rattle.std.specs.Prelude.{◌≡◌, ◌≢◌, ◌≤◌, ℕ, IfOk, IfSome, IsSome, MatchResult, nat_eq, codes, ◌+◌, ◌<◌, OnOk};
+ghost use Rattle.std.specs.Prelude.{◌≡◌, ◌<◌, ◌≤◌, IfErr, IfOk, MatchResult, OnOk, codes, nat_eq};
 ghost use Rattle.trlab_bounds.specs.declared.roads.TheConstants.{MAX_LANES};
-ghost use Rattle.trlab_code.specs.declared.program.Kind.TheVariants.{Motion as OfMotion, Change as OfChange};
-ghost use Rattle.trlab_rules.specs.Standard.{nasch_program, vdr_program, rickert_program};
 ghost use Rattle.trlab_step.specs.Run.{IsRuleFor};
-ghost use Rattle.trlab_verify.specs.Verified.{IsChecked};
-ghost use Rattle.trlab_texts.specs.Reading.{Reports, ReportsLine, ReportsCause, ReportsFault, line, exactly, text_fault};
+ghost use Rattle.trlab_texts.specs.Reading.{Reports, ReportsFault, line, exactly};
 ghost use Rattle.trlab_texts.specs.Words.{word_after};
 ghost use Rattle.trlab_jobs.specs.RuleLines.{rule_line, later_line};
-ghost use Rattle.trlab_jobs.specs.RuleParts.{IsMotionRule, IsTwoLaneRule, code_misplacement, misplacement, next_is_change, change_if_two_lanes, change_part, own_rule, rule_from, rule};
+ghost use Rattle.trlab_jobs.specs.RuleParts.{code_misplacement, misplacement, next_is_change, change_if_two_lanes, change_part, own_rule, rule_from, rule};
 ghost use Rattle.std.specs.Result.{result_map_both};
 ghost use Rattle.trlab_jobs.specs.Later.{later_rule, later_rules};
 ghost use Rattle.trlab_jobs.specs.Stored.{AreLaterRules};
 
 use crate::rule_line::{RuleLine, later_line, rule_line};
 use hex::FromHexError;
-use std::alloc::Global;
+use std::alloc::{AllocError, Global};
 use trlab_bounds::runs::MAX_LATER;
 use trlab_code::Kind;
 use trlab_rules::{Rule, StandardFault, nasch, rickert, vdr};
 use trlab_texts::{
-    Cause, LineFault, LineName, LineNames, LineRefusal, Objection, Refusal, Rest, TextFault,
-    Wanted, program,
+    Cause, Excerpt, LineName, LineNames, Objection, Refusal, Rest, TextFault, Wanted, program,
 };
 use trlab_verify::{Change, ChangeKind, MotionKind};
 use trlab_words::Chance;
@@ -34,77 +30,35 @@ pub struct Lanes {
     pub count: u32,
     /// The number of the line: the last line `lane P` of a job, or the line `lanes n` of a sweep.
     pub line: u32,
+    ghost in_range: { (1 ≤ count) × (count ≤ MAX_LANES) },
 }
 
 impl Lanes {
-    /// The refusal of a rule that needs two lanes.
-    fn too_few<'a>(self) -> LineRefusal<'a>
-        ensures { result ≡ LineFault.Wrong Cause.OneLane }
+    /// The objection to a rule that needs two lanes.
+    fn too_few<'a>(self) -> Objection<'a>
+        ensures { result ≡ Cause.OneLane }
     {
         let wanted = Wanted::SecondLane { line: self.line };
-        LineRefusal::of(Objection::new(Cause::OneLane, b"", wanted))
-    }
-}
-
-/// The rule of a line `rule nasch t`.
-fn nasch_rule<'a>(alloc: Global, brake: Chance) -> Result<Rule, LineRefusal<'a>>
-    ensures told { ReportsLine (IsMotionRule (nasch_program brake)) result }
-    ensures suits { IfOk result (λ rule. (lanes : ℕ) → IsRuleFor lanes rule) }
-{
-    match nasch(alloc, brake) {
-        Ok(rule) => Ok(rule),
-        Err(StandardFault::Memory) => Err(LineRefusal::memory()),
-        Err(StandardFault::Refused) => unreachable!(),
-    }
-}
-
-/// The rule of a line `rule vdr t t0`.
-fn vdr_rule<'a>(alloc: Global, moving: Chance, stopped: Chance) -> Result<Rule, LineRefusal<'a>>
-    ensures told { ReportsLine (IsMotionRule (vdr_program moving stopped)) result }
-    ensures suits { IfOk result (λ rule. (lanes : ℕ) → IsRuleFor lanes rule) }
-{
-    match vdr(alloc, moving, stopped) {
-        Ok(rule) => Ok(rule),
-        Err(StandardFault::Memory) => Err(LineRefusal::memory()),
-        Err(StandardFault::Refused) => unreachable!(),
-    }
-}
-
-/// The rule of a line `rule rickert t c`, which needs two lanes.
-fn rickert_rule<'a>(
-    alloc: Global,
-    lanes: Lanes,
-    brake: Chance,
-    crossing: Chance,
-) -> Result<Rule, LineRefusal<'a>>
-    requires some { 1 ≤ lanes.count }
-    requires few { lanes.count ≤ MAX_LANES }
-    ensures told { ReportsLine
-        (IsTwoLaneRule (nat_eq lanes.count 1) (nasch_program brake) (rickert_program crossing)) result }
-    ensures suits { IfOk result (λ rule. IsRuleFor lanes.count rule) }
-{
-    if lanes.count == 1 {
-        return Err(lanes.too_few());
-    }
-    match rickert(alloc, brake, crossing) {
-        Ok(rule) => Ok(rule),
-        Err(StandardFault::Memory) => Err(LineRefusal::memory()),
-        Err(StandardFault::Refused) => unreachable!(),
+        Objection::new(Cause::OneLane, wanted)
     }
 }
 
 /// Why the line `code X` of a change program is rejected on a road with one lane.
-fn code_misplacement(alloc: Global, lanes: Lanes, line: &[u8]) -> LineRefusal<'_>
-    ensures { ReportsCause (code_misplacement (word_after (codes "code ") line.now)) result }
+///
+/// # Errors
+///
+/// If an allocation fails.
+fn code_misplacement(alloc: Global, lanes: Lanes, line: &[u8]) -> Result<Objection<'_>, AllocError>
+    ensures { IfOk result (λ cause. cause ≡ code_misplacement (word_after (codes "code ") line.now)) }
 {
-    let digits = match program::code_digits(line) {
+    let digits = match program::code_digits(&Excerpt::of(line)) {
         Ok(digits) => digits,
-        Err(objection) => return LineRefusal::of(objection),
+        Err(objection) => return Ok(objection),
     };
     match hex::decode(alloc, digits.bytes()) {
-        Ok(_) => lanes.too_few(),
-        Err(FromHexError::OutOfMemory) => LineRefusal::memory(),
-        Err(_) => LineRefusal::of(digits.no_hex()),
+        Ok(_) => Ok(lanes.too_few()),
+        Err(FromHexError::OutOfMemory) => Err(AllocError),
+        Err(_) => Ok(digits.no_hex()),
     }
 }
 
@@ -123,7 +77,10 @@ fn misplacement(alloc: Global, lanes: Lanes, rest: Rest<'_>) -> Refusal<'_>
             Err(refusal) => refusal,
         }
     } else {
-        code_misplacement(alloc, lanes, line).at(first, LineNames::none())
+        match code_misplacement(alloc, lanes, line) {
+            Ok(objection) => objection.at(first, LineNames::none()),
+            Err(_) => Refusal::memory(),
+        }
     }
 }
 
@@ -169,8 +126,6 @@ fn change_part(
 
 /// Reads the programs of `rule own`: a motion program, and optionally a change program.
 fn own_rule(alloc: Global, lanes: Lanes, rest: Rest<'_>) -> Result<(Rule, Rest<'_>), Refusal<'_>>
-    requires some { 1 ≤ lanes.count }
-    requires few { lanes.count ≤ MAX_LANES }
     ensures told { Reports (own_rule lanes.count rest.entry) result }
     ensures suits { IfOk result (λ found. IsRuleFor lanes.count found.0) }
 {
@@ -179,19 +134,17 @@ fn own_rule(alloc: Global, lanes: Lanes, rest: Rest<'_>) -> Result<(Rule, Rest<'
     Ok((Rule::new(motion, change), rest))
 }
 
-/// Returns the rule of the line `number` with the rest after this line. A refusal gets the line number.
-fn rule_with_rest<'a>(
-    number: u32,
-    rule: Result<Rule, LineRefusal<'a>>,
-    rest: Rest<'a>,
-) -> Result<(Rule, Rest<'a>), Refusal<'a>>
-    ensures { MatchResult rule.entry
-        (λ rule. result ≡ Ok (rule, rest.entry))
-        (λ fault. result ≡ Err (text_fault number fault)) }
+/// Returns a standard rule with the rest of the text.
+fn rule_with_rest(
+    rule: Result<Rule, StandardFault>,
+    rest: Rest<'_>,
+) -> Result<(Rule, Rest<'_>), Refusal<'_>>
+    requires { IfErr rule (λ fault. fault ≡ StandardFault.Memory) }
+    ensures { MatchResult rule (λ rule. result ≡ Ok (rule, rest.entry)) (λ _. result ≡ Err TextFault.Memory) }
 {
     match rule {
         Ok(rule) => Ok((rule, rest)),
-        Err(refusal) => Err(refusal.at(number, LineNames::none())),
+        Err(_) => Err(Refusal::memory()),
     }
 }
 
@@ -203,18 +156,18 @@ pub fn rule_from(
     line: RuleLine<Chance>,
     rest: Rest<'_>,
 ) -> Result<(Rule, Rest<'_>), Refusal<'_>>
-    requires some { 1 ≤ lanes.count }
-    requires few { lanes.count ≤ MAX_LANES }
     ensures told { Reports (rule_from lanes.count number line rest.entry) result }
     ensures suits { IfOk result (λ found. IsRuleFor lanes.count found.0) }
 {
     match line {
-        RuleLine::Nasch { brake } => rule_with_rest(number, nasch_rule(alloc, brake), rest),
-        RuleLine::Vdr { moving, stopped } => {
-            rule_with_rest(number, vdr_rule(alloc, moving, stopped), rest)
-        }
+        RuleLine::Nasch { brake } => rule_with_rest(nasch(alloc, brake), rest),
+        RuleLine::Vdr { moving, stopped } => rule_with_rest(vdr(alloc, moving, stopped), rest),
         RuleLine::Rickert { brake, crossing } => {
-            rule_with_rest(number, rickert_rule(alloc, lanes, brake, crossing), rest)
+            if lanes.count == 1 {
+                Err(lanes.too_few().at(number, LineNames::none()))
+            } else {
+                rule_with_rest(rickert(alloc, brake, crossing), rest)
+            }
         }
         RuleLine::Own => own_rule(alloc, lanes, rest),
     }
@@ -222,8 +175,6 @@ pub fn rule_from(
 
 /// Reads a rule: a line `rule ..`, and its programs if it is `rule own`.
 pub fn rule(alloc: Global, lanes: Lanes, rest: Rest<'_>) -> Result<(Rule, Rest<'_>), Refusal<'_>>
-    requires some { 1 ≤ lanes.count }
-    requires few { lanes.count ≤ MAX_LANES }
     ensures told { Reports (rule lanes.count rest.entry) result }
     ensures suits { IfOk result (λ found. IsRuleFor lanes.count found.0) }
 {
@@ -257,8 +208,6 @@ fn later_rule(
     least: u32,
     rest: Rest<'_>,
 ) -> Result<((u32, Rule), Rest<'_>), Refusal<'_>>
-    requires some { 1 ≤ lanes.count }
-    requires few { lanes.count ≤ MAX_LANES }
     ensures told { Reports (later_rule room lanes.count steps least rest.entry) result }
     ensures room { OnOk result (0 < room) }
     ensures rises { IfOk result (λ found. least ≤ found.0.0) }
@@ -278,8 +227,6 @@ pub fn later_rules(
     steps: u32,
     mut rest: Rest<'_>,
 ) -> Result<(Vec<(u32, Rule)>, Rest<'_>), Refusal<'_>>
-    requires some { 1 ≤ lanes.count }
-    requires few { lanes.count ≤ MAX_LANES }
     ensures told { Reports (later_rules lanes.count steps rest.entry)
         (result_map_both (λ found. (found.0.items, found.1)) (λ fault. fault) result) }
     ensures later { IfOk result (λ found. AreLaterRules lanes.count steps 0 found.0.items) }

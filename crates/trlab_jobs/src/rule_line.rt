@@ -119,7 +119,7 @@ fn admit_step<'a>(room: u32, steps: u32, least: u32, step: u64) -> Result<u32, O
         Ok(step as u32)
     } else {
         let wanted = Wanted::Step { least, steps };
-        Err(Objection::new(Cause::Order, b"", wanted))
+        Err(Objection::new(Cause::Order, wanted))
     }
 }
 

@@ -142,7 +142,7 @@ fn number_line(name: LineName, low: u32, high: u32, line: &[u8]) -> Result<u32, 
     ensures low { IfOk result (λ n. low ≤ n) }
     ensures high { IfOk result (λ n. n ≤ high) }
 {
-    Excerpt::number_after(name, low, high, Quantity::Other, line)
+    Excerpt::number_after(name, low, high, line)
 }
 
 /// Reads the next line, which has this name and a number from `low` to `high`.
@@ -208,7 +208,7 @@ fn admit_cars<'a>(cells: u32, steps: u32, point: u32, count: u32) -> Result<u32,
             points: point,
             steps,
         };
-        return Err(Objection::new(Cause::Work, b"", wanted));
+        return Err(Objection::new(Cause::Work, wanted));
     }
     Ok(count)
 }
@@ -218,7 +218,8 @@ fn cars_line(cells: u32, steps: u32, point: u32, line: &[u8]) -> Result<u32, Obj
     ensures value { result ≡ cars_line cells steps point line.now }
     ensures room { OnOk result (point ≤ MAX_POINTS) }
 {
-    let count = Excerpt::number_after(LineName::Cars, 0, MAX_CARS, Quantity::Cars { cells }, line)?;
+    let word = Excerpt::of(line).word_after(LineName::Cars.name_and_space())?;
+    let count = word.number(0, MAX_CARS, Quantity::Cars { cells })?;
     admit_cars(cells, steps, point, count)
 }
 

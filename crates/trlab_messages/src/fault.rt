@@ -12,7 +12,7 @@ use trlab_asm::{Why, mnemonic_named};
 use trlab_jobs::Subject;
 use trlab_lines::{Place, name_and_operands};
 use trlab_texts::word::head_word;
-use trlab_texts::{Cause, LineName, Wanted};
+use trlab_texts::{Cause, Excerpt, LineName, Wanted};
 
 /// Some bytes of a line.
 #[derive(Clone, Copy)]
@@ -20,6 +20,17 @@ pub struct ByteSpan {
     /// The number of bytes before them.
     pub start: usize,
     pub length: usize,
+}
+
+impl ByteSpan {
+    /// The span of an excerpt in its line.
+    pub fn of(excerpt: &Excerpt<'_>) -> ByteSpan {
+        let (_, start) = excerpt.place();
+        ByteSpan {
+            start,
+            length: excerpt.bytes().len(),
+        }
+    }
 }
 
 /// The first fault of an input.
@@ -33,29 +44,13 @@ pub struct Fault<'a> {
     pub line: &'a [u8],
     pub cause: Cause,
     /// The lines or values that its reader wanted there.
-    pub wanted: &'a Wanted,
-    /// The rest of the line, in which the positions in `wanted` are counted.
-    pub within: &'a [u8],
+    pub wanted: &'a Wanted<'a>,
 }
 
 impl<'a> Fault<'a> {
     /// Whether a line of this name would be valid instead of the one at fault.
     pub fn wants(&self, name: LineName) -> bool {
         matches!(self.wanted, Wanted::Lines(names) if names.has(name))
-    }
-
-    /// The word at fault, if the reader names one.
-    pub fn word(&self) -> Option<ByteSpan> {
-        let (at, length) = match self.wanted {
-            Wanted::Number { at, length, .. } => (*at, *length),
-            Wanted::Digits { at } => (*at, self.within.len().saturating_sub(*at)),
-            _ => return None,
-        };
-        let before = self.line.len().saturating_sub(self.within.len());
-        Some(ByteSpan {
-            start: before.saturating_add(at),
-            length,
-        })
     }
 }
 

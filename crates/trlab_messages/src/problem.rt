@@ -9,7 +9,6 @@ use crate::problem::line::push_line_problem;
 use crate::problem::program::{push_program_problem, word_span};
 use crate::sentence::{Draft, Quoted};
 use trlab_asm::Why;
-use trlab_lines::bytes_at;
 use trlab_road::RoadFault;
 use trlab_texts::word::long_number;
 use trlab_texts::{Cause, Wanted};
@@ -103,23 +102,28 @@ pub fn span_of(fault: &Fault<'_>) -> Option<ByteSpan> {
                 length: found.word.len(),
             })
         }
-        _ => fault.word(),
+        _ => match fault.wanted {
+            Wanted::Number { word, .. } => Some(ByteSpan::of(word)),
+            Wanted::Digits(digits) => Some(ByteSpan::of(digits)),
+            _ => None,
+        },
     }
 }
 
 /// Adds the problem at a fault, unless the meaning of the cause is enough.
 pub fn describe_problem(found: &mut Draft, fault: &Fault<'_>) {
     let line = fault.line;
-    let word = match fault.word() {
-        Some(span) => bytes_at(line, span.start, span.length),
-        None => b"",
-    };
     match fault.wanted {
         Wanted::Lines(names) => push_line_problem(found, fault, *names),
-        Wanted::Number { least, most, .. } if fault.cause == Cause::Number => {
-            push_number_problem(found, word, *least, *most)
+        Wanted::Number {
+            word,
+            least,
+            most,
+            ..
+        } => push_number_problem(found, word.bytes(), *least, *most),
+        Wanted::Digits(digits) => {
+            push_digits_problem(found, digits.bytes(), fault.cause == Cause::Key)
         }
-        Wanted::Digits { .. } => push_digits_problem(found, word, fault.cause == Cause::Key),
         Wanted::Step { least, steps } => write!(
             found,
             "the step must be at least {least} and below {steps}."
@@ -138,6 +142,6 @@ pub fn describe_problem(found: &mut Draft, fault: &Fault<'_>) {
                 push_program_problem(found, line, why);
             }
         }
-        Wanted::Number { .. } | Wanted::SecondLane { .. } | Wanted::Program { .. } => {}
+        Wanted::SecondLane { .. } | Wanted::Program { .. } => {}
     }
 }

@@ -4,6 +4,7 @@ mod draws;
 mod register_facts;
 mod rejection;
 
+use crate::Result;
 use crate::body::{Body, Known, Number};
 use crate::fault::Fault;
 use crate::lines::{NumberedLine, UnreadLines};
@@ -19,7 +20,7 @@ use trlab_lines::Place;
 use trlab_notes::Reason;
 use trlab_texts::Wanted;
 use trlab_texts::word::without_prefix;
-use trlab_verify::{Mark, Note, NotesFault, notes};
+use trlab_verify::{Mark, Note, notes};
 
 /// The verifier's verdict on a program.
 #[derive(Clone, Copy)]
@@ -100,12 +101,9 @@ fn add_accepted(body: &mut Body, program: Listing<'_>, budget: u32) {
     body.numbers_above = 1;
     let pushed = push_program_draws(body.alloc, &mut body.facts, program);
     body.ok_or_fail(pushed);
-    let table = match notes(body.alloc, program.code) {
-        Ok(table) => Ok(Some(table)),
-        Err(NotesFault::Refused) => Ok(None),
-        Err(NotesFault::Memory) => Err(AllocError),
-    };
-    let Some(Some(table)) = body.ok_or_fail(table) else {
+    // The notes of an accepted program are never refused.
+    let table = notes(body.alloc, program.code).map_err(|_| AllocError);
+    let Some(table) = body.ok_or_fail(table) else {
         return;
     };
     let mut pc = 0u32;
@@ -115,21 +113,37 @@ fn add_accepted(body: &mut Body, program: Listing<'_>, budget: u32) {
     }
 }
 
+/// The canonical form of a program in bytes; none if the program has lines of instructions in the input.
+fn canonical_form(alloc: Global, code: &Code, first_line: &[u8]) -> Result<Option<Vec<u8>>> {
+    let line = without_prefix(b"notes ", first_line).unwrap_or(first_line);
+    if without_prefix(b"code ", line).is_none() {
+        return Ok(None);
+    }
+    Ok(Some(disassemble(alloc, code)?))
+}
+
+/// The lines of a program's instructions: of its canonical form, or else of the input below its first line.
+fn instruction_lines<'a>(
+    alloc: Global,
+    code: &Code,
+    canonical: &'a Option<Vec<u8>>,
+    below: UnreadLines<'a>,
+) -> Result<Vec<NumberedLine<'a>>> {
+    let mut lines = match canonical {
+        Some(text) => UnreadLines::below(0, text),
+        None => below,
+    };
+    lines.read_instructions(alloc, code.instrs().len())
+}
+
 /// Adds the verdict on a program; `place` is its first line.
 fn add_verdict(body: &mut Body, code: &Code, place: &Place<'_>, verdict: ProgramVerdict) {
-    let line = place.line.unwrap_or(b"");
-    let line = without_prefix(b"notes ", line).unwrap_or(line);
-    let is_in_bytes = without_prefix(b"code ", line).is_some();
-    let Some(listing) = body.ok_or_fail(disassemble(body.alloc, code)) else {
+    let canonical = canonical_form(body.alloc, code, place.line.unwrap_or(b""));
+    let Some(canonical) = body.ok_or_fail(canonical) else {
         return;
     };
-    let (line_before, text) = if is_in_bytes {
-        (0, listing.as_slice())
-    } else {
-        (place.number, place.below())
-    };
-    let count = code.instrs().len();
-    let lines = UnreadLines::below(line_before, text).read_instructions(body.alloc, count);
+    let below = UnreadLines::below(place.number, place.below());
+    let lines = instruction_lines(body.alloc, code, &canonical, below);
     let Some(lines) = body.ok_or_fail(lines) else {
         return;
     };
@@ -137,7 +151,7 @@ fn add_verdict(body: &mut Body, code: &Code, place: &Place<'_>, verdict: Program
         code,
         lines: &lines,
         first_line: place.number,
-        is_in_bytes,
+        is_in_bytes: canonical.is_some(),
     };
     match verdict {
         ProgramVerdict::Accepted { budget } => add_accepted(body, program, budget),

@@ -7,13 +7,12 @@ use Rattle.trlab_code.specs.declared.program.Kind.TheVariants.{Motion, Change}
 use Rattle.trlab_code.specs.declared.fault.CodeFault.TheVariants.{Kind as OtherKind}
 use Rattle.trlab_code.specs.Program.{Program}
 use Rattle.trlab_verify.specs.Verified.{CheckedProgram}
+use Rattle.trlab_texts.specs.declared.fault.Cause.{Cause}
 use Rattle.trlab_texts.specs.declared.fault.Cause.TheVariants.{Code}
-use Rattle.trlab_texts.specs.declared.fault.LineFault.{LineFault}
-use Rattle.trlab_texts.specs.declared.fault.LineFault.TheVariants.{Wrong, Memory as NoMemory}
 use Rattle.trlab_texts.specs.declared.fault.TextFault.{TextFault}
 use Rattle.trlab_texts.specs.declared.fault.TextFault.TheVariants.{At, Memory}
 use Rattle.trlab_texts.specs.Lines.{Rest, IsNextLine}
-use Rattle.trlab_texts.specs.Reading.{line, Reports, ReportsLine}
+use Rattle.trlab_texts.specs.Reading.{line, Reports}
 use Rattle.trlab_texts.specs.Programs.{as_kind, code_line, code_line_of, heading_line, program_part, verdict, IsVerdict, part}
 use Rattle.trlab_texts.proofs.Readings.{goes_on}
 
@@ -36,9 +35,8 @@ code_of_kind kind text program says is = (Ok program, (says, sym (kind_as kind p
 pub code_of_other : (kind : Kind) (text : List ℕ) (program : Program) → code_line text (Ok program) → program.kind ≢ kind → code_line_of kind text (Err (Code OtherKind))
 code_of_other kind text program says other = (Ok program, (says, sym (kind_not kind program.kind program other)))
 
-pub code_of_none : (kind : Kind) (text : List ℕ) (fault : LineFault) → ReportsLine (code_line text) (Err fault) → ReportsLine (code_line_of kind text) (Err fault)
-code_of_none kind text (Wrong cause) says = (Err cause, (says, refl))
-code_of_none kind text NoMemory says = tt
+pub code_of_none : (kind : Kind) (text : List ℕ) (cause : Cause) → code_line text (Err cause) → code_line_of kind text (Err cause)
+code_of_none kind text cause says = (Err cause, (says, refl))
 
 -- a program in one line
 pub in_one_line : (kind : Kind) (place after : Rest) (text : List ℕ) (out : Result (Program × Rest) TextFault) → IsNextLine place text after

@@ -3,12 +3,10 @@ use Rattle.std.proofs.Common.{◌≡◌, ℕ, ◌+◌, List, [], ◌∷◌, refl
 use Rattle.std.specs.Prelude.{Result, Ok, Err}
 use Rattle.std.specs.Result.{IsErr, IsErrAnd}
 use Rattle.trlab_texts.specs.declared.fault.Cause.{Cause}
-use Rattle.trlab_texts.specs.declared.fault.LineFault.{LineFault}
-use Rattle.trlab_texts.specs.declared.fault.LineFault.TheVariants.{Wrong, Memory as NoMemory}
 use Rattle.trlab_texts.specs.declared.fault.TextFault.{TextFault}
 use Rattle.trlab_texts.specs.declared.fault.TextFault.TheVariants.{At, Memory}
 use Rattle.trlab_texts.specs.Lines.{Rest, IsNextLine}
-use Rattle.trlab_texts.specs.Reading.{Fault, LineRule, Reading, LineParsesTo, ◌>>=◌, line, Reports, ReportsLine, text_fault}
+use Rattle.trlab_texts.specs.Reading.{Fault, LineRule, Reading, LineParsesTo, ◌>>=◌, line, Reports}
 
 -- a place is its number and its lines
 pub rest_is : (after : Rest) (n : ℕ) → after.number ≡ n → after ≡ record { number = n; left = after.left }
@@ -20,12 +18,11 @@ pub line_content : {A : Type 0} (rule : LineRule A) (place after : Rest) (text :
 line_content rule place after text x stands says =
     rw stands.0 (Ok x, (says, ap (λ p. Ok (x, p)) (rest_is after (place.number + 1) stands.1)))
 
--- a line has a fault, or an allocation failed
-pub line_fails : {A : Type 0} (rule : LineRule A) (place after : Rest) (text : List ℕ) (number : ℕ) (fault : LineFault)
+-- a line has a fault
+pub line_fails : {A : Type 0} (rule : LineRule A) (place after : Rest) (text : List ℕ) (number : ℕ) (cause : Cause)
     → IsNextLine place text after → number ≡ place.number
-    → ReportsLine (rule text) (Err fault) → Reports (line rule place) (Err (text_fault number fault))
-line_fails rule place after text number (Wrong cause) stands here says = rw (stands.0, here) (Err cause, (says, refl))
-line_fails rule place after text number NoMemory stands here says = tt
+    → rule text (Err cause) → line rule place (Err (record { line = number; cause = cause }))
+line_fails rule place after text number cause stands here says = rw (stands.0, here) (Err cause, (says, refl))
 
 next_by : {A : Type 0} (P Q : LineRule A) (number : ℕ) (left : List (List ℕ)) (out : Result (A × Rest) Fault) → ((text : List ℕ) (says : Result A Cause) → P text says → Q text says)
     → LineParsesTo P number left out → LineParsesTo Q number left out

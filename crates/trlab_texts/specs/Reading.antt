@@ -3,8 +3,6 @@ use Rattle.std.specs.Prelude.{◌≡◌, ℕ, ◌+◌, Bool, true, false, List, 
 use Rattle.trlab_texts.specs.Lines.{Rest}
 use Rattle.trlab_texts.specs.declared.fault.Cause.{Cause}
 use Rattle.trlab_texts.specs.declared.fault.Cause.TheVariants.{Line, TooBig}
-use Rattle.trlab_texts.specs.declared.fault.LineFault.{LineFault}
-use Rattle.trlab_texts.specs.declared.fault.LineFault.TheVariants.{Wrong, Memory as NoMemory}
 use Rattle.trlab_texts.specs.declared.fault.TextFault.{TextFault}
 use Rattle.trlab_texts.specs.declared.fault.TextFault.TheVariants.{At, Memory}
 use Rattle.trlab_bounds.specs.declared.texts.TheConstants.{TEXT_LIMIT}
@@ -86,12 +84,6 @@ Reports IsResult (Ok x) = IsResult (Ok x)
 Reports IsResult (Err (At line cause)) = IsResult (Err (record { line = line; cause = cause }))
 Reports IsResult (Err Memory) = Unit {0}
 
--- the result of reading a line is one that `IsResult` allows, or `Memory`: an allocation may always fail
-abbrev pub ReportsLine : {A : Type 0} → (Result A Cause → Type 0) → Result A LineFault → Type 0
-ReportsLine IsResult (Ok x) = IsResult (Ok x)
-ReportsLine IsResult (Err (Wrong cause)) = IsResult (Err cause)
-ReportsLine IsResult (Err NoMemory) = Unit {0}
-
 -- reads a value by `reading` if the condition is true; otherwise gives `None` and reads no line
 abbrev pub read_if : {A : Type 0} → Bool → Reading A → Reading (Option A)
 read_if true reading = reading >>= λ x. give (Some x)
@@ -116,14 +108,3 @@ result_of_line {A} number IsResult rest out =
 abbrev pub ReportsFault : Fault → TextFault → Type 0
 ReportsFault fault (At line cause) = record { line = line; cause = cause } ≡ fault
 ReportsFault fault Memory = Unit {0}
-
--- a function reports this cause for a line, or that an allocation failed
-abbrev pub ReportsCause : Cause → LineFault → Type 0
-ReportsCause cause (Wrong reported) = reported ≡ cause
-ReportsCause cause NoMemory = Unit {0}
-
--- the fault of a text, from the fault of its line with the number `line`: the cause at this line, or the
--- failed allocation
-abbrev pub text_fault : ℕ → LineFault → TextFault
-text_fault line (Wrong cause) = At line cause
-text_fault line NoMemory = Memory

@@ -5,6 +5,7 @@ ghost use Rattle.trlab_lines.specs.Cutting.{cut, without_prefix};
 ghost use Rattle.trlab_texts.specs.Words.{as_word, is_word, number_of, number_within, two_words, within, word_after};
 ghost use Rattle.trlab_bounds.specs.declared.texts.TheConstants.{LONGEST_NUMBER};
 ghost use Rattle.trlab_texts.specs.LineNames.{name_and_space};
+ghost use Rattle.trlab_texts.specs.Places.{HasBytesAt};
 
 use crate::fault::Cause;
 use crate::line_name::LineName;
@@ -44,15 +45,22 @@ impl<'a> Excerpt<'a> {
         }
     }
 
+    /// The line, and the position of the excerpt in it.
+    pub fn place(&self) -> (&'a [u8], usize)
+        ensures { HasBytesAt result.0.now result.1 self.now }
+    {
+        (self.line, self.at)
+    }
+
     /// The only word after the name of a line; the name ends with a space.
     ///
     /// # Errors
     ///
     /// `Cause::Line` for anything else.
-    pub fn word_after(name: &[u8], line: &'a [u8]) -> Result<Excerpt<'a>, Objection<'a>>
-        ensures { result ≡ word_after name.now line.now }
+    pub fn word_after(&self, name: &[u8]) -> Result<Excerpt<'a>, Objection<'a>>
+        ensures { result ≡ word_after name.now self.now }
     {
-        match Excerpt::of(line).after(name) {
+        match self.after(name) {
             Some(word) => {
                 if word.is_word() {
                     Ok(word)
@@ -73,13 +81,12 @@ impl<'a> Excerpt<'a> {
         name: LineName,
         low: u32,
         high: u32,
-        quantity: Quantity,
         line: &'a [u8],
     ) -> Result<u32, Objection<'a>>
         ensures { result ≡ number_within low high (word_after (name_and_space name) line.now) }
     {
-        let word = Excerpt::word_after(name.name_and_space(), line)?;
-        word.number(low, high, quantity)
+        let word = Excerpt::of(line).word_after(name.name_and_space())?;
+        word.number(low, high, Quantity::Other)
     }
 
     /// The bytes of the excerpt, without the rest of the line.
@@ -179,16 +186,14 @@ impl<'a> Excerpt<'a> {
     pub fn no_key(self) -> Objection<'a>
         ensures { result ≡ Cause.Key }
     {
-        let wanted = Wanted::Digits { at: self.at };
-        Objection::new(Cause::Key, self.line, wanted)
+        Objection::new(Cause::Key, Wanted::Digits(self))
     }
 
     /// The objection that these bytes are not hexadecimal digits, two per byte.
     pub fn no_hex(self) -> Objection<'a>
         ensures { result ≡ Cause.Hex }
     {
-        let wanted = Wanted::Digits { at: self.at };
-        Objection::new(Cause::Hex, self.line, wanted)
+        Objection::new(Cause::Hex, Wanted::Digits(self))
     }
 
     /// The objection that these bytes are not a number from `least` to `most`.
@@ -196,14 +201,12 @@ impl<'a> Excerpt<'a> {
         requires { within least most (number_of self) ≡ Err Cause.Number }
         ensures { result ≡ Cause.Number }
     {
-        let Excerpt { line, at, bytes } = self;
         let wanted = Wanted::Number {
-            at,
-            length: bytes.len(),
+            word: self,
             least,
             most,
             quantity,
         };
-        Objection::new(Cause::Number, line, wanted)
+        Objection::new(Cause::Number, wanted)
     }
 }

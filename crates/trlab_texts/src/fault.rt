@@ -1,7 +1,6 @@
 //! Faults of texts: the cause with its number, and the line.
 
 ghost use Rattle.std.specs.Prelude.{◌≡◌};
-ghost use Rattle.trlab_texts.specs.Reading.{text_fault};
 ghost use Rattle.trlab_texts.specs.Causes.{cause_number, why_number, code_fault_number, road_fault_number};
 
 use thiserror::Error;
@@ -127,29 +126,6 @@ fn road_fault_number(fault: RoadFault) -> u64
         RoadFault::SpeedAboveLimit { .. } => 5,
         RoadFault::Memory => 6,
         RoadFault::TooManyCars => 7,
-    }
-}
-
-/// Why a line was rejected.
-#[derive(Clone, Copy, Debug, PartialEq, Eq, Error)]
-pub enum LineFault {
-    /// The line is invalid, for this cause.
-    #[error("{0}")]
-    Wrong(Cause),
-    /// An allocation failed.
-    #[error("out of memory")]
-    Memory,
-}
-
-impl LineFault {
-    /// The fault of the text whose line number `line` has this fault.
-    pub fn at(self, line: u32) -> TextFault
-        ensures { result ≡ text_fault line self }
-    {
-        match self {
-            LineFault::Wrong(cause) => TextFault::At { line, cause },
-            LineFault::Memory => TextFault::Memory,
-        }
     }
 }
 

@@ -2,7 +2,7 @@
 //!
 //! ```text
 //! let line = b"steps 20";
-//! let steps = Excerpt::number_after(LineName::Steps, 0, 100, Quantity::Other, line).ok()?; // 20
+//! let steps = Excerpt::number_after(LineName::Steps, 0, 100, line).ok()?; // 20
 //! ```
 #![tactic(auto)]
 
@@ -16,7 +16,7 @@ mod rest;
 pub mod word;
 
 pub use excerpt::Excerpt;
-pub use fault::{Cause, LineFault, TextFault};
+pub use fault::{Cause, TextFault};
 pub use line_name::{LineName, LineNames};
-pub use refusal::{LineRefusal, Objection, Quantity, Refusal, Wanted};
+pub use refusal::{Objection, Quantity, Refusal, Wanted};
 pub use rest::Rest;

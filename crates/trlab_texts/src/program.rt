@@ -1,32 +1,32 @@
 //! Programs in texts: the line `code X`, where X is their bytes in hexadecimal digits of either case, or a
 //! block of lines from `motion` or `change` to `end`.
 
-ghost use Rattle.std.specs.Prelude.{◌≡◌, codes, ◌+◌, ◌<◌, ◌^◌, length};
-ghost use Rattle.trlab_texts.specs.Reading.{ReportsLine, Reports};
+ghost use Rattle.std.specs.Prelude.{◌≡◌, IfOk, codes, ◌+◌, ◌<◌, ◌^◌, length};
+ghost use Rattle.trlab_texts.specs.Reading.{Reports};
 ghost use Rattle.trlab_texts.specs.Programs.{BytesDecodeTo, code_line, code_line_of, IsVerdict, heading_line, part, program_after, program_part};
 ghost use Rattle.trlab_texts.specs.Words.{word_after};
 ghost use Rattle.std.specs.Str.{bytes_eq};
 ghost use Rattle.trlab_lines.specs.Lines.{lines_of};
 
 use crate::excerpt::Excerpt;
-use crate::fault::{Cause, LineFault, TextFault};
+use crate::fault::{Cause, TextFault};
 use crate::line_name::LineName;
-use crate::refusal::{LineRefusal, Objection, Refusal, Wanted};
+use crate::refusal::{Objection, Refusal, Wanted};
 use crate::rest::Rest;
 use hex::FromHexError;
-use std::alloc::Global;
+use std::alloc::{AllocError, Global};
 use trlab_asm::{Why, assemble};
 use trlab_code::{Code, CodeFault, Kind, decode};
 use trlab_verify::{AcceptedProgram, ProgramKind, VerifyFault, verify_as};
 
 /// Decodes a program of either kind.
-fn code_of_bytes<'a>(alloc: Global, bytes: &[u8]) -> Result<Code, LineRefusal<'a>>
-    ensures { ReportsLine (BytesDecodeTo bytes.now) result }
+fn code_of_bytes<'a>(alloc: Global, bytes: &[u8]) -> Result<Result<Code, Objection<'a>>, AllocError>
+    ensures { IfOk result (BytesDecodeTo bytes.now) }
 {
     match decode(alloc, bytes) {
-        Ok(code) => Ok(code),
-        Err(CodeFault::Memory) => Err(LineRefusal::memory()),
-        Err(fault) => Err(LineRefusal::of(Objection::bare(Cause::Code(fault)))),
+        Ok(code) => Ok(Ok(code)),
+        Err(CodeFault::Memory) => Err(AllocError),
+        Err(fault) => Ok(Err(Objection::bare(Cause::Code(fault)))),
     }
 }
 
@@ -35,59 +35,54 @@ fn code_of_bytes<'a>(alloc: Global, bytes: &[u8]) -> Result<Code, LineRefusal<'a
 /// # Errors
 ///
 /// `Cause::Line` for other lines.
-pub fn code_digits(line: &[u8]) -> Result<Excerpt<'_>, Objection<'_>>
+pub fn code_digits<'a>(line: &Excerpt<'a>) -> Result<Excerpt<'a>, Objection<'a>>
     ensures { result ≡ word_after (codes "code ") line.now }
 {
-    Excerpt::word_after(b"code ", line)
+    line.word_after(b"code ")
 }
 
-/// Reads the line `code X` of a program of either kind. A rejection includes the input that was wanted.
+/// Reads the line `code X` of a program of either kind. The inner result has the program or the objection to the
+/// line.
 ///
 /// # Errors
 ///
-/// `Cause::Line` for other lines, `Cause::Hex`, or `Cause::Code` with the first fault of the bytes;
-/// `LineFault::Memory` if an allocation fails.
-pub fn parse_code(alloc: Global, line: &[u8]) -> Result<Code, LineRefusal<'_>>
-    ensures { ReportsLine (code_line line.now) result }
+/// If an allocation fails. The objection has the cause `Line` for other lines, `Hex`, or `Code` with the first fault
+/// of the bytes.
+pub fn parse_code<'a>(
+    alloc: Global,
+    line: &Excerpt<'a>,
+) -> Result<Result<Code, Objection<'a>>, AllocError>
+    ensures { IfOk result (code_line line.now) }
 {
     let digits = match code_digits(line) {
         Ok(digits) => digits,
-        Err(objection) => return Err(LineRefusal::of(objection)),
+        Err(objection) => return Ok(Err(objection)),
     };
     match hex::decode(alloc, digits.bytes()) {
         Ok(bytes) => code_of_bytes(alloc, &bytes),
-        Err(FromHexError::OutOfMemory) => Err(LineRefusal::memory()),
-        Err(_) => Err(LineRefusal::of(digits.no_hex())),
+        Err(FromHexError::OutOfMemory) => Err(AllocError),
+        Err(_) => Ok(Err(digits.no_hex())),
     }
 }
 
-/// Reads the line `code X` like [`parse_code`]. The error does not include the wanted input.
-///
-/// # Errors
-///
-/// The fault of `parse_code`.
-pub fn code_line(alloc: Global, line: &[u8]) -> Result<Code, LineFault>
-    ensures { ReportsLine (code_line line.now) result }
+/// Reads the line `code X` of a program of this kind, like `parse_code`. The objection to a program of the other kind
+/// has the cause `CodeFault::Kind`.
+fn parse_code_of<'a>(
+    alloc: Global,
+    kind: Kind,
+    line: &Excerpt<'a>,
+) -> Result<Result<Code, Objection<'a>>, AllocError>
+    ensures { IfOk result (code_line_of kind line.now) }
 {
-    match parse_code(alloc, line) {
-        Ok(code) => Ok(code),
-        Err(refusal) => Err(refusal.fault()),
-    }
-}
-
-/// Reads the line `code X` of a program of this kind.
-///
-/// # Errors
-///
-/// The faults of `parse_code`, and `CodeFault::Kind` for a program of the other kind.
-pub fn parse_code_of(alloc: Global, kind: Kind, line: &[u8]) -> Result<Code, LineRefusal<'_>>
-    ensures { ReportsLine (code_line_of kind line.now) result }
-{
-    let code = parse_code(alloc, line)?;
-    if code.kind() == kind {
-        Ok(code)
-    } else {
-        Err(LineRefusal::of(Objection::bare(Cause::Code(CodeFault::Kind))))
+    match parse_code(alloc, line)? {
+        Ok(code) => {
+            if code.kind() == kind {
+                Ok(Ok(code))
+            } else {
+                Ok(Err(Objection::bare(Cause::Code(CodeFault::Kind))))
+            }
+        }
+        Err(objection) => Ok(Err(objection)),
     }
 }
 
@@ -148,9 +143,10 @@ fn program_part(alloc: Global, kind: Kind, rest: Rest<'_>) -> Result<(Code, Rest
         let code = program_after(alloc, kind, first, lines)?;
         return Ok((code, after));
     }
-    match parse_code_of(alloc, kind, line) {
-        Ok(code) => Ok((code, after)),
-        Err(refusal) => Err(refusal.at(first, names)),
+    match parse_code_of(alloc, kind, &Excerpt::of(line)) {
+        Ok(Ok(code)) => Ok((code, after)),
+        Ok(Err(objection)) => Err(objection.at(first, names)),
+        Err(_) => Err(Refusal::memory()),
     }
 }
 
@@ -170,7 +166,7 @@ fn accepted<'a, K: ProgramKind>(
                     line: first,
                     cause: Cause::Verdict(reason),
                 };
-                Err(Refusal::new(fault, b"", Wanted::Program { code, at }))
+                Err(Refusal::new(fault, Wanted::Program { code, at }))
             }
             VerifyFault::Memory => Err(Refusal::memory()),
         },

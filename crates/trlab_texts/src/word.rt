@@ -3,8 +3,7 @@
 ghost use Rattle.std.specs.Prelude.{◌≡◌, ◌≢◌, ◌≤◌, ℕ, decimal, MatchOption, option_map};
 ghost use Rattle.trlab_bounds.specs.declared.texts.TheConstants.{LONGEST_NUMBER};
 ghost use Rattle.trlab_lines.specs.Cutting.{without_prefix};
-ghost use Rattle.std.specs.Result.{result_map_both};
-ghost use Rattle.trlab_texts.specs.Words.{is_word, word_after, number_of, within, number_within, as_word, head_word, two_words};
+ghost use Rattle.trlab_texts.specs.Words.{is_word, number_of, within, head_word};
 
 use crate::fault::Cause;
 use trlab_bounds::programs::MAX_DIGITS;
@@ -24,27 +23,6 @@ pub fn is_word(text: &[u8]) -> bool
     !text.is_empty() && !text.contains(&b' ')
 }
 
-/// The only word after the name of a line; the name ends with a space.
-///
-/// # Errors
-///
-/// `Cause::Line` for anything else.
-pub fn word_after<'a>(name: &[u8], line: &'a [u8]) -> Result<&'a [u8], Cause>
-    ensures { result_map_both (λ word. word.now) (λ cause. cause) result ≡ word_after name.now line.now }
-{
-    match without_prefix(name, line) {
-        Some(word) if is_word(word) => Ok(word),
-        _ => Err(Cause::Line),
-    }
-}
-
-/// The text, if it is one word.
-pub fn as_word(text: &[u8]) -> Option<&[u8]>
-    ensures { option_map (λ word. word.now) result ≡ as_word text.now }
-{
-    if is_word(text) { Some(text) } else { None }
-}
-
 /// The first word of a line: the bytes before its first space, or all of them.
 pub fn head_word(line: &[u8]) -> &[u8]
     ensures { result.now ≡ head_word line.now }
@@ -52,16 +30,6 @@ pub fn head_word(line: &[u8]) -> &[u8]
     match cut(line, b' ') {
         None => line,
         Some((word, _)) => word,
-    }
-}
-
-/// The two words of a text, if it consists of two words and one space between them.
-pub fn two_words(text: &[u8]) -> Option<(&[u8], &[u8])>
-    ensures { option_map (λ words. (words.0.now, words.1.now)) result ≡ two_words text.now }
-{
-    match cut(text, b' ') {
-        Some((first, second)) if is_word(first) && is_word(second) => Some((first, second)),
-        _ => None,
     }
 }
 
@@ -108,16 +76,4 @@ pub fn long_number(word: &[u8]) -> Result<u64, Cause>
     ensures { result ≡ within 0 LONGEST_NUMBER (number_of word.now) }
 {
     number(word).ok_or(Cause::Number)
-}
-
-/// The number from `low` to `high` that is the only word after the name of a line.
-///
-/// # Errors
-///
-/// `Cause::Line` unless one word follows the name, `Cause::Number` for any other word.
-pub fn number_after(name: &[u8], low: u32, high: u32, line: &[u8]) -> Result<u32, Cause>
-    ensures { result ≡ number_within low high (word_after name.now line.now) }
-{
-    let word = word_after(name, line)?;
-    number_from(low, high, word)
 }

@@ -3,12 +3,12 @@
 use std::alloc::Global;
 use trlab_diagram::{Point, flow, points_text};
 use trlab_jobs::read_job;
-use trlab_texts::{Excerpt, LineName, Quantity};
+use trlab_texts::{Excerpt, LineName};
 
 /// From `trlab_texts`: the number of a line `steps n`.
 fn read_steps() -> Option<u32> {
     let line = b"steps 20";
-    let steps = Excerpt::number_after(LineName::Steps, 0, 100, Quantity::Other, line).ok()?;
+    let steps = Excerpt::number_after(LineName::Steps, 0, 100, line).ok()?;
     Some(steps)
 }
 

@@ -2,10 +2,10 @@
 
 use crate::Result;
 use crate::candidates::{Candidates, DIGITS};
-use crate::fault::{ByteSpan, Fault};
+use crate::fault::Fault;
 use crate::problem::{BEFORE_CELLS, KEY_DIGITS, first_non_hex_digit};
 use std::alloc::Global;
-use trlab_lines::{Place, bytes_at};
+use trlab_lines::Place;
 use trlab_texts::word::without_prefix;
 use trlab_texts::{Cause, Wanted};
 
@@ -18,10 +18,11 @@ fn long_key(alloc: Global, word: &[u8]) -> Result<Vec<u8>> {
 
 /// Adds candidates that delete `0x`, replace a letter by the digit that was meant, or put zeros before a short key.
 pub fn hex_candidates(list: &mut Candidates, fault: &Fault<'_>) {
-    let Some(ByteSpan { start: at, length }) = fault.word() else {
+    let Wanted::Digits(digits) = fault.wanted else {
         return;
     };
-    let word = bytes_at(fault.line, at, length);
+    let (_, at) = digits.place();
+    let word = digits.bytes();
     if word.starts_with(b"0x") {
         list.edit_in_line(DIGITS, at, 2, b"");
     }
@@ -32,9 +33,9 @@ pub fn hex_candidates(list: &mut Candidates, fault: &Fault<'_>) {
             Some(b'l' | b'I') => list.edit_in_line(DIGITS, digit_at, 1, b"1"),
             _ => {}
         }
-    } else if fault.cause == Cause::Key && length < KEY_DIGITS {
+    } else if fault.cause == Cause::Key && word.len() < KEY_DIGITS {
         let mistake = "a key has 64 hexadecimal digits; leading zeros count.";
-        list.rewrite(mistake, at, length, long_key(list.alloc, word));
+        list.rewrite(mistake, at, word.len(), long_key(list.alloc, word));
     }
 }
 

@@ -5,9 +5,8 @@ use crate::fault::Fault;
 use std::num::{nearest_u64_to_f64, saturating_f64_to_u64};
 use trlab_bounds::programs::CERTAIN;
 use trlab_bounds::roads::{MAX_LANES, MAX_LENGTH};
-use trlab_lines::{bytes_at, cut, next_line};
-use trlab_texts::word::number_after;
-use trlab_texts::{Quantity, Wanted};
+use trlab_lines::{cut, next_line};
+use trlab_texts::{Excerpt, LineName, Quantity, Wanted};
 
 /// A quantity that may by mistake be written as a fraction, from 0 to 1, of a whole.
 #[derive(Clone, Copy)]
@@ -26,13 +25,13 @@ const DENSITY: &str =
     "`cars` takes a number of cars, not a density; this is that density on this road.";
 
 /// The number in the first line with this name above the fault, or 0.
-fn number_above(fault: &Fault<'_>, name: &[u8], most: u32) -> u32 {
+fn number_above(fault: &Fault<'_>, name: LineName, most: u32) -> u32 {
     let mut left = fault.place.above();
     for _ in 0..fault.place.number {
         let Some((line, rest)) = next_line(left) else {
             break;
         };
-        if let Ok(number) = number_after(name, 1, most, line) {
+        if let Ok(number) = Excerpt::number_after(name, 1, most, line) {
             return number;
         }
         left = rest;
@@ -58,8 +57,8 @@ pub fn value_candidates(list: &mut Candidates, at: usize, word: &[u8], part: Opt
 
 /// Adds the line `cars n` for a line `density x`: n is x times the number of cells of the sweep's road, rounded.
 pub fn density_candidate(list: &mut Candidates, fault: &Fault<'_>) {
-    let length = number_above(fault, b"length ", MAX_LENGTH);
-    let cells = length.saturating_mul(number_above(fault, b"lanes ", MAX_LANES));
+    let length = number_above(fault, LineName::Length, MAX_LENGTH);
+    let cells = length.saturating_mul(number_above(fault, LineName::Lanes, MAX_LANES));
     let (_, word) = cut(fault.line, b' ').unwrap_or((b"", b""));
     if let Some(density) = value_of(word)
         && density <= 1.0
@@ -72,7 +71,7 @@ pub fn density_candidate(list: &mut Candidates, fault: &Fault<'_>) {
 
 /// Adds the number that the word at fault in a job or sweep may mean: a part of 2^31 or of the cells, or as it is.
 pub fn number_candidates(list: &mut Candidates, fault: &Fault<'_>) {
-    let (Some(span), Wanted::Number { quantity, .. }) = (fault.word(), fault.wanted) else {
+    let Wanted::Number { word, quantity, .. } = fault.wanted else {
         return;
     };
     let part = match quantity {
@@ -83,8 +82,8 @@ pub fn number_candidates(list: &mut Candidates, fault: &Fault<'_>) {
         }),
         Quantity::Other => None,
     };
-    let word = bytes_at(fault.line, span.start, span.length);
-    value_candidates(list, span.start, word, part);
+    let (_, at) = word.place();
+    value_candidates(list, at, word.bytes(), part);
 }
 
 /// The value of a number without a sign, for example `0.25`, `.25`, `1e4` or `007`.

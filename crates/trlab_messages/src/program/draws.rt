@@ -4,14 +4,12 @@ use crate::Result;
 use crate::lines::UnreadLines;
 use crate::paths::{Instructions, reached_from};
 use crate::probability::push_probability;
-use crate::program::Listing;
+use crate::program::{Listing, canonical_form, instruction_lines};
 use crate::sentence::{Draft, Quoted};
 use std::alloc::Global;
 use std::fmt;
-use trlab_asm::disassemble;
 use trlab_code::{Code, Instr, WORDS};
 use trlab_rules::Rule;
-use trlab_texts::word::without_prefix;
 
 /// A draw of a program.
 #[derive(Clone, Copy)]
@@ -152,29 +150,18 @@ fn push_draws_below(
     let Some(first) = lines.read() else {
         return Ok(Vec::new(alloc));
     };
-    let count = code.instrs().len();
-    let first_line = first.number;
-    if without_prefix(b"code ", first.line).is_some() {
-        let canonical = disassemble(alloc, code)?;
-        let listed = UnreadLines::below(0, &canonical).read_instructions(alloc, count)?;
-        let program = Listing {
-            code,
-            lines: &listed,
-            first_line,
-            is_in_bytes: true,
-        };
-        push_draws(alloc, facts, program)
-    } else {
-        let listed = lines.read_instructions(alloc, count)?;
+    let canonical = canonical_form(alloc, code, first.line)?;
+    let listed = instruction_lines(alloc, code, &canonical, *lines)?;
+    if canonical.is_none() {
         lines.read_to(b"end");
-        let program = Listing {
-            code,
-            lines: &listed,
-            first_line,
-            is_in_bytes: false,
-        };
-        push_draws(alloc, facts, program)
     }
+    let program = Listing {
+        code,
+        lines: &listed,
+        first_line: first.number,
+        is_in_bytes: canonical.is_some(),
+    };
+    push_draws(alloc, facts, program)
 }
 
 /// Reads the programs of a line `rule own`, which are on the lines below it, and adds their draws.

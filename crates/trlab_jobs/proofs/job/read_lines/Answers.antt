@@ -3,9 +3,8 @@ use Rattle.std.specs.Prelude.{Ok, Err}
 use Rattle.trlab_texts.specs.Reading.{line, exactly}
 use Rattle.trlab_jobs.specs.Lanes.{lanes}
 use Rattle.trlab_jobs.specs.Job.{road_line, key_line, limit_line}
-use Rattle.trlab_jobs.proofs.HandedOn.{handed_on}
 use Rattle.trlab_jobs.proofs.JobLines.{after_road, after_key, after_limit, after_lanes, behind_road, behind_key, behind_limit, behind_lanes, lines_fail, lines_end}
-use Rattle.trlab_texts.proofs.Readings.{line_by, stops}
+use Rattle.trlab_texts.proofs.Readings.{line_by, stops, handed_on}
 use Rattle.trlab_jobs.proofs.job.read_lines.Goals as goal
 
 pub returns-in_err-rest : goal.returns-in_err-rest

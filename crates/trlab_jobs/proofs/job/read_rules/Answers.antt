@@ -7,10 +7,9 @@ use Rattle.trlab_texts.specs.Reading.{Reports, line, exactly}
 use Rattle.trlab_jobs.specs.RuleParts.{rule}
 use Rattle.trlab_jobs.specs.Later.{later_rules}
 use Rattle.trlab_jobs.specs.Job.{Job, steps_line}
-use Rattle.trlab_jobs.proofs.HandedOn.{handed_on}
 use Rattle.trlab_jobs.proofs.JobLines.{after_lanes, after_rule, after_steps, after_all, behind_rule, behind_steps, behind_all, ends_in_fault}
 use Rattle.trlab_jobs.proofs.OneText.{rules_stored}
-use Rattle.trlab_texts.proofs.Readings.{line_by, stops}
+use Rattle.trlab_texts.proofs.Readings.{line_by, stops, handed_on}
 use Rattle.trlab_jobs.proofs.job.read_rules.Goals as goal
 
 pub returns-in_err-first : goal.returns-in_err-first

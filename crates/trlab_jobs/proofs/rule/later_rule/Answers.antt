@@ -1,4 +1,4 @@
-use Rattle.trlab_jobs.proofs.HandedOn.{handed_on}
+use Rattle.trlab_texts.proofs.Readings.{handed_on}
 use Rattle.trlab_jobs.proofs.RuleSteps.{later_line_fails, later_programs_fail, later_says}
 use Rattle.trlab_jobs.proofs.rule.later_rule.Goals as goal
 

@@ -5,9 +5,8 @@ use Rattle.trlab_verify.specs.Verified.{CheckedProgram}
 use Rattle.trlab_rules.specs.Rules.{Programs}
 use Rattle.trlab_texts.specs.Programs.{part}
 use Rattle.trlab_texts.specs.Reading.{Reading, ◌>>=◌, give}
-use Rattle.trlab_texts.proofs.Readings.{goes_on, stops}
+use Rattle.trlab_texts.proofs.Readings.{goes_on, stops, handed_on}
 use Rattle.trlab_jobs.specs.RuleParts.{change_part}
-use Rattle.trlab_jobs.proofs.HandedOn.{handed_on}
 use Rattle.trlab_jobs.proofs.RuleSteps.{on_two_lanes}
 use Rattle.trlab_jobs.proofs.rule.own_rule.Goals as goal
 
@@ -37,5 +36,5 @@ returns-clause-told c =
 
 pub returns-clause-suits : goal.returns-clause-suits
 returns-clause-suits c =
-    let two = on_two_lanes c.args.lanes.count c.in_ok-motion.rest c.in_ok-change.rest c.in_ok-change.change c.requires.some c.requires.few c.in_ok-change.ensures in
+    let two = on_two_lanes c.args.lanes.count c.in_ok-motion.rest c.in_ok-change.rest c.in_ok-change.change c.args.lanes.in_range.0 c.args.lanes.in_range.1 c.in_ok-change.ensures in
     record { motion = c.new.ensures.rule.motion; change = c.new.ensures.rule.change; two_lanes = rw c.new.ensures.value two }

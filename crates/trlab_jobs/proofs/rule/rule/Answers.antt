@@ -2,8 +2,7 @@ use Rattle.std.proofs.Common.{rules}
 use Rattle.std.specs.Prelude.{Ok, Err}
 use Rattle.trlab_texts.specs.Reading.{exactly}
 use Rattle.trlab_jobs.specs.RuleLines.{rule_line}
-use Rattle.trlab_jobs.proofs.HandedOn.{handed_on}
-use Rattle.trlab_texts.proofs.Readings.{line_by}
+use Rattle.trlab_texts.proofs.Readings.{line_by, handed_on}
 use Rattle.trlab_jobs.proofs.RuleSteps.{rule_line_fails, behind_rule_line}
 use Rattle.trlab_jobs.proofs.rule.rule.Goals as goal
 

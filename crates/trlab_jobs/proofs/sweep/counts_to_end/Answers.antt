@@ -1,6 +1,6 @@
 use Rattle.std.proofs.Common.{◌≡◌, [], ◌∷◌, ◌++◌, arith}
 use Rattle.std.proofs.lemmas.Grind.{common_steps}
-use Rattle.trlab_jobs.proofs.HandedOn.{handed_on}
+use Rattle.trlab_texts.proofs.Readings.{handed_on}
 use Rattle.trlab_jobs.proofs.CountLines.{one_more, stopped, all_read}
 use Rattle.trlab_jobs.proofs.LaterLines.{some_left}
 use Rattle.trlab_jobs.proofs.sweep.counts_to_end.Goals as goal

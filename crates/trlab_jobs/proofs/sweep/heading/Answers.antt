@@ -3,8 +3,7 @@ use Rattle.std.specs.Prelude.{Ok, Err}
 use Rattle.trlab_texts.specs.Reading.{exactly}
 use Rattle.trlab_jobs.specs.Job.{key_line}
 use Rattle.trlab_jobs.specs.Sweep.{sweep_line}
-use Rattle.trlab_jobs.proofs.HandedOn.{handed_on}
-use Rattle.trlab_texts.proofs.Readings.{line_by}
+use Rattle.trlab_texts.proofs.Readings.{line_by, handed_on}
 use Rattle.trlab_jobs.proofs.SweepLines.{sweep_fails, key_told}
 use Rattle.trlab_jobs.proofs.sweep.heading.Goals as goal
 

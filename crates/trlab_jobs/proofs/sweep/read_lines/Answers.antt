@@ -1,6 +1,6 @@
 use Rattle.std.proofs.Common.{arith}
 use Rattle.std.proofs.lemmas.Grind.{common_steps}
-use Rattle.trlab_jobs.proofs.HandedOn.{handed_on}
+use Rattle.trlab_texts.proofs.Readings.{handed_on}
 use Rattle.trlab_jobs.proofs.SweepCounts.{counts_fail, counts_said}
 use Rattle.trlab_jobs.proofs.OneSweep.{said_stored}
 use Rattle.trlab_jobs.proofs.sweep.read_lines.Goals as goal

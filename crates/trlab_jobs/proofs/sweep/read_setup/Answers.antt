@@ -1,4 +1,4 @@
-use Rattle.trlab_jobs.proofs.HandedOn.{handed_on}
+use Rattle.trlab_texts.proofs.Readings.{handed_on}
 use Rattle.trlab_jobs.proofs.SweepLines.{key_fails, shape_fails, rule_fails, span_fails, setup_said}
 use Rattle.trlab_jobs.proofs.sweep.read_setup.Goals as goal
 

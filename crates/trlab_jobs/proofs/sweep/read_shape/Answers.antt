@@ -1,4 +1,4 @@
-use Rattle.trlab_jobs.proofs.HandedOn.{handed_on}
+use Rattle.trlab_texts.proofs.Readings.{handed_on}
 use Rattle.trlab_jobs.proofs.SweepLines.{limit_fails, cells_fail, lanes_fail, shape_said}
 use Rattle.trlab_jobs.proofs.sweep.read_shape.Goals as goal
 

@@ -1,4 +1,4 @@
-use Rattle.trlab_jobs.proofs.HandedOn.{handed_on}
+use Rattle.trlab_texts.proofs.Readings.{handed_on}
 use Rattle.trlab_jobs.proofs.SweepLines.{warm_fails, measure_fails, span_said}
 use Rattle.trlab_jobs.proofs.sweep.read_span.Goals as goal
 
