@@ -67,7 +67,7 @@ class Children(unittest.TestCase):
         self.assertEqual(answers, [3, 3])
 
     def test_a_status_that_something_else_takes_is_lost(self):
-        """Whoever kills or waits for the child first."""
+        """It is lost for every call of `Child` that comes afterwards."""
         for call in Child.exit_status, Child.kill, Child.wait:
             with self.subTest(call=call.__name__), started("raise SystemExit(3)") as child:
                 os.waitpid(child.pid, 0)
