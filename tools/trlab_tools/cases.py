@@ -1,5 +1,5 @@
-"""The cases of the files cases/*.cases: command lines, their input, and how they have to end. cases/README.md describes the
-format."""
+"""The cases of the files cases/*.cases: command lines, their input, and the required status and output. cases/README.md
+describes the format."""
 import re
 from collections.abc import Iterator
 from typing import NamedTuple, Optional
@@ -13,7 +13,7 @@ NUMBERED = ("explain cause", "explain reason")
 
 
 class Broken(Exception):
-    """A line does not belong in a case file, or not at its place."""
+    """A line does not belong in a case file, or is in the wrong place."""
 
 
 class Part(NamedTuple):
@@ -41,7 +41,7 @@ class Case(NamedTuple):
 
 
 def line_of(text, number):
-    """A line of a part, the one with this number among repeated lines; None if it is malformed."""
+    """A line of a part, with this number among repeated lines; None if it is malformed."""
     if not re.fullmatch(r"([^\\]|\\[strk0\\])*\\?", text):
         return None
     written = re.sub(r"\\(.)", lambda it: str(number) if it[1] == "k" else ESCAPES[it[1]], text)

@@ -31,7 +31,7 @@ esac
 """
 # The crates of a small checkout; the last one is a test.
 CRATES = "# Crates.\ntrlab_bounds:\ntrlab_road: trlab_bounds\ntrlab_program: trlab_road clap\ntrlab_cases: trlab_road\n"
-# A disk without room.
+# A full disk.
 NO_ROOM = "#!/bin/sh\necho no room >&2\nexit 1\n"
 # The processor levels for which programs are released, the features of each, and how Linux lists them.
 LEVELS = V2, V3 = ("x86-64-v2", "x86-64-v3")
@@ -92,7 +92,7 @@ class Checkout:
         return self
 
     def moved(self, how):
-        """Continues in another checkout, which a shell command makes from this one, `$0`, as `$1`."""
+        """Continues in a different checkout, which a shell command makes from this one, `$0`, as `$1`."""
         to = os.path.join(self.folder, "another checkout")
         subprocess.run(["bash", "-euo", "pipefail", "-c", how, self.top, to], check=True, capture_output=True)
         self.top = to
@@ -118,7 +118,7 @@ class Checkout:
         return self.calls.read_text().splitlines() if self.calls.exists() else []
 
     def builds(self):
-        """How often rt was called for all proofs."""
+        """The number of calls of rt for all proofs."""
         return sum(line.startswith("all ") for line in self.calls_of_rt())
 
     def left(self):

@@ -50,7 +50,7 @@ def random_inputs(count: int) -> list[Argument]:
     """The arguments of a command that tries random inputs."""
     return [
         argument("number", type=int, nargs="?", default=count, help=f"how many inputs to try ({count})"),
-        argument("seed", type=int, nargs="?", default=1, help="another seed gives other inputs (1)"),
+        argument("seed", type=int, nargs="?", default=1, help="a different seed gives different inputs (1)"),
     ]
 
 
@@ -66,7 +66,7 @@ def command(main: Callable[..., Any], description: Optional[str], *arguments: Ar
 
 
 def test(main: Callable[..., None], description: Optional[str], *arguments: Argument) -> NoReturn:
-    """The same for a command that tests: `main` notes its checks in a count, which is its first argument."""
+    """The same for a command that tests: `main` records its checks in a count, which is its first argument."""
 
     def counted(**words: Any) -> int:
         count = Count()

@@ -12,14 +12,14 @@ from typing import Any, Optional, Union
 from . import TOP
 
 BUILT = TOP / "crates" / "trlab_program" / "out" / "trlab_program"
-LONGEST = 300  # seconds after which a run counts as a hang, because other work may slow everything down
-# How the program ends.
+LONGEST = 300  # seconds after which a run counts as a hang; this long because other work may slow everything down
+# The exit statuses of the program.
 DONE, REFUSED, WORDS, MEMORY, DEVICE = range(5)
 Answer = tuple[Union[int, str], bytes]
 
 
 def of_release() -> Optional[str]:
-    """The program that ./trlab runs, which it may unpack first, if there is one of the sources that are here."""
+    """The released program that ./trlab runs, which it may unpack first; None if none belongs to the present sources."""
     found = subprocess.run([TOP / "trlab", "--where"], stdout=subprocess.PIPE, text=True)
     return found.stdout.rstrip("\n") if found.returncode == 0 else None
 
@@ -32,12 +32,12 @@ def named_or_built() -> Optional[str]:
 
 @functools.cache
 def find() -> str:
-    """The program that TRLAB names; otherwise the last one that was built here; otherwise that of the release."""
+    """The program that TRLAB names; otherwise the last one that was built here; otherwise the released one."""
     return executable(named_or_built() or of_release())
 
 
 def find_fastest() -> str:
-    """The program that TRLAB names; otherwise that of the release, which is for this processor; otherwise the built one."""
+    """The program that TRLAB names; otherwise the released one, which is for this processor; otherwise the built one."""
     return executable(os.environ.get("TRLAB") or of_release() or str(BUILT))
 
 

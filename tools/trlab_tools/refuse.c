@@ -1,6 +1,6 @@
-// Loaded before a program: refuses one of its allocations, or all from one on, and counts them.
-// TRLAB_REFUSE is the number of the first that is refused, from 1; TRLAB_REFUSE_ALL is there where all
-// after it are refused too. Each refused one is told by a byte to the file descriptor TRLAB_TELL.
+// Loaded before a program: refuses one of its allocations, or all allocations from one on, and counts them.
+// TRLAB_REFUSE is the number of the first refused allocation, counted from 1. If TRLAB_REFUSE_ALL is set, all
+// later ones are refused, too. For each refusal one byte is written to the file descriptor TRLAB_TELL.
 #define _GNU_SOURCE
 #include <dlfcn.h>
 #include <errno.h>
@@ -42,7 +42,7 @@ static int is_refused(void) {
     return 1;
 }
 
-// Before the constructor has run memory comes from a block, and is never given back.
+// Before the constructor has run, memory comes from a static block and is never freed.
 static void *take_early(size_t size) {
     size = (size + 15) & ~(size_t)15;
     if (size > sizeof early - early_used) return NULL;

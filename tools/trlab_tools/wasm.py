@@ -1,4 +1,4 @@
-"""Compares the program in WebAssembly, which Node runs, with a native program: exit status, output and standard error."""
+"""Comparison of the program in WebAssembly, which Node runs, with a native program: exit status, output, standard error."""
 import base64
 import json
 import shutil

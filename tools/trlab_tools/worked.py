@@ -1,4 +1,4 @@
-"""Small inputs, together for each part of the program, some with their outputs; and the examples."""
+"""Small inputs that together use every part of the program, some with their outputs; and the examples."""
 from . import TOP
 
 KEY = "key " + 64 * "0" + "\n"

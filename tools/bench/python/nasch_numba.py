@@ -1,10 +1,10 @@
 #!/usr/bin/env python3
-"""nasch_numba.py [tuned]: the rule of Nagel and Schreckenberg on a ring in numba, as a researcher compiles it.
+"""nasch_numba.py [tuned]: the rule of Nagel and Schreckenberg on a ring in numba, as a researcher would compile it.
 
-Reads a job of one lane and `rule nasch t` and writes its pictures as trlab does, but with a xorshift generator, which
-takes a few instructions per random number. `tuned` chooses a loop without divisions and without a branch on the random
-number. Prints on standard error how long the steps and pictures took, in seconds: wall-clock time and CPU time.
-Compiling is not part of them."""
+Reads a job with one lane and `rule nasch t`, and writes its snapshots as trlab does, but with a xorshift generator, which
+needs only a few instructions per random number. `tuned` chooses a loop without divisions and without a branch on the random
+number. Prints on standard error how long the steps and snapshots took, in seconds: wall-clock time and CPU time, both
+without compilation."""
 import sys
 
 import ring
@@ -17,7 +17,7 @@ except ImportError:
 
 STEP = np.frombuffer(b"step ", dtype=np.uint8)
 SPEEDS = np.frombuffer(ring.SPEEDS, dtype=np.uint8)
-BUFFER = 1 << 16  # bytes of pictures that are written at once
+BUFFER = 1 << 16  # bytes of snapshots that are written at once
 
 
 @njit(cache=True)
@@ -59,7 +59,7 @@ def advance_tuned(places, speeds, cells, limit, brake, seed):
 
 @njit(cache=True)
 def draw(places, speeds, cells, step, out, at):
-    """Draws a picture into a buffer, below its line `step N`, and returns where it ends."""
+    """Draws a snapshot into a buffer, below its line `step N`, and returns the position of its end."""
     out[at:at + 5] = STEP
     at, rest = at + 6, step
     while rest >= 10:
@@ -79,7 +79,7 @@ def draw(places, speeds, cells, step, out, at):
 
 @njit(cache=True)
 def fill(is_tuned, places, speeds, cells, limit, brake, seed, step, steps, out):
-    """Draws pictures and takes steps until the buffer is full; returns the seed, the next step and the bytes drawn."""
+    """Draws snapshots and takes steps until the buffer is full; returns the seed, the next step and the bytes drawn."""
     at = 0
     while step <= steps and at + cells + 20 <= len(out):
         at = draw(places, speeds, cells, step, out, at)
@@ -104,7 +104,7 @@ def run(limit, lane, brake, steps, out, is_tuned):
 
 
 class Nowhere:
-    """An output that is thrown away."""
+    """An output that is discarded."""
     write = staticmethod(len)
 
 

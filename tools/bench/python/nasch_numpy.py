@@ -1,8 +1,8 @@
 #!/usr/bin/env python3
 """nasch_numpy.py: the rule of Nagel and Schreckenberg on a ring in NumPy, as it is often written.
 
-Reads a job of one lane and `rule nasch t` and writes its pictures as trlab does, but with NumPy's own generator.
-Prints on standard error how long the steps and pictures took, in seconds: wall-clock time and CPU time."""
+Reads a job with one lane and `rule nasch t`, and writes its snapshots as trlab does, but with NumPy's own generator.
+Prints on standard error how long the steps and snapshots took, in seconds: wall-clock time and CPU time."""
 import sys
 
 import ring
@@ -16,7 +16,7 @@ SPEEDS = np.frombuffer(ring.SPEEDS, dtype=np.uint8)
 
 
 def picture(cells, places, speeds):
-    """The picture of a lane, with its line feed."""
+    """The row of a lane in a snapshot, with its line feed."""
     lane = np.full(cells + 1, ord("."), dtype=np.uint8)
     lane[places] = SPEEDS[speeds]
     lane[cells] = ord("\n")

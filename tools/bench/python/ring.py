@@ -1,4 +1,4 @@
-"""What the Python programs of the benchmark share: reading a job of one lane, and printing how long a run took."""
+"""The common part of the Python programs of the benchmark: reading a job with one lane, and printing the time of a run."""
 import os
 import sys
 import time
@@ -8,7 +8,7 @@ PARTS = 2**31  # a probability p is written as p * 2^31
 
 
 def read_job(text):
-    """The maximum speed, the lane, p * 2^31 and the number of steps of a job of one lane with `rule nasch`."""
+    """The maximum speed, the lane, p * 2^31 and the number of steps of a job with one lane and `rule nasch`."""
     lines = [line.split() for line in text.splitlines()]
     words = {line[0]: line[1:] for line in lines}
     if words["rule"][0] != "nasch" or sum(line[0] == "lane" for line in lines) != 1:
@@ -17,8 +17,8 @@ def read_job(text):
 
 
 def measured(call):
-    """Prints on standard error how long a call took at best: wall-clock time and CPU time, in seconds. The
-    environment variable TURNS says how often to call it, because Python starts slowly."""
+    """Prints the minimum time of a call on standard error: wall-clock time and CPU time, in seconds. The environment
+    variable TURNS sets the number of calls in one process, because Python itself starts slowly."""
     took = []
     for _ in range(int(os.environ.get("TURNS", 1))):
         clock, cpu = time.perf_counter(), time.process_time()

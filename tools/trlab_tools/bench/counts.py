@@ -1,12 +1,12 @@
-"""Rows of series, which count the cars in windows and write no pictures, and of the memory of a large sweep."""
+"""Rows of series, which count the cars in windows and write no snapshots, and of the memory of a large sweep."""
 import os
 
 from . import measuring
 from .rows import Row, a_move, wish
 
-WINDOWS = 500_000  # of one step each, the most that a series has
+WINDOWS = 500_000  # of one step each, the maximum of a series
 CELLS = 100_000
-CARS = 30_000  # of each lane
+CARS = 30_000  # per lane
 STEPS = 300
 RULES = {
     "nasch 0": 1,
@@ -14,12 +14,12 @@ RULES = {
     "vdr 33554432 1610612736": 1,
     "rickert 536870912 1073741824": 2,
 }
-LARGEST_SWEEP = 200, 200_000  # points, and the cars of each
+LARGEST_SWEEP = 200, 200_000  # points, and cars per point
 
 
 def texts_of(rule, lanes, folder):
-    """The jobs of a road whose cars are evenly spread, of some steps and of none, and the sweeps of the same road, of
-    one step more."""
+    """Jobs of a road with evenly spaced cars, one of STEPS steps and one of none, and sweeps of the same road with one
+    step more each."""
     cars = lanes * CARS
     start = measuring.even(CELLS, cars, lanes)
     jobs = [measuring.job(start, rule, steps) for steps in (STEPS, 0)]
@@ -28,7 +28,7 @@ def texts_of(rule, lanes, folder):
 
 
 def one_window(programs, rule, lanes, times, folder):
-    """The row of a series with one window, beside a run, which writes pictures, and a sweep, which does not."""
+    """The row of a series with one window, compared with a run, which writes snapshots, and a sweep, which does not."""
     job, still, points, first = texts_of(rule, lanes, folder)
     series = [programs.trlab, "series", "--every", str(STEPS)]
     commands = {"series": (series, job, still), "a run": ([programs.trlab, "run"], job, still),
@@ -44,7 +44,7 @@ def one_window(programs, rule, lanes, times, folder):
 
 
 def many_windows(programs, times, folder):
-    """The row of a series whose windows are single steps of one car, beside its run."""
+    """The row of a series whose windows are single steps of one car, compared with its run."""
     rule = "nasch 536870912"
     path = measuring.write(os.path.join(folder, "windows"), measuring.job(["0" + 9 * "."], rule, WINDOWS))
     runs = {word: ([programs.trlab, word], path) for word in ("series", "run")}
@@ -66,7 +66,7 @@ def memory(programs, folder):
 
 
 def rows(programs, is_quick, folder):
-    """All rows of series and of the memory of a sweep; something is wanted of each."""
+    """All rows of series and of the memory of a sweep. Each has a wanted value."""
     times = 3 if is_quick else 10
     for rule, lanes in RULES.items():
         yield one_window(programs, rule, lanes, times, folder)

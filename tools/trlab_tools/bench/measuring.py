@@ -15,9 +15,9 @@ from ..processes import peak_of
 
 BENCH = os.path.join(TOP, "tools", "bench")
 WITHOUT_PROOFS = ["plain", "interpreter"]
-LONGEST = 2  # at most so many times the planned turns
-REPEATS = 5  # of a run that measures its own time
-SETTLED = []  # whether each best time was found twice
+LONGEST = 2  # the maximum number of turns, as a multiple of the planned number
+REPEATS = 5  # turns of a run that measures its own time
+SETTLED = []  # for each best time whether it was found twice
 
 
 class Time(NamedTuple):
@@ -28,7 +28,7 @@ class Time(NamedTuple):
 
 
 def level(program):
-    """The processor level for which a program is compiled, which its message for older processors names."""
+    """The processor level for which a program is compiled. Its message for older processors names this level."""
     with open(program, "rb") as file:
         named = re.search(rb"x86-64-v[1-4]", file.read())
     return named[0].decode() if named else "x86-64"
@@ -45,7 +45,7 @@ def build(level, features=()):
 
 
 def python_with(*modules):
-    """A Python that has these modules: the one that runs this, or else the system's; or None."""
+    """A Python that has these modules: the one that runs this, or otherwise the system's; or None."""
     for python in (sys.executable, "/usr/bin/python3"):
         words = [python, "-c", f"import {', '.join(modules)}"]
         if os.access(python, os.X_OK) and subprocess.run(words, stderr=subprocess.DEVNULL).returncode == 0:
@@ -54,7 +54,7 @@ def python_with(*modules):
 
 
 def machine():
-    """One line on the machine."""
+    """A line about the machine."""
     with open("/proc/cpuinfo") as lines:
         name = next((line.partition(": ")[2].strip() for line in lines if line.startswith("model name")), "a processor")
     return f"{os.cpu_count()} processors ({name}), load {os.getloadavg()[0]:.1f} at the start"
@@ -84,7 +84,7 @@ def job(lanes, rule, steps):
 
 
 def sweep(rule, cells, points, steps, lanes=1):
-    """A sweep; the points are numbers of cars, and all steps are counted."""
+    """A sweep whose points are numbers of cars, and which counts all steps."""
     lines = ["sweep 1", "key " + 64 * "0", "limit 5", f"length {cells}", f"lanes {lanes}", "rule " + rule, "warm 0"]
     return ("\n".join(lines + [f"measure {steps}"] + [f"cars {cars}" for cars in points]) + "\n").encode()
 
@@ -109,7 +109,7 @@ def timed(command, path):
 
 
 def own_time(command, path):
-    """The best time of `REPEATS` turns that a program measures itself and prints on standard error, in seconds."""
+    """The best time of `REPEATS` turns, in seconds, which a program measures itself and prints on standard error."""
     env = {**os.environ, "TURNS": str(REPEATS)}
     with open(path, "rb") as text:
         ran = subprocess.run(command, stdin=text, stdout=subprocess.DEVNULL, stderr=subprocess.PIPE, check=True, env=env)
@@ -117,13 +117,13 @@ def own_time(command, path):
 
 
 def once(command, path, measure=timed):
-    """The time of one run, as a measure finds it."""
+    """The time of one run, as `measure` finds it."""
     return measure(command, path)
 
 
 def turns(runs, times):
-    """The times of runs by their names; they alternate so many times. A run is a command, its text, and how it is
-    measured, if it is not `timed`."""
+    """The times of runs, by their names. The runs alternate, `times` times each. A run is a command, the path of its input,
+    and the function that measures it, if that is not `timed`."""
     took = {name: [] for name in runs}
     for _ in range(times):
         for name, run in runs.items():
@@ -132,19 +132,19 @@ def turns(runs, times):
 
 
 def best(times):
-    """The least of several times, wall-clock time and CPU time."""
+    """The minimum of several times: of the wall-clock times, and of the CPU times."""
     return Time(*map(min, zip(*times)))
 
 
 def settled(times):
-    """Whether the two least CPU times of a run agree, to 2 percent or half a millisecond."""
+    """Whether the two smallest CPU times of a run agree to 2 percent or half a millisecond."""
     least, second = sorted(time.cpu for time in times)[:2]
     return second - least <= max(0.02 * least, 0.0005)
 
 
 def best_of(runs, count):
-    """The best times of runs by their names. They alternate `count` times, and those whose two least times differ up to
-    `LONGEST` times as often: on a shared machine even the best of a few runs may be disturbed."""
+    """The best times of runs, by their names. The runs alternate `count` times, and those whose two smallest times differ up
+    to `LONGEST` times as often, because on a shared machine even the best of a few runs may be disturbed."""
     took = turns(runs, count)
     for _ in range((LONGEST - 1) * count):
         more = {name: run for name, run in runs.items() if not settled(took[name])}
@@ -155,7 +155,7 @@ def best_of(runs, count):
 
 
 def agreement():
-    """How many of the best times so far were found twice."""
+    """The number of best times so far that were found twice."""
     return f"{sum(SETTLED)} of {len(SETTLED)} best times were found twice, to 2 percent or 0.5 ms"
 
 

@@ -1,13 +1,13 @@
-"""Rows of one road each: trlab with one worker beside the programs without proofs, and its memory."""
+"""Rows of one road each: trlab with one worker, compared with the programs without proofs; and its memory."""
 import os
 from typing import NamedTuple
 
 from . import measuring
 from .rows import Row, a_move, wish
 
-SECONDS = 0.05  # of a run: on a shared machine a short one is more often undisturbed
+SECONDS = 0.05  # of a run; short runs are less often disturbed on a shared machine
 BYTES = 30_000_000  # of an output that is compared
-MAX_STEPS = 500_000  # of a job text
+MAX_STEPS = 500_000  # of a job
 LANES = {
     "nasch 0": 1,
     "nasch 536870912": 1,
@@ -19,7 +19,7 @@ SMALL_BLOCK_CARS = 100, 0.05  # five cars
 LONG = 100000, 0.3
 WIDE, TUNED = "wide ", "tuned "
 HEAP = "rickert 536870912 1"
-# At most so much of the time of others is wanted, by cells and density.
+# The wanted maximum of the time of trlab over the time of other programs, by rule, cells and density.
 WANTED = {
     ("nasch 0", LONG): {"plain": 1.1, "numba": 0.55, "NumPy": 0.2},
     ("nasch 536870912", LONG): {"floor": 1.35, "NumPy": 0.85},
@@ -30,12 +30,12 @@ WANTED = {
     ("nasch 536870912", (1000, 0.3)): {"numba": 1.05},
 }
 WANTED_OF_FEW = {"interpreter": 0.8}
-# At most so many nanoseconds per car and step are wanted of five cars.
+# The wanted maximum of the nanoseconds per car and step, for five cars.
 WANTED_TIMES = {"nasch 0": 32, "nasch 536870912": 70}
 
 
 class Road(NamedTuple):
-    """A rule on lanes of so many cells; no density stands for a heap, a full lane beside an empty one."""
+    """A rule on lanes of `cells` cells. A density of None means a heap: a full lane next to an empty one."""
     rule: str
     lanes: int
     cells: int
@@ -60,16 +60,16 @@ class Road(NamedTuple):
         return self.cells, self.density
 
     def is_asked(self):
-        """Whether it is measured with eight words side by side too."""
+        """Whether it is also measured with eight words in parallel."""
         return self.size() in (SMALL_BLOCK_CARS, LONG)
 
     def wanted(self):
-        """At most so much of the time of others is wanted of it."""
+        """The wanted maximum of the time of trlab over the time of other programs, by their names."""
         return WANTED_OF_FEW if self.size() == SMALL_BLOCK_CARS else WANTED.get((self.rule, self.size()), {})
 
 
 def roads(is_quick):
-    """The roads that are measured; the quick ones are those of which something is wanted."""
+    """The roads that are measured; a quick measurement takes only those with a wanted value."""
     sizes = [SMALL_BLOCK_CARS] + [(cells, density) for cells in CELLS for density in DENSITIES]
     for rule, lanes in LANES.items():
         for size in sizes:
@@ -82,7 +82,7 @@ def roads(is_quick):
 
 
 def fitting_steps(road, path, seconds_of, most=MAX_STEPS):
-    """So many steps that a run takes about SECONDS."""
+    """The number of steps with which a run takes about SECONDS."""
     steps = 1
     while steps < most:
         took = seconds_of(road.write(path, steps))
@@ -98,7 +98,7 @@ def by_numba(command, path):
 
 
 def by_numpy(programs, road, folder, times):
-    """The time per car and step in NumPy, in steps of its own count. Without random numbers its output is trlab's."""
+    """The time per car and step in NumPy, with a number of steps of its own. Without random numbers its output is trlab's."""
     command, path = programs.numpy, os.path.join(folder, "for NumPy")
     steps = fitting_steps(road, path, lambda text: measuring.own_time(command, text).clock)
     road.write(path, steps)
@@ -109,8 +109,8 @@ def by_numpy(programs, road, folder, times):
 
 
 def commands_of(programs, road):
-    """What drives a road and writes the same bytes, by its name; some roads also with eight words side by side, if
-    there is AVX2. The one in numba draws other random numbers."""
+    """The commands that simulate a road and write the same bytes, by their names; for some roads also with eight words in
+    parallel, if the processor has AVX2. The command in numba draws different random numbers."""
     commands = {"trlab": [programs.trlab, "run"], "plain": [programs.plain], "interpreter": [programs.interpreter]}
     if road.draws() and road.is_asked() and programs.wide_plain != programs.plain:
         commands |= {WIDE + "plain": [programs.wide_plain], WIDE + "interpreter": [programs.wide_interpreter]}
@@ -147,7 +147,7 @@ def wish_of(what, bound, row, name):
 
 
 def row_of(road, took):
-    """The row of a road, with what is wanted of it."""
+    """The row of a road, with its wanted values."""
     what = f"`{road.rule}`" if road.density is not None else f"heap, `{road.rule}`"
     row = Row(what, road.lanes, road.cells, road.cars(), took)
     wide = ", ".join(f"{name} {row.cell(WIDE + name)}" for name in ("plain", "interpreter") if WIDE + name in took)
@@ -161,7 +161,7 @@ def row_of(road, took):
 
 
 def growth(programs, times, folder):
-    """The row of how a step grows with a heap: that of 64000 cells over that of 16000, in as many steps."""
+    """The row that shows how the time of a step grows with a heap: 64000 cells over 16000, with the same number of steps."""
     command, large, small = [programs.trlab, "run"], Road(HEAP, 2, 64000, None), Road(HEAP, 2, 16000, None)
     path = os.path.join(folder, "job")
     steps = fitting_steps(large, path, lambda text: measuring.timed(command, text).cpu)

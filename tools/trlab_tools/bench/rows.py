@@ -6,7 +6,7 @@ from . import measuring
 
 OTHERS = ["plain", "interpreter", "floor", "numba", "NumPy"]
 COLUMNS = ["what", "lanes", "cells", "cars", "trlab", "wall clock", *OTHERS, "beside", "wanted"]
-# The columns and the rows of the page: what was measured, and the cells of a lane.
+# The columns and the rows of the page. A row is chosen by its subject, the cells of a lane and the cars.
 COLUMNS_OF_PAGE = ["what", "lanes", "cells", "cars", "trlab", *OTHERS, "beside"]
 ROWS_OF_PAGE = [
     ("`nasch 0`", 100000, 30000),
@@ -26,8 +26,8 @@ RATIO = re.compile(r" \(\d+\.\d+\)$")
 
 
 class Programs(NamedTuple):
-    """The programs that are measured, `plain` and `interpreter` also with eight words side by side. Those in numba and
-    NumPy are commands, empty if Python lacks the package."""
+    """The programs that are measured, `plain` and `interpreter` also with eight words in parallel. The programs in numba and
+    NumPy are commands, which are empty if Python lacks the package."""
     trlab: str
     plain: str
     interpreter: str
@@ -38,8 +38,8 @@ class Programs(NamedTuple):
 
 
 class Row(NamedTuple):
-    """What was measured, on lanes of so many cells and cars, if on a road: nanoseconds per car and step of trlab and of
-    others, what was measured beside it, and what is wanted."""
+    """A measurement: its subject; the lanes, their cells and all cars, if it is of a road; the nanoseconds per car and step of
+    trlab and of other programs; further results; and the wanted values."""
     what: str
     lanes: int | str
     cells: int | str
@@ -49,7 +49,7 @@ class Row(NamedTuple):
     wanted: tuple[str, ...] = ()
 
     def ratio(self, other):
-        """The time of trlab over another's, on processors."""
+        """The CPU time of trlab over that of another program."""
         return self.times["trlab"].cpu / self.times[other].cpu
 
     def cell(self, column):
@@ -69,12 +69,12 @@ class Row(NamedTuple):
 
 
 def wish(what, is_met):
-    """What is wanted, and whether the row misses it."""
+    """The text of a wanted value, with a remark if the row misses it."""
     return what if is_met else f"{what} (missed)"
 
 
 def a_move(whole, idle, moves):
-    """The nanoseconds per car and step: a run less one of no step, over its cars times its steps."""
+    """The nanoseconds per car and step: the time of a run less that of a run of 0 steps, over its cars times its steps."""
     return measuring.Time(*((more - less) * 1e9 / moves for more, less in zip(whole, idle)))
 
 
@@ -94,7 +94,7 @@ def rows_of(table):
 
 
 def as_data(rows):
-    """All rows as tab-separated values below a heading. Times are without ratios, which they give."""
+    """All rows as tab-separated values below a heading. Ratios are left out, because they follow from the times."""
     columns = [column for column in COLUMNS if column in rows[0]]
     values = [[RATIO.sub("", row[column]).replace("`", "") for column in columns] for row in rows]
     return "\n".join(map("\t".join, [columns, *values])) + "\n"

@@ -1,4 +1,4 @@
-"""Rows of work that is shared: runs by several workers, sweeps by several runners, and a sweep beside a run."""
+"""Rows of work that is shared: runs by several workers, sweeps by several runners, and a sweep compared with a run."""
 import filecmp
 import os
 import resource
@@ -10,17 +10,17 @@ from . import measuring
 from .rows import Row, a_move, wish
 
 SECONDS = 0.4
-MOVES = 6_000_000  # of a sweep of one point
-TRIED_MOVES = 1_000_000  # of a run whose time is not known yet
+MOVES = 6_000_000  # cars times steps of a sweep of one point
+TRIED_MOVES = 1_000_000  # cars times steps of a run whose time is not known yet
 NOBODY = 65534
 BRAKING = "nasch 536870912"
 CHANGING = "rickert 536870912 1073741824"
-# Four runs at once of a program, with one worker each, on the text in a file.
+# Four runs of a program at once, with one worker each, on the input in a file.
 AT_ONCE = 'for k in 1 2 3 4; do "$0" run <"$1" >"$2" & done; wait'
 
 
 class Shared(NamedTuple):
-    """A text of so many cars in all and steps of each, which a command runs by several workers or runners."""
+    """An input of `cars` cars in total, which take `steps` steps each; a command runs it with several workers or runners."""
     what: str
     command: str
     who: str
@@ -37,19 +37,19 @@ class Shared(NamedTuple):
         return f"{count} {self.who}{'s' if count > 1 else ''}"
 
     def a_move(self, took, runs=1):
-        """The nanoseconds of a car and step in the best turn, of so many runs at once."""
+        """The nanoseconds per car and step in the best turn, with `runs` runs at once."""
         return a_move(measuring.best(took), (0, 0), self.cars * self.steps * runs)
 
 
 def a_sweep(points, cells, steps):
-    """A sweep of points at even densities, without that of no car and that of a full road."""
+    """A sweep of points with evenly spaced densities, without the empty and the full road."""
     cars = [cells * k // (points + 1) for k in range(1, points + 1)]
     text = measuring.sweep(BRAKING, cells, cars, steps)
     return Shared(f"sweep of {points} points, `{BRAKING}`", "sweep", "runner", 1, cells, sum(cars), steps, text)
 
 
 def a_run(rule, lanes, cells, steps):
-    """A run of three cars on ten cells, in all lanes together."""
+    """A run with three cars per ten cells; `cells` is the total of all lanes."""
     each, cars = cells // lanes, cells // lanes * 3 // 10
     pictures = [measuring.spread(each, cars, seed) for seed in range(1, lanes + 1)]
     return Shared(f"`{rule}`", "run", "worker", lanes, each, lanes * cars, steps, measuring.job(pictures, rule, steps))
@@ -63,24 +63,24 @@ def fitting_run(program, rule, lanes, cells, folder):
 
 
 def without_threads():
-    """Has the system start no further thread for this process."""
+    """Keeps the system from starting further threads for this process."""
     if os.getuid() == 0:
         os.setuid(NOBODY)
     resource.setrlimit(resource.RLIMIT_NPROC, (0, 0))
 
 
 def compare_without_threads(shared, program, path, folder):
-    """Stops where the output of 16 is another where no thread is started."""
+    """Stops if the output with 16 workers or runners is different when no thread can be started."""
     outputs = [os.path.join(folder, name) for name in ("threads", "none")]
     for output, limit in zip(outputs, (None, without_threads)):
         with open(path, "rb") as text, open(output, "wb") as out:
             subprocess.run(shared.by(program, 16), stdin=text, stdout=out, check=True, preexec_fn=limit)
     if not filecmp.cmp(*outputs, shallow=False):
-        raise SystemExit(f"{shared.what}: another output without threads")
+        raise SystemExit(f"{shared.what}: a different output without threads")
 
 
 def compared(shared, program, plain, counts, folder):
-    """The text in a file, once the outputs by all counts are found to be those of plain."""
+    """The path of the input, after the outputs with all counts have been compared with the output of plain."""
     path = measuring.write(os.path.join(folder, "shared"), shared.text)
     measuring.compare([plain] + [shared.by(program, count) for count in counts], path, folder)
     compare_without_threads(shared, program, path, folder)
@@ -88,7 +88,7 @@ def compared(shared, program, plain, counts, folder):
 
 
 def rows_of(programs, shared, counts, bound, times, folder):
-    """The rows by so many workers or runners, the first of them one; four are to be at least so many times as fast."""
+    """The rows for these counts of workers or runners. The first count is 1, and 4 should be at least `bound` times as fast."""
     plain = [programs.plain] + ["sweep"] * (shared.command == "sweep")
     path = compared(shared, programs.trlab, plain, counts, folder)
     runs = {shared.name(count): (shared.by(programs.trlab, count), path) for count in counts}
@@ -102,7 +102,7 @@ def rows_of(programs, shared, counts, bound, times, folder):
 
 
 def row_of(shared, name, took, alone, plain_time, bound):
-    """A row by its name. How many times as fast as one it is, is the median of the turns, by wall-clock time."""
+    """The row with this name. Its speed-up over one worker or runner is wall-clock time, the median of the turns."""
     runs = 4 if name == "four runs at once" else 1
     row = Row(f"{shared.what}, {name}", shared.lanes, shared.cells, shared.cars, {"trlab": shared.a_move(took, runs)})
     if took is alone:
@@ -115,7 +115,7 @@ def row_of(shared, name, took, alone, plain_time, bound):
 
 
 def sweep_over_run(programs, cells, cars, bound, times, folder):
-    """The row of a sweep of one road beside a run of it, by time on processors."""
+    """The row of a sweep of one road, whose CPU time is compared with that of a run of the road."""
     steps, runs = MOVES // cars, {}
     for count in (steps, 0):
         path = measuring.write(os.path.join(folder, f"run {count}"), measuring.job(measuring.even(cells, cars), BRAKING, count))
@@ -134,7 +134,7 @@ def sweep_over_run(programs, cells, cars, bound, times, folder):
 
 
 def rows(programs, is_quick, folder):
-    """All rows of work that is shared; the quick ones are those of which something is wanted."""
+    """All rows of work that is shared; a quick measurement takes only those with a wanted value."""
     times, counts = (3, [1, 4]) if is_quick else (7, [1, 2, 4])
     for cells, cars, bound in (100, 30, 1.1), (1000, 300, 1.03):
         yield sweep_over_run(programs, cells, cars, bound, times, folder)

@@ -13,7 +13,7 @@ SWITCHES = "voluntary_ctxt_switches:", "nonvoluntary_ctxt_switches:"
 
 
 def switches_of(pid):
-    """How often each thread of a process was put on or off a processor."""
+    """The number of context switches of each thread of a process."""
     found = {}
     for thread in os.listdir(f"/proc/{pid}/task"):
         with open(f"/proc/{pid}/task/{thread}/status") as status:
@@ -23,7 +23,7 @@ def switches_of(pid):
 
 
 def settled(program, seconds):
-    """Waits a little, then returns the context switches of a process in so many seconds, and its threads."""
+    """Waits a little, then returns the number of context switches of a process in `seconds` seconds, and of its threads."""
     time.sleep(0.3)
     before = switches_of(program.pid)
     time.sleep(seconds)
@@ -32,7 +32,7 @@ def settled(program, seconds):
 
 
 def without_input(command):
-    """A process that waits for the last line of its text."""
+    """A process that waits for the last line of its input."""
     program = subprocess.Popen(command, stdin=subprocess.PIPE, stdout=subprocess.DEVNULL)
     text = measuring.job([measuring.spread(CELLS, CARS)], "nasch 536870912", 1)
     program.stdin.write(text[:-2])
@@ -49,7 +49,7 @@ def without_reader(command):
 
 
 def row_of(programs, what, start, count):
-    """The row of a process that waits for a second, with so many workers."""
+    """The row of a process with `count` workers that waits for a second."""
     program = start([programs.trlab, "run", "--workers", str(count)])
     try:
         switches, threads = settled(program, SECONDS)

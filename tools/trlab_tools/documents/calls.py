@@ -21,7 +21,7 @@ class Row(NamedTuple):
 
 
 def bodies():
-    """The bodies of all functions by their crate and their names; several methods of a trait may have one name."""
+    """The bodies of all functions by crate and name; several methods of a trait may have the same name."""
     found = collections.defaultdict(list)
     crates = os.path.join(TOP, "crates")
     for path in glob.glob(os.path.join(crates, "*", "src", "**", "*.rt"), recursive=True):

@@ -1,10 +1,9 @@
-"""The pages for users: is each short, is each page in the index, and are the numbers of README.md those of the pages that
-it cites?"""
+"""Is each page for users short and in the index, and does README.md have the numbers of the pages that it cites?"""
 import re
 
 from . import standing
 
-# Of pages with many blocks, which do not count.
+# For pages with many blocks, which do not count.
 MAX_WORDS_OUTSIDE_BLOCKS = {"README.md": 1020, "docs/TUTORIAL.md": 850, "docs/CHEATSHEET.md": 550, "docs/FAQ.md": 950}
 INDEX = "docs/README.md"
 NUMBER = re.compile(r"\d+\.\d+")

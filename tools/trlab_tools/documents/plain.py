@@ -22,7 +22,7 @@ NO_PROSE = re.compile(r"^```.*?^```$|`[^`]*`|\]\([^)]*\)|^#[^\n]*$", re.M | re.S
 
 
 def files_below(folder, ending):
-    """The files of a folder and of the folders below it that end so."""
+    """The files in a folder, and in the folders below it, with this ending."""
     for path, _, names in sorted(os.walk(os.path.join(TOP, folder))):
         yield from (os.path.join(path, name) for name in sorted(names) if name.endswith(ending))
 
@@ -55,7 +55,7 @@ def texts():
 
 
 def verdicts():
-    """For each text whether it has few of these words, and how many it has."""
+    """For each text whether it has few of these words, and their share."""
     for name, text in texts():
         share = 1000 * len(STAND_INS.findall(text)) / len(text.split())
-        yield share <= MAX_STAND_INS, f"{name}: {share:.1f} of 1000 words are what, whoever, alone, told, stand or where"
+        yield share <= MAX_STAND_INS, f"{name}: {share:.1f} of 1000 words match STAND_INS of plain.py"

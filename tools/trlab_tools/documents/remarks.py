@@ -9,7 +9,7 @@ HASH = re.compile(r"^\s*#(?!!) ?(.*)$", re.M)
 SLASHES = re.compile(r"^\s*(?://[/!]?|/\*+|\*(?= |$)) ?(.*)$", re.M)
 COMMENTS = {
     ".antt": re.compile(r"^\s*-- ?(.*)$", re.M),
-    # With the titles of cases.
+    # Titles of cases are prose, too.
     ".cases": re.compile(r"^(?:#|==) ?(.*)$", re.M),
     **dict.fromkeys((".awk", ".sh", ".toml"), HASH),
     **dict.fromkeys((".c", ".js", ".mjs", ".rs", ".rt", ".ts"), SLASHES),
@@ -25,7 +25,7 @@ ENDINGS = {"python3": ".py", "bash": ".sh", "sh": ".sh", "node": ".mjs"}
 
 
 def kind_of(name, text):
-    """The ending of the files in the language of this one."""
+    """The usual ending of files in the language of this file."""
     ending, script = os.path.splitext(name)[1], FIRST_LINE.match(text)
     return ENDINGS[script[1]] if script and not ending else ending
 
@@ -54,7 +54,7 @@ def of_python(text):
 
 
 def remarks(name, text):
-    """The line and the words of each piece of prose; none in a file of another kind."""
+    """The line and the words of each piece of prose; nothing for files of other kinds."""
     kind = kind_of(name, text)
     if kind == ".py":
         yield from of_python(text)
@@ -64,6 +64,6 @@ def remarks(name, text):
         yield from ((line, found.replace("_", " ")) for line, found in found_by(NAMES[kind], text))
     if kind in HAS_MESSAGES:
         yield from ((line, found) for line, found in found_by(LITERAL, text) if MESSAGE.search(found))
-    # The file of a wrong body has its name.
+    # The name of the file is the name of the wrong body.
     if kind == ".edit" and os.path.basename(os.path.dirname(name)) == "must-fail":
         yield 1, os.path.basename(name).removesuffix(kind).replace("_", " ")

@@ -1,6 +1,6 @@
 """Are the sources in plain English, and does each name mean one thing? The prose of sources, scripts, tests and proofs (see
-remarks.py) may use few of the words that often replace a noun or a condition, and none of the words in DIALECT. A type of
-the crates has a name that no other type has, and so has a definition of specs/, except for the names in TWICE."""
+remarks.py) may use few of the words that often replace a noun or a condition, and none of the words in DIALECT. Two types of
+the crates must not have the same name, and nor must two definitions of specs/, except for the names in TWICE."""
 import collections
 import contextlib
 import os
@@ -26,9 +26,9 @@ OUT_OF_MEMORY = re.compile(r"\bmemory (?:ran|runs) out\b", re.I)
 TYPE = re.compile(r"^\s*(?:pub(?:\([a-z]+\))? )?(?:struct|enum|trait) (\w+)", re.M)
 DEFINITION = re.compile(r"^(?:(?:abbrev|unfoldable|opaque) )*pub (?:record |data )?(\w+)(?= |$)", re.M)
 NO_DEFINITION = {"mod", "use", "record", "data"}
-# Stand-ins per 1000 words of prose in sources; pages may have MAX_STAND_INS.
+# The maximum of STAND_INS per 1000 words of prose in sources; that of pages is MAX_STAND_INS.
 MAX_IN_SOURCES = 2
-# Names that still mean two things. Rename one and take it out; add none.
+# Names that still mean two things. Rename one of the two and remove the name here; add no others.
 TWICE = {"Rejection"}
 
 
@@ -42,7 +42,7 @@ def sources(folder, ending):
 
 
 def area_of(name):
-    """The crate of a file; otherwise its folder at the top, or the one below python/."""
+    """The crate of a file; otherwise its folder at the top, or below python/."""
     first, *rest = name.split("/")
     if first == "crates" and rest:
         return rest[0]
@@ -60,7 +60,7 @@ def prose_by_area():
 
 
 def places(pattern, prose):
-    """The first places with these words, for a message."""
+    """The first places with words that match, for a message."""
     found = [f"{words[0]} ({place})" for place, text in prose if (words := pattern.search(text))]
     return ", ".join(found[:3])
 

@@ -1,5 +1,5 @@
-"""What documents say of each other and of the sources: numbers of decisions, links, versions, crates, files, names,
-clauses, sources that are shown, a figure; and how they are written: short lines, in the English of today.
+"""Are the statements of documents about each other and about the sources true (numbers of decisions, links, versions, crates,
+files, names, clauses, excerpts of sources, a figure), and are they written in short lines and in modern English?
 
 Each function yields verdicts, each with a message in case it is False."""
 import contextlib
@@ -13,7 +13,7 @@ from .. import TOP
 ARCHITECTURE = "docs/dev/ARCHITECTURE.md"
 MAPS = ARCHITECTURE, "docs/dev/EXTENDING.md"
 DECISIONS = "docs/dev/DECISIONS.md"
-# It uses the names that crates had at the time.
+# It uses the names that crates had at the time of each version.
 OF_OLD = "CHANGELOG.md"
 MAX_WORDS_OF_A_DECISION = 60
 # Pages grow with every change, and each sentence seems useful. A page at its limit needs a cut before an addition.
@@ -48,7 +48,7 @@ MAX_WORDS = {
     "docs/dev/README.md": 110,
 }
 MAX_CHARACTERS = 110
-# A paragraph is indented by a list in a list at most.
+# A paragraph is in a list within a list at most.
 MAX_INDENTED = 5
 # The part of a page that a script writes.
 WRITTEN_BY_A_SCRIPT = re.compile(r"<!-- .*? -->.*?<!-- end -->", re.S)
@@ -68,16 +68,16 @@ LAYER = re.compile(r"^# (.*)\n((?:trlab_\w+:.*\n)+)", re.M)
 CRATE = re.compile(r"`(trlab_\w+)(/[\w./]+)?`")
 FILE = re.compile(r"`((?:\w+/)*\w+\.(?:rt|antt))`")
 QUOTED = re.compile(r"`([^`]*)`")
-# Code alone, no file, text or command.
+# Only code: not files, texts or commands.
 CODE = re.compile(r"[\w:.<>,&()?]+(?: \w+)*")
 NAME = re.compile(r"\b(?:[A-Z][a-z]\w*|[A-Za-z]\w*_\w*)")
-# Names that documents speak of, and no source uses.
+# Names that documents mention, but that no source uses.
 NOT_USED = {"ord_max"}
 FENCED = re.compile(r"^```.*?^```$", re.M | re.S)
 LINK = re.compile(r"\]\(([^)\s]+)\)")
-# A function that a document names, and the clauses that it names right after it.
+# A function in a document, and the names of clauses right after it.
 CITED_CLAUSES = re.compile(r"`(?:\w+::)?([a-z]\w*)`(?: \(`trlab_\w+`\))?,? \(?clauses? ((?:`\w+`(?:, | and )?)+)")
-# Records that a document names with fields: "`IsDriven`, fields `start` and `legal`", "field `calls` of `IsCleanStep`".
+# Records in a document with fields: "`IsDriven`, fields `start` and `legal`", "field `calls` of `IsCleanStep`".
 LISTED = r"((?:`\w+`(?:, | and )?)+)"
 CITED_FIELDS = re.compile(rf"((?:`[A-Z]\w*`(?: and )?)+)(?: \(`trlab_\w+`\))?[,:] fields? {LISTED}")
 FIELDS_OF = re.compile(rf"\bfields? {LISTED} of (`[A-Z]\w*`)")
@@ -93,7 +93,7 @@ def content(name):
 
 
 def known_files():
-    """The files that git knows or would take; all of them where this is no clone."""
+    """The files that git tracks or would add; all files if this is not a clone."""
     words = ["git", "ls-files", "-z", "--cached", "--others", "--exclude-standard"]
     told = subprocess.run(words, cwd=TOP, capture_output=True, text=True)
     if told.returncode == 0:
@@ -114,11 +114,11 @@ def decisions():
 
 
 def decisions_are_short():
-    """Each number is of one decision, and each decision is short. Numbers are permanent, so some are missing."""
+    """Each number belongs to one decision, and each decision is short. Numbers are permanent, so that some are missing."""
     numbers = [number for number, _ in decisions()]
     for number, text in decisions():
         is_short = len(text.split()) <= MAX_WORDS_OF_A_DECISION
-        wrong = f"decision {number} is there twice, or has more than {MAX_WORDS_OF_A_DECISION} words"
+        wrong = f"decision {number} exists twice, or has more than {MAX_WORDS_OF_A_DECISION} words"
         yield numbers.count(number) == 1 and is_short, wrong
     for number in DECISION_IN_A_LIST.findall(content(DECISIONS)):
         yield False, f"{DECISIONS} has decision {number} as an item of a list; begin it with **{number}. "
@@ -136,7 +136,7 @@ def citations(name):
 
 
 def citations_exist():
-    """Each decision that a document, a source or a script cites is there."""
+    """Each decision that a document, a source or a script cites exists."""
     there = dict(decisions())
     for name in known_files():
         try:
@@ -144,7 +144,7 @@ def citations_exist():
         except UnicodeDecodeError:
             continue
         for number in sorted(cited):
-            yield number in there, f"{name} cites decision {number}, which is not there"
+            yield number in there, f"{name} cites decision {number}, which does not exist"
 
 
 def anchor(heading):
@@ -154,7 +154,7 @@ def anchor(heading):
 
 
 def links_lead_somewhere():
-    """Each link of a document to a file, or to a heading, leads there."""
+    """Each link of a document has a file or a heading as its target."""
     for name in documents():
         for link in LINK.findall(FENCED.sub("", content(name))):
             if re.match(r"[a-z]+:", link):
@@ -169,7 +169,7 @@ def links_lead_somewhere():
 
 
 def versions_agree():
-    """The version that the program tells is that of the Python module and of the newest changes."""
+    """The program, the Python module and the newest changes have the same version."""
     told = re.search(r'VERSION: &str = "(\S+)', content("crates/trlab_command_line/src/help.rt"))[1]
     module = re.search(r'^__version__ = "(.*)"$', content("python/trlab/_version.py"), re.M)[1]
     changes = re.search(r"^## (\d\S*)", content("CHANGELOG.md"), re.M)[1]
@@ -178,39 +178,39 @@ def versions_agree():
 
 
 def sources_are_shown_as_they_are():
-    """A block after the name of a file of crates/ is that file."""
+    """A block after the name of a file of crates/ is the content of this file."""
     for name in documents():
         for path, shown in SHOWN.findall(content(name)):
             is_same = os.path.exists(os.path.join(TOP, path)) and content(path) == shown
-            yield is_same, f"{name} shows {path} otherwise than it is"
+            yield is_same, f"{name} shows a different content of {path}"
 
 
 def layers_agree():
-    """Each layer of crates.txt is a table of the map of crates, with the same crates in the same order."""
+    """Each layer of crates.txt has a table in the map of crates, with the same crates in the same order."""
     for heading, crates in LAYER.findall(content("crates.txt")):
         table = re.search(rf"^### {re.escape(heading)}$(.*?)^#", content(ARCHITECTURE), re.M | re.S)
         told = re.findall(r"^\| `(trlab_\w+)`", table[1], re.M) if table else []
-        wrong = f"{ARCHITECTURE} has other crates in the layer {heading!r} than crates.txt"
+        wrong = f"{ARCHITECTURE} and crates.txt have different crates in the layer {heading!r}"
         yield told == re.findall(r"^\w+", crates, re.M), wrong
 
 
 def crates_are_there():
-    """Each crate that a document names is there, and so is each of its files that is named with it."""
+    """Each crate that a document names exists, and so does each of its files that is named with it."""
     for name in documents():
         if name != OF_OLD:
             for crate, path in sorted(set(CRATE.findall(content(name)))):
                 is_there = os.path.exists(os.path.join(TOP, "crates", crate + path))
-                yield is_there, f"{name} names {crate}{path}, which is not there"
+                yield is_there, f"{name} names {crate}{path}, which does not exist"
 
 
 def files_of_maps_are_there():
-    """So is each file of the maps of crates: `src/run.rt` is of the crate that its section named last, `run.rt` is beside
-    the file named last."""
+    """Each file in the maps of crates exists: `src/run.rt` belongs to the crate that its section named last, and `run.rt` is
+    in the folder of the file named last."""
     for document in MAPS:
         for section in re.split(r"^#+ ", content(document), flags=re.M):
             for path in files_of(section):
                 is_there = os.path.exists(os.path.join(TOP, "crates", path))
-                yield is_there, f"{document} names {path}, which is not there"
+                yield is_there, f"{document} names {path}, which does not exist"
 
 
 def files_of(section):
@@ -229,7 +229,7 @@ def files_of(section):
 
 
 def figure_is_of_the_table():
-    """The figure of speeds is what the script draws of the table."""
+    """The figure of speeds is the one that the script draws from the table."""
     words = ["awk", "-f", "docs/speed.awk", "docs/speed.tsv"]
     drawn = subprocess.run(words, cwd=TOP, capture_output=True, text=True).stdout
     yield drawn == content("docs/speed.svg"), "docs/speed.svg is not the figure of the table in docs/speed.tsv"
@@ -237,7 +237,7 @@ def figure_is_of_the_table():
 
 @functools.cache
 def words_of_sources():
-    """Every word of a file that is no document, and of its path."""
+    """Every word in the files that are not documents, and in their paths."""
     words = set()
     for name in known_files():
         if not name.endswith(".md"):
@@ -248,17 +248,17 @@ def words_of_sources():
 
 
 def names_are_there():
-    """Each name of code that a document cites, as `IsNext` or `take_step`, stands in some source."""
+    """Each name of code that a document cites, such as `IsNext` or `take_step`, occurs in some source."""
     for document in documents():
         if document != OF_OLD:
             cited = filter(CODE.fullmatch, QUOTED.findall(FENCED.sub("", content(document))))
             for name in sorted({name for code in cited for name in NAME.findall(code)} - NOT_USED):
-                yield name in words_of_sources(), f"{document} names `{name}`, which stands in no source"
+                yield name in words_of_sources(), f"{document} names `{name}`, which no source contains"
 
 
 @functools.cache
 def clauses():
-    """The clauses of the functions of a name, in all crates."""
+    """The clauses of all functions with a name, in all crates."""
     found = {}
     for name in known_files():
         if name.endswith(".rt"):
@@ -268,18 +268,18 @@ def clauses():
 
 
 def clauses_are_there():
-    """Each clause that a document names after a function is one of it."""
+    """Each clause that a document names after a function belongs to this function."""
     for document in documents():
         if document != OF_OLD:
             for function, cited in CITED_CLAUSES.findall(re.sub(r"\s+", " ", content(document))):
                 for clause in QUOTED.findall(cited):
                     is_there = clause in clauses().get(function, ())
-                    yield is_there, f"{document} names the clause `{clause}` of `{function}`, which is not there"
+                    yield is_there, f"{document} names the clause `{clause}` of `{function}`, which does not exist"
 
 
 @functools.cache
 def fields():
-    """The fields of the records of a name, in all definitions."""
+    """The fields of all records with a name, in all definitions."""
     found = {}
     for name in known_files():
         if name.endswith(".antt"):
@@ -289,7 +289,7 @@ def fields():
 
 
 def fields_are_there():
-    """Each field that a document names with one or two records is one of them."""
+    """Each field that a document names with one or two records belongs to them."""
     for document in documents():
         if document != OF_OLD:
             text = re.sub(r"\s+", " ", content(document))
@@ -297,18 +297,18 @@ def fields_are_there():
             for records, listed in cited:
                 there = set().union(*(fields().get(record, ()) for record in QUOTED.findall(records)))
                 for field in QUOTED.findall(listed):
-                    yield field in there, f"{document} names the field `{field}` of {records}, which is not there"
+                    yield field in there, f"{document} names the field `{field}` of {records}, which does not exist"
 
 
 def pages_are_short():
-    """Each page keeps to its word limit. Bars of tables count, as for `wc -w`; a table that a script writes does not."""
+    """Each page keeps to its word limit. Bars of tables count, as with `wc -w`, but tables that a script writes do not."""
     for page, most in MAX_WORDS.items():
         words = len(WRITTEN_BY_A_SCRIPT.sub("", content(page)).split())
-        yield words <= most, f"{page} has {words} words, and may have {most} at most"
+        yield words <= most, f"{page} has {words} words, but the limit is {most}"
 
 
 def prose(name):
-    """The lines of text of a document, no block and no table, by their numbers."""
+    """The lines of text of a document with their numbers, without blocks and tables."""
     is_fenced = False
     for number, line in enumerate(content(name).split("\n"), 1):
         is_fence = line.lstrip().startswith("```")

@@ -167,7 +167,7 @@ def check(dice):
 
 
 def damage_lines(dice, lines):
-    """One line is deleted, doubled, exchanged, or replaced with one of another input."""
+    """One line is deleted, doubled, exchanged, or replaced with a line of another input."""
     place = dice.randrange(len(lines))
     choice = dice.randrange(5)
     if choice == 0:
@@ -206,7 +206,7 @@ def random_bytes(dice):
 
 
 def draw(dice):
-    """A command, and an input that is near those that it accepts."""
+    """A command, and an input that is close to the inputs that it accepts."""
     command, write = dice.choice((("run", job), ("run", job), ("sweep", sweep), ("check", check)))
     if dice.random() < 0.1:
         return command, random_bytes(dice)
@@ -227,7 +227,7 @@ def is_small(says):
 
 
 def random_text(seed, number, read):
-    """The command and the input of a number, which takes little work, and the result of `read` for both."""
+    """The command and the input with this number, which takes little work, and the result of `read` for both."""
     dice = random.Random(f"{seed} {number}")
     while True:
         command, text = draw(dice)

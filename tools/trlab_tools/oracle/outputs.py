@@ -34,7 +34,7 @@ def verdict(kind, program):
 
 
 def is_check(check, status, output):
-    """Whether an output is one for a program: that it is accepted, with its canonical form, or rejected."""
+    """Whether an output says that a program is accepted, with its canonical form, or that it is rejected."""
     found = REFUSED_PROGRAM.fullmatch(output)
     if found:
         return status == trlab.REFUSED and int(found[1]) < len(check.program)
@@ -89,7 +89,7 @@ def is_run(job, status, output):
 
 
 def is_point(sweep, cars, line):
-    """Whether a line of a table is one for this number of cars."""
+    """Whether a line of a table is possible for this number of cars."""
     if not re.fullmatch(rb"[0-9]+(,[0-9]+){6}", line):
         return False
     numbers = [int(word) for word in line.split(b",")]

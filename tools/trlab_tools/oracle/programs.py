@@ -1,8 +1,8 @@
 """A second assembler: driver programs are read from lines and from bytes, and written in their canonical form.
 
 It is written from docs/PROGRAMS.md and docs/FILES.md and not from the proved program, so that the two can be compared. A
-program is a list of instructions. An instruction is its name and the tuple of its operands, which are numbers; that of a
-label is the number of its instruction."""
+program is a list of instructions. An instruction is its name and the tuple of its operands, which are numbers; a label is
+the number of its instruction."""
 import re
 
 MAX_INSTRUCTIONS = 128
@@ -79,7 +79,7 @@ def read_operands(forms, text, line):
 
 
 def read_label(text, labels, place, line):
-    """The rest of a line after its label, which is noted; or the whole line if it has no label."""
+    """The rest of a line after its label, which is recorded; or the whole line if it has no label."""
     if b":" not in text:
         return text
     label, rest = text.split(b":", 1)

@@ -78,7 +78,7 @@ class Run(Counts):
         return [(self.places[t][ahead] - x - 1) % self.n for x, ahead in zip(self.places[t], self.next_car(t))]
 
     def gone(self, t):
-        """How far each car has gone until step t."""
+        """The distance that each car has gone by step t."""
         return [sum(speeds) for speeds in zip(*(self.speeds(s) for s in range(1, t + 1)))] or [0] * self.N
 
     def minimum(self, t, last=None, start=0):
@@ -211,7 +211,7 @@ def distances(p, n, cars):
 
 
 def names_of(runs):
-    """What the expressions of a counterexample may name: the numbers of the first run, and all runs as a, b, .."""
+    """The names that expressions of a counterexample may use: the numbers of the first run, and all runs as a, b, .."""
     made = [Run(run) if isinstance(run, Job) else Point(run) for run in runs]
     first = {name: getattr(made[0], name) for name in dir(made[0]) if not name.startswith("_")} if made else {}
     return {**globals(), "comb": comb, **first, **dict(zip("abcd", made))}

@@ -1,9 +1,9 @@
 //! Random words: the block function of ChaCha20 (RFC 8439, with a counter and a stream of 64 bits),
-//! for the cars of a group in one step side by side.
+//! computed in parallel for the cars of a group in one step.
 
 use crate::lanes::{Lanes, GROUP};
 
-/// The chance that always happens, in parts of 2^31.
+/// Probability 1; a probability p is written as p * 2^31.
 const CERTAIN: u32 = 1 << 31;
 
 const CONSTANTS: [u32; 4] = [0x6170_7865, 0x3320_646e, 0x7962_2d32, 0x6b20_6574];
@@ -20,7 +20,7 @@ fn quarter(x: &mut [Lanes; 16], a: usize, b: usize, c: usize, d: usize) {
     x[b] = x[b].xor_rotated::<7, 25>(x[c]);
 }
 
-/// What the random words of a step follow from, except for the car.
+/// The key, the road and the step; with the number of a car, they determine its random words.
 #[derive(Clone, Copy)]
 pub struct Dice<'a> {
     pub key: &'a [u32; 8],
@@ -56,7 +56,7 @@ pub fn word_of_cars(dice: Dice, cars: [u32; GROUP], k: usize) -> [u32; GROUP] {
     x[k].plus(first[k]).words()
 }
 
-/// The random words of a group of cars, or fewer, of one step, made when the first of them is asked for.
+/// The random words of at most one group of cars in one step, computed when one of them is first needed.
 pub struct Words<'a> {
     dice: Dice<'a>,
     cars: [u32; GROUP],
@@ -72,7 +72,7 @@ impl<'a> Words<'a> {
         }
     }
 
-    /// Whether a chance, in parts of 2^31, happens on word k of a car of the group.
+    /// Whether word k of a car of the group is below a probability, which is given as p * 2^31.
     #[inline(always)]
     pub fn happens(&mut self, car: usize, k: usize, chance: u32) -> bool {
         match chance {

@@ -1,8 +1,8 @@
-//! Job texts of a standard rule, or of programs in byte code; what other texts share with them.
+//! Jobs with a standard rule or with programs in byte code, and the lines that sweeps share with jobs.
 
 use crate::road::{Car, Road};
 
-/// A standard rule, its chances in parts of 2^31.
+/// A standard rule; each probability p is written as p * 2^31.
 #[derive(Clone, Copy, Debug, PartialEq, Eq)]
 pub enum Rule {
     Nasch { brake: u32 },
@@ -10,19 +10,19 @@ pub enum Rule {
     Rickert { brake: u32, change: u32 },
 }
 
-/// What a job text says.
+/// The content of a job file.
 pub struct Job {
-    /// The words of the key, which is 32 bytes.
+    /// The key of 32 bytes, as words.
     pub key: [u32; 8],
     pub road: Road,
-    /// The rule, where it is a standard one.
+    /// The rule, if it is a standard one.
     pub rule: Option<Rule>,
-    /// The bytes of the programs of `rule own`: of the motion, and of the change where there is one.
+    /// The bytes of the programs of `rule own`: the motion program, and the change program if there is one.
     pub codes: Vec<Vec<u8>>,
     pub steps: u32,
 }
 
-/// Reads a job text of one rule, whose own programs are byte code; `None` for any other text.
+/// Reads a job with a single rule, whose own programs are byte code; `None` for any other input.
 pub fn read_job(text: &str) -> Option<Job> {
     let (mut key, mut limit, mut length, mut steps, mut rule) = ([0; 8], 0, 0, 0, None);
     let (mut lanes, mut codes): (Vec<Vec<Car>>, _) = (Vec::new(), Vec::new());
@@ -55,7 +55,7 @@ pub fn read_job(text: &str) -> Option<Job> {
     })
 }
 
-/// The standard rule that the words of a line say.
+/// The standard rule that the words of a line describe.
 pub fn read_rule(words: &[&str]) -> Option<Rule> {
     let number = |k: usize| words.get(k)?.parse().ok();
     Some(match *words.get(1)? {
@@ -88,7 +88,7 @@ fn read_bytes(hex: &str) -> Option<Vec<u8>> {
         .collect()
 }
 
-/// The cars of a picture, which are numbered from `first` on.
+/// The cars of a lane, numbered from `first` on.
 fn read_lane(picture: &str, first: u32) -> Option<Vec<Car>> {
     let cells = picture
         .bytes()

@@ -1,5 +1,5 @@
-//! A word for each car of a group, side by side in one vector: four of them, or eight, where this is compiled so and
-//! for AVX2.
+//! One word for each car of a group, all in one vector: four words, or eight if this is compiled with the feature
+//! `wide` and for AVX2.
 
 use std::mem::transmute;
 
@@ -14,14 +14,14 @@ use std::arch::x86_64::{
     _mm256_slli_epi32 as left, _mm256_srli_epi32 as right, _mm256_xor_si256 as xor,
 };
 
-/// So many cars draw side by side.
+/// The number of cars whose random words are computed in parallel.
 pub const GROUP: usize = size_of::<Vector>() / size_of::<u32>();
 
 #[derive(Clone, Copy)]
 pub struct Lanes(Vector);
 
-// SAFETY, of each call here: a vector is only named where the program is compiled for machines that have it, and it
-// has the size of its words, of which each bit pattern is one.
+// SAFETY, of each call here: this vector type is used only if the program is compiled for machines that have it. It
+// has the size of its words, and each bit pattern is a valid word.
 impl Lanes {
     #[inline(always)]
     pub fn all(word: u32) -> Self {

@@ -1,5 +1,5 @@
-//! What the programs that trlab is compared with share: job and sweep texts, random words, roads as
-//! sorted lists of cars, pictures, and tables. A program adds only the way in which its cars are driven.
+//! The code that is common to the programs with which trlab is compared: job and sweep files, random words, roads as
+//! sorted lists of cars, snapshots, and tables. Each program adds only the way in which it drives cars.
 
 mod chacha;
 mod job;

@@ -1,11 +1,11 @@
-//! Roads: the cars of each lane as a list by rising place, and the two phases of a step.
+//! Roads: the cars of each lane as a list in order of their cells, and the two phases of a step.
 
 use std::mem::swap;
 
 use crate::chacha::{Dice, Words};
 use crate::lanes::GROUP;
 
-/// What shows each speed in a picture.
+/// The character for each speed in a snapshot.
 const SPEEDS: &[u8; 36] = b"0123456789abcdefghijklmnopqrstuvwxyz";
 
 #[derive(Clone, Copy, Debug, PartialEq, Eq)]
@@ -15,13 +15,13 @@ pub struct Car {
     pub speed: u32,
 }
 
-/// What a car sees. In the motion phase it sees nothing of another lane.
+/// The inputs that a car sees. In the motion phase it sees nothing of the other lane.
 #[derive(Clone, Copy, Default)]
 pub struct View {
     pub speed: u32,
     pub limit: u32,
     pub gap: u32,
-    /// Whether the cell beside the car is empty.
+    /// Whether the side cell is empty.
     pub side: bool,
     pub sidegap: u32,
     pub sideback: u32,
@@ -30,7 +30,7 @@ pub struct View {
     pub headspeed: u32,
 }
 
-/// How cars are driven. A car is told as its place in a group, whose words are at hand.
+/// How cars are driven. `car` is the index of a car in its group, whose random words are passed too.
 pub trait Driver {
     /// Whether there is a lane change before the motion.
     fn changes_lanes(&self) -> bool;
@@ -38,7 +38,7 @@ pub trait Driver {
     /// The new speed of a car.
     fn speed(&self, view: &View, words: &mut Words, car: usize) -> u32;
 
-    /// Whether a car goes to the other lane.
+    /// Whether a car changes to the other lane.
     fn crosses(&self, view: &View, words: &mut Words, car: usize) -> bool;
 }
 
@@ -46,7 +46,7 @@ pub struct Road {
     length: u32,
     limit: u32,
     lanes: Vec<Vec<Car>>,
-    /// Room for a lane in the making, and for the cars that leave each lane.
+    /// Buffers for a lane that is being made, and for the cars that leave each lane.
     made: Vec<Car>,
     leaving: [Vec<Car>; 2],
 }
@@ -66,7 +66,7 @@ impl Road {
         &self.lanes
     }
 
-    /// The road of evenly spread cars, all stopped.
+    /// A road of evenly spaced cars, all stopped.
     pub fn even(lanes: u32, length: u32, limit: u32, cars: u32) -> Self {
         let mut spread = vec![Vec::new(); lanes as usize];
         for number in 0..cars {
@@ -81,7 +81,7 @@ impl Road {
         Road::new(length, limit, spread)
     }
 
-    /// Makes the road one step on; the cars that crossed.
+    /// Takes one step, and returns the number of lane changes.
     pub fn step(&mut self, driver: &impl Driver, dice: Dice) -> usize {
         let crossed = if driver.changes_lanes() {
             self.exchange(driver, dice)
@@ -92,7 +92,7 @@ impl Road {
         crossed
     }
 
-    /// The motion of all cars at once.
+    /// Moves all cars at once.
     fn drive(&mut self, driver: &impl Driver, dice: Dice) {
         let (length, limit) = (self.length, self.limit);
         for lane in &mut self.lanes {
@@ -120,12 +120,12 @@ impl Road {
                     }
                 }
             }
-            // Those that went round the ring's end were the last, and are the first now.
+            // The cars that passed the end of the ring were the last ones, and are now the first ones.
             lane.rotate_right(wrapped);
         }
     }
 
-    /// The lane change of all cars at once; the cars that crossed.
+    /// Changes the lanes of all cars at once, and returns the number of lane changes.
     fn exchange(&mut self, driver: &impl Driver, dice: Dice) -> usize {
         for own in 0..2 {
             let mut leaving = std::mem::take(&mut self.leaving[own]);
@@ -148,7 +148,7 @@ impl Road {
         crossed
     }
 
-    /// Finds the cars of a lane that go to the other one. A cursor walks along the other lane.
+    /// Finds the cars of a lane that change to the other one. The index `at` moves along the other lane.
     fn cars_that_leave(
         &self,
         own: usize,
@@ -180,7 +180,7 @@ impl Road {
         }
     }
 
-    /// What a car sees of the other lane, whose first car that is not behind it is at `at`.
+    /// The inputs of a car from the other lane, whose first car that is not behind it has the index `at`.
     #[inline(always)]
     fn beside(&self, place: u32, other: &[Car], at: usize) -> View {
         let (Some(first), Some(last)) = (other.first(), other.last()) else {
@@ -205,7 +205,7 @@ impl Road {
         }
     }
 
-    /// Adds the pictures of the lanes, a line each.
+    /// Appends the snapshot: one line per lane.
     pub fn draw(&self, out: &mut Vec<u8>) {
         for lane in &self.lanes {
             let begin = out.len();
@@ -219,7 +219,7 @@ impl Road {
     }
 }
 
-/// The empty cells between one place and the next car's, on a ring.
+/// The number of empty cells from one car to the next one, on a ring.
 #[inline(always)]
 fn between(length: u32, from: u32, to: u32) -> u32 {
     if to > from {
@@ -229,7 +229,7 @@ fn between(length: u32, from: u32, to: u32) -> u32 {
     }
 }
 
-/// The numbers of the cars of the first group; a car that is not there is told as 0.
+/// The numbers of the cars of the first group; 0 for each car that is missing from it.
 #[inline(always)]
 fn numbers(cars: &[Car]) -> [u32; GROUP] {
     match cars.first_chunk() {
@@ -238,7 +238,7 @@ fn numbers(cars: &[Car]) -> [u32; GROUP] {
     }
 }
 
-/// Makes a lane of its cars but those that leave it, and of those that come.
+/// Makes the new lane: its cars without those that leave it, and with those that come.
 fn exchanged(lane: &[Car], mut leaving: &[Car], mut coming: &[Car], made: &mut Vec<Car>) {
     made.clear();
     for car in lane {

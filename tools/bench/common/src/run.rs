@@ -7,27 +7,27 @@ use crate::job::{read_job, Job};
 use crate::road::Driver;
 use crate::sweep::{read_sweep, Sweep};
 
-/// Pictures are handed on once there are so many bytes of them.
+/// Snapshots are written once this number of bytes has accumulated.
 const ENOUGH: usize = 1 << 16;
 
-/// What a reader makes of the text on standard input.
+/// The result of a reader for the text on standard input.
 fn from_input<T>(read: impl FnOnce(&str) -> Option<T>) -> io::Result<T> {
     let mut text = String::new();
     io::stdin().read_to_string(&mut text)?;
     read(&text).ok_or_else(|| io::Error::from(io::ErrorKind::InvalidData))
 }
 
-/// The job that stands on standard input.
+/// The job on standard input.
 pub fn job_from_input() -> io::Result<Job> {
     from_input(read_job)
 }
 
-/// The sweep that stands on standard input.
+/// The sweep on standard input.
 pub fn sweep_from_input() -> io::Result<Sweep> {
     from_input(read_sweep)
 }
 
-/// Runs a job and writes what `trlab run` writes for it.
+/// Runs a job, and writes the same output as `trlab run`.
 pub fn run(mut job: Job, driver: &impl Driver) -> io::Result<()> {
     let mut out = io::stdout().lock();
     let mut pictures = Vec::with_capacity(2 * ENOUGH);

@@ -1,4 +1,4 @@
-//! Sweep texts of a standard rule, and the tables of their points.
+//! Sweeps with a standard rule, and the tables of their points.
 
 use std::fmt::{self, Write};
 
@@ -6,21 +6,21 @@ use crate::chacha::Dice;
 use crate::job::{read_key, read_rule, Rule};
 use crate::road::{Driver, Road};
 
-/// What a sweep text says.
+/// The content of a sweep file.
 pub struct Sweep {
     key: [u32; 8],
     limit: u32,
     length: u32,
     lanes: u32,
     pub rule: Rule,
-    /// The steps before those that are counted.
+    /// The steps before the counted ones.
     warm: u32,
     measure: u32,
-    /// The cars of each point.
+    /// The number of cars of each point.
     cars: Vec<u32>,
 }
 
-/// What is counted on one road.
+/// The counts of one road.
 #[derive(Default)]
 struct Tally {
     distance: u64,
@@ -28,7 +28,7 @@ struct Tally {
     changes: u64,
 }
 
-/// Reads a sweep text of a standard rule; `None` for any other text.
+/// Reads a sweep with a standard rule; `None` for any other input.
 pub fn read_sweep(text: &str) -> Option<Sweep> {
     let mut lines = text.lines().map(|line| line.split(' ').collect::<Vec<_>>());
     let mut next = |name| lines.next().filter(|words| words[0] == name);
@@ -67,7 +67,7 @@ impl Sweep {
         Ok(table)
     }
 
-    /// What is counted on the road of a number.
+    /// Runs the road with a number, and returns its counts.
     fn drive(&self, cars: u32, number: u32, driver: &impl Driver) -> Tally {
         let mut road = Road::even(self.lanes, self.length, self.limit, cars);
         let mut tally = Tally::default();

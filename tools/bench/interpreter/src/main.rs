@@ -1,8 +1,8 @@
 //! Driver programs in plain Rust, for comparison: the byte code of the standard rules or of others,
 //! interpreted for one car at a time, with no verifier and no proofs.
 //!
-//! Reads a job text of a standard rule, or of programs that the verifier accepts as `code` lines, and
-//! writes what `trlab run` writes for it.
+//! Reads a job with a standard rule, or with `code` lines of programs that the verifier accepts, and
+//! writes the same output as `trlab run`.
 
 mod machine;
 mod program;
@@ -79,7 +79,7 @@ mod tests {
 
     #[test]
     fn the_last_car_sees_how_fast_the_first_was() {
-        // As fast as the next car ahead, at most the gap: in its code `headspeed` is input 6.
+        // As fast as the next car ahead, but at most the gap. In its byte code `headspeed` is input 6.
         let text = "limit 12\nlane 3.b.......\nrule own\ncode 54524c4202000400\
             020006000000000002010200000000000a000001000000001400000000000000\nsteps 1\n";
         let mut job = read_job(text).expect("a job");

@@ -1,11 +1,11 @@
-//! Driver programs: their byte code, the standard ones, and what each instruction is once read.
+//! Driver programs: their byte code, the standard programs, and the instructions that are read from byte code.
 
 use common::Rule;
 
-/// An instruction as it stands in byte code: opcode, three operands of a byte, one of 32 bits.
+/// An instruction in byte code: an opcode, three operands of one byte each, and one of 32 bits.
 pub type Row = (u8, u8, u8, u8, u32);
 
-/// A register's place.
+/// The number of a register.
 pub type Place = u8;
 
 #[derive(Clone, Copy, Debug)]
@@ -45,7 +45,7 @@ pub enum Input {
     Headspeed,
 }
 
-/// The instruction of a row; `None` if it is not one.
+/// The instruction of a row; `None` if the row is invalid.
 pub fn read(row: &Row) -> Option<Instr> {
     let &(opcode, a, b, c, imm) = row;
     Some(match opcode {
@@ -103,7 +103,7 @@ fn input(number: u8) -> Option<Input> {
     })
 }
 
-/// The rows of a program's bytes, which follow a header of 8 bytes.
+/// The rows of a program, which follow a header of 8 bytes.
 pub fn rows(bytes: &[u8]) -> Vec<Row> {
     let (rows, _) = bytes.get(8..).unwrap_or_default().as_chunks::<8>();
     rows.iter()
@@ -119,7 +119,7 @@ pub fn motion(rule: Rule) -> Vec<Row> {
     }
 }
 
-/// The change program of a standard rule, where it has one.
+/// The change program of a standard rule, if it has one.
 pub fn change(rule: Rule) -> Option<Vec<Row>> {
     match rule {
         Rule::Rickert { change, .. } => Some(rickert(change)),

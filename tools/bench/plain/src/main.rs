@@ -1,10 +1,10 @@
-//! The standard rules as plain Rust by hand, for comparison: no driver programs, no verifier, no
-//! proofs.
+//! The standard rules in plain Rust, written by hand for comparison: no driver programs, no verifier,
+//! no proofs.
 //!
-//! `plain` reads a job text of a standard rule and writes what `trlab run` writes for it. `plain
-//! sweep` reads a sweep text of a standard rule and writes what `trlab sweep` writes for it. `plain
-//! floor` reads a job text, makes a random word of each car in each step, those of a group side by side, and nothing
-//! else: less than that no run can take in which each car draws.
+//! `plain` reads a job with a standard rule, and writes the same output as `trlab run`.
+//! `plain sweep` reads a sweep with a standard rule, and writes the same output as `trlab sweep`.
+//! `plain floor` reads a job, and only computes one random word per car and step, in parallel for the cars of a group.
+//! No run in which each car draws can take less time.
 
 use std::hint::black_box;
 use std::io::{self, Write};
@@ -42,7 +42,7 @@ impl Driver for Plain {
     }
 }
 
-/// Makes a word of each car in each step, and throws it away.
+/// Computes a word of each car in each step, and discards it.
 fn make_words(job: &Job) {
     let lanes = job.road.lanes();
     let cars: Vec<u32> = lanes.iter().flatten().map(|car| car.number).collect();

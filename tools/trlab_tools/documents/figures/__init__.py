@@ -1,2 +1,2 @@
-"""The figures of documents that explain a notion. Each is a module with a function `draw`, which returns the SVG image that
+"""The figures of documents that explain a concept. Each is a module with a function `draw`, which returns the SVG image that
 tools/figures compares with docs/figures/NAME.svg."""

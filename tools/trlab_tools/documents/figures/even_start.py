@@ -1,11 +1,11 @@
-"""Where the cars of a sweep start on two lanes: on one lane only if their number divides the length."""
+"""The initial cells of the cars of a sweep on two lanes: all on one lane only if their number divides the length."""
 from .svg import GREEN, RED, Drawing, Lane
 
 LENGTH = 10
 
 
 def panel(drawing: Drawing, y: float, cars: int, words: str, fill: str) -> None:
-    """A road with this many evenly spaced cars, and what is said of it."""
+    """A road with `cars` evenly spaced cars, and a caption."""
     drawing.text(90, y - 12, f"{cars} cars: {words}", fill=fill, weight="bold")
     lanes = [Lane(drawing, 90, y + 34 * (1 - lane), LENGTH, size=34) for lane in (0, 1)]
     for number, lane in enumerate(lanes):

@@ -14,7 +14,7 @@ LEFT, WIDE, HIGH, ROW = 236, 150, 26, 35
 
 
 def layers() -> list:
-    """The layers, lowest first: the name of each, what it is about, and its crates with those that they use."""
+    """The layers, lowest first: the name of each, its subject, and its crates with the crates that they use."""
     with open(CRATES, encoding="utf-8") as file:
         found = LAYER.findall(file.read())
     for name, about, lines in found:
@@ -23,7 +23,7 @@ def layers() -> list:
 
 
 def rows(crates: dict) -> list:
-    """The crates of a layer in rows, lowest first: each is above those of its layer that it uses."""
+    """The crates of a layer in rows, lowest first: each crate is above the crates of its layer that it uses."""
     height: dict = {}
     for crate, used in crates.items():
         height[crate] = 1 + max((height[other] for other in used if other in crates), default=-1)
@@ -31,7 +31,7 @@ def rows(crates: dict) -> list:
 
 
 def room(levels: list) -> int:
-    """How tall a layer is drawn."""
+    """The height of a layer in the drawing."""
     return len(levels) * ROW + 8
 
 

@@ -19,8 +19,8 @@ def y(cell: float) -> float:
 
 
 def paths() -> List[List[int]]:
-    """For each car its places by step, not wrapped round the ring. Nobody overtakes, so a car that leaves the last cell is the
-    first one of the next row."""
+    """For each car its places by step, not wrapped round the ring. Cars never overtake, so that a car that leaves the last
+    cell is the first one of the next row."""
     first, *later = rows(LIMIT, LANE, RULE, STEPS)
     cells = [cell for cell, sign in enumerate(first) if sign != "."]
     found = [[cell] for cell in cells]

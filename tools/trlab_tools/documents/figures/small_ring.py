@@ -32,7 +32,7 @@ def long_ring(density: float, brake: float) -> float:
 
 
 class Panel:
-    """Axes with the density below, from 0 to 1, and a range of values beside."""
+    """Axes with the density from 0 to 1 at the bottom, and a range of values at the left."""
 
     def __init__(self, drawing: Drawing, top: float, bottom: float, values: Tuple[float, float], marks: List[float], words: str):
         self.drawing, self.top, self.bottom, self.values = drawing, top, bottom, values

@@ -13,7 +13,7 @@ def gap_of(car: int, cells: list) -> int:
 
 
 def rows() -> list:
-    """What each row is called, and its cells and speeds."""
+    """The name of each row, its remark, cells and speeds."""
     cells, speeds = [cell for cell, _ in CARS], [speed for _, speed in CARS]
     faster = [min(speed + 1, LIMIT) for speed in speeds]
     safe = [min(speed, gap_of(car, cells)) for car, speed in enumerate(faster)]

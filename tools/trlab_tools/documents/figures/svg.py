@@ -1,7 +1,7 @@
 """Drawings as SVG text: shapes, words, arrows, and roads of cells with cars."""
 from typing import List, Optional, Tuple
 
-# Text and lines, frames, what is stressed, what is allowed, what is forbidden.
+# The colours of text and lines, frames, and stressed, allowed and forbidden things.
 INK, FRAME, BLUE, GREEN, RED = "#303030", "#b0b0b0", "#0072b2", "#00805c", "#c04000"
 # Red, green and blue of the colour map viridis at nine equal distances, as in docs/spacetime.awk.
 MAP = [
@@ -105,7 +105,7 @@ class Lane:
             drawing.box(x + cell * size, y, size, size, round_by=0)
 
     def left(self, cell: float) -> float:
-        """Where a cell begins."""
+        """The x coordinate at which a cell begins."""
         return self.x + cell * self.size
 
     def middle(self, cell: float) -> float:

@@ -1,4 +1,4 @@
-"""What the verifier knows on the two paths of examples/keep_distance.rule."""
+"""The facts that the verifier knows on the two paths of examples/keep_distance.rule."""
 from .svg import BLUE, FRAME, GREEN, Drawing
 
 WIDE = 200
@@ -6,7 +6,7 @@ TRUNK = ["get r0, speed", "num r1, 1", "add r0, r0, r1", "get r2, limit", "min r
 
 
 def block(drawing: Drawing, middle: float, top: float, lines: list) -> float:
-    """Instructions in a frame; returns where it ends."""
+    """Draws instructions in a frame, and returns the y coordinate of its lower edge."""
     high = 14 + 19 * len(lines)
     drawing.box(middle - WIDE / 2, top, WIDE, high, "#f6f6f6", FRAME)
     for place, line in enumerate(lines):
