@@ -40,11 +40,20 @@ def is_text(node):
     return isinstance(node, ast.Constant) and isinstance(node.value, str)
 
 
+def patterns_in(tree):
+    """The texts of regular expressions, which are not prose."""
+    for node in ast.walk(tree):
+        if isinstance(node, ast.Call) and ast.unparse(node.func).startswith("re."):
+            yield from node.args
+
+
 def of_python(text):
     tree = ast.parse(text)
     documents = {node.value for node in ast.walk(tree) if isinstance(node, ast.Expr) and is_text(node.value)}
+    patterns = set(patterns_in(tree))
     for node in ast.walk(tree):
-        if node in documents or is_text(node) and "\n" not in node.value and MESSAGE.search(node.value):
+        is_message = is_text(node) and node not in patterns and "\n" not in node.value and MESSAGE.search(node.value)
+        if node in documents or is_message:
             yield node.lineno, node.value
         if isinstance(node, ast.FunctionDef) and node.name.startswith("test_"):
             yield node.lineno, node.name.replace("_", " ")

@@ -1,4 +1,4 @@
-"""Wrong bodies, and how the prover is asked to refuse them.
+"""Wrong bodies (mutants), and the checks by which the prover rejects them.
 
 A crate's wrong bodies are the files of must-fail/, one each, and its file wrong.edit. There each has a line `# its_name`,
 and then lines `file: src/NAME.rt`, `old: TEXT` and `new: TEXT`: the text, which is in the file once, is replaced. After a
@@ -7,8 +7,9 @@ that has to be refused, by a line `in: module::function`. A line `private` marks
 function refuses. A line `without: Type::method: REASON` names a public function that has no wrong body.
 
 They are tried on a copy of the crate, over the libraries that ./test has proved here. Only the functions that they change
-are proved there; the theorem of every other function is taken as proved, by a hole in place of its proof. This shows no
-less: what is refused although everything else is taken as proved is refused in any case. trials.py keeps what was said."""
+are proved there; the theorem of every other function is taken as proved, by a hole instead of its proof. This shows no
+less: a body that is rejected although everything else is taken as proved is rejected in any case. trials.py keeps the
+verdicts."""
 import functools
 import glob
 import json
