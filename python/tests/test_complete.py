@@ -198,6 +198,7 @@ long = trlab.Sweep(limit=5, length=100000, lanes=2, cars=[99999], rule=trlab.Ric
 short = trlab.Sweep(limit=5, length=10, cars=[1], rule=trlab.Nasch(0), warm=0, measure=1)
 job = trlab.Job(limit=5, length=20000, density=0.2, rule=trlab.Nasch(0.25), steps=500000)
 way, cache = sys.argv[1:]
+signal.signal(signal.SIGHUP, signal.SIG_DFL)  # `nohup` has its processes ignore it
 if way == "handled":
     signal.signal(signal.SIGTERM, lambda *_: sys.exit(7))
 print("ready", flush=True)
@@ -226,7 +227,7 @@ class Signals(unittest.TestCase):
                 self.assertTrue(holds(lambda: len(marked(running.mark, find_program())) == programs))
                 running.send_signal(sent)
                 status = running.wait()
-                self.assertTrue(holds(lambda: not marked(running.mark, find_program()), seconds=20))
+                self.assertTrue(holds(lambda: not marked(running.mark, find_program())))
                 if way != "processes":
                     self.assertEqual([file.name for file in Path(cache).iterdir() if file.name.startswith(".")], [])
                 return status
