@@ -111,7 +111,7 @@ fn some_instr_draws(instrs: &[Instr]) -> bool {
 }
 
 /// Whether a program of a rule draws random numbers.
-pub fn rule_draws(rule: &Rule) -> bool {
+fn rule_draws(rule: &Rule) -> bool {
     some_instr_draws(rule.motion().code().instrs())
         || match rule.change() {
             Some(change) => some_instr_draws(change.code().instrs()),

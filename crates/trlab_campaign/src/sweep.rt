@@ -105,8 +105,8 @@ impl<T: Fn(Global, &Sweep) -> Result<Vec<u8>, AllocError> + Drop> Engine for Swe
 ///
 /// The whole text is read and checked, and all points are complete, before a byte is written. If an allocation fails,
 /// nothing is written; if a call of the reader or writer fails, a prefix of the whole output. Each road is a job of a
-/// book. `runners` runners, 1 to 16, take the jobs. `workers`, 1 to 16, is the maximum number of threads that compute
-/// the cars of a road; each runner has only as many as help. The output does not depend on these numbers.
+/// book. `runners` runners, 1 to 16, take the jobs, each with `workers` workers, 1 to 16. The output does not depend on
+/// these numbers.
 pub fn run_sweep_with_progress<
     R: AllocGlobal + Threads + Wait + Sync,
     S: Source,

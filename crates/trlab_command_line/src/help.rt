@@ -145,8 +145,7 @@ pub const EVERY_HELP: &str = "Steps per window, 1 to 500000";
 /// The option `--from` of `series`.
 pub const FROM_HELP: &str = "Step at which the first window starts, 0 to 500000";
 
-pub const WORKERS_HELP: &str =
-    "Maximum number of threads per road, 1 to 16; does not change the output";
+pub const WORKERS_HELP: &str = "Threads per road, 1 to 16; does not change the output";
 
 /// The option `--runners` of `sweep`.
 pub const RUNNERS_HELP: &str =

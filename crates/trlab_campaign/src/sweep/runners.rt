@@ -8,7 +8,6 @@ ghost use Rattle.trlab_book.specs.Desks.{part_count};
 ghost use Rattle.trlab_campaign.specs.SweepOutput.{AreFirstPoints, ArePoints, IsPoint};
 ghost use Rattle.trlab_strands.specs.Tokens.{name_of};
 
-use crate::pooled::rule_draws;
 use crate::progress::ProgressObserver;
 use crate::sweep::points::{even_road, point_from_snapshot, run_point};
 use crate::sweep::work::WorkGate;
@@ -20,7 +19,6 @@ use trlab_book::{Desk, SharedBook, run_jobs};
 use trlab_diagram::Point;
 use trlab_jobs::Sweep;
 use trlab_jobs::limits::MAX_CARS_IN_MEMORY;
-use trlab_segments::workers_for;
 use trlab_sequential_book::{Event, Seed};
 use trlab_strands::{Blank, Ledger};
 
@@ -87,7 +85,7 @@ impl Batch {
     }
 }
 
-/// The runners of a sweep, each with as many of its workers as help. The workers pass the gate of the sweep.
+/// The runners of a sweep, each with its workers. The workers pass the gate of the sweep.
 #[derive(Drop)]
 pub struct Runners<'a, R, O> {
     pub rt: &'a R,
@@ -96,7 +94,7 @@ pub struct Runners<'a, R, O> {
     pub gate: &'a WorkGate<'a, O>,
     /// The number of runners.
     pub count: u32,
-    /// The maximum number of workers of each runner.
+    /// The number of workers of each runner.
     pub workers: u32,
     ghost runner_count: { (0 < count) × (count ≤ MAX_RUNNERS) },
     ghost worker_count: { (0 < workers) × (workers ≤ MAX_WORKERS) },
@@ -104,19 +102,6 @@ pub struct Runners<'a, R, O> {
 }
 
 impl<'a, R: Threads + Wait + Sync, O: ProgressObserver + Sync> Runners<'a, R, O> {
-    /// The number of workers that save time on the road of a batch with the most cars.
-    fn workers_for(&self, batch: Batch) -> u32
-        requires inside { batch.end ≤ length self.now.sweep.now.cars }
-        ensures { (0 < result) × (result ≤ MAX_WORKERS) }
-    {
-        let mut most_cars = 0;
-        for number in batch.first..batch.end {
-            most_cars = self.sweep.cars[number as usize].max(most_cars);
-        }
-        let draws = rule_draws(&self.sweep.rule);
-        workers_for(self.rt, self.workers, most_cars, draws)
-    }
-
     /// Submits the roads of a batch in the order of their jobs. If the book does not accept one, the remaining roads
     /// have no job.
     fn submit<L: Ledger>(
@@ -216,7 +201,7 @@ impl<'a, R: Threads + Wait + Sync, O: ProgressObserver + Sync> Runners<'a, R, O>
             &book,
             desk,
             self.count,
-            self.workers_for(batch),
+            self.workers,
             self.gate,
         ) {
             Ok(desk) => desk,
