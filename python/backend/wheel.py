@@ -16,6 +16,8 @@ import tarfile
 import zipfile
 from pathlib import Path
 
+import pyproject
+
 TOP = Path(__file__).resolve().parents[2]
 MODULE = TOP / "python" / "trlab"
 RELEASE = TOP / "release"
@@ -34,24 +36,26 @@ def version():
     return re.search(r'^__version__ = "(.*)"$', (MODULE / "_version.py").read_text(), re.M)[1]
 
 
+def project():
+    """The table [project] of pyproject.toml."""
+    return pyproject.read((TOP / "pyproject.toml").read_text(encoding="utf-8"))["project"]
+
+
 def metadata():
-    """The metadata of the package for installers, from the table [project] of pyproject.toml."""
-    text = (TOP / "pyproject.toml").read_text()
-    summary, python = (re.search(rf'^{word} = "(.*)"$', text, re.M)[1] for word in ("description", "requires-python"))
-    lines = ["Metadata-Version: 2.1", "Name: trlab", f"Version: {version()}", f"Summary: {summary}"]
-    lines.append(f"Requires-Python: {python}")
-    extras = re.search(r"^\[project\.optional-dependencies\]\n(.*?)\n\n", text, re.M | re.S)[1]
-    for extra, packages in re.findall(r"^(\w+) = \[(.*)\]$", extras, re.M):
+    """The metadata of the package for installers, from the table [project]."""
+    table = project()
+    lines = ["Metadata-Version: 2.1", f"Name: {table['name']}", f"Version: {version()}", f"Summary: {table['description']}"]
+    lines.append(f"Requires-Python: {table['requires-python']}")
+    lines += [f"Requires-Dist: {package}" for package in table["dependencies"]]
+    for extra, packages in table["optional-dependencies"].items():
         lines.append(f"Provides-Extra: {extra}")
-        lines += [f'Requires-Dist: {package}; extra == "{extra}"' for package in re.findall(r'"([^"]+)"', packages)]
+        lines += [f'Requires-Dist: {package}; extra == "{extra}"' for package in packages]
     return "".join(line + "\n" for line in lines)
 
 
 def information(tag):
     """The files that describe the package to an installer, by their paths in the wheel."""
-    text = (TOP / "pyproject.toml").read_text()
-    scripts = re.findall(r'^([\w-]+) = "([\w.]+:\w+)"$', re.search(r"^\[project\.scripts\]\n(.*)", text, re.M | re.S)[1], re.M)
-    commands = "".join(f"{name} = {place}\n" for name, place in scripts)
+    commands = "".join(f"{name} = {place}\n" for name, place in project()["scripts"].items())
     folder = f"trlab-{version()}.dist-info"
     return {
         f"{folder}/METADATA": metadata().encode(),
@@ -144,7 +148,7 @@ def build_editable(wheel_directory, config_settings=None, metadata_directory=Non
 def build_sdist(sdist_directory, config_settings=None):
     """Builds an archive from which the same wheel can be built."""
     name = f"trlab-{version()}"
-    sources = [TOP / "pyproject.toml", Path(__file__), *(RELEASE / "release.txt", RELEASE / "sources")]
+    sources = [TOP / "pyproject.toml", *Path(__file__).parent.glob("*.py"), *(RELEASE / "release.txt", RELEASE / "sources")]
     sources += [*RELEASE.glob("trlab-x86-64-v*.gz"), *RELEASE.glob(PAGE), *node_scripts(), *(MODULE / path[len("trlab/") :] for path in module_files())]
     sources += [EXAMPLES / Path(path).name for path in example_files()]
     with tarfile.open(Path(sdist_directory) / f"{name}.tar.gz", "w:gz", format=tarfile.PAX_FORMAT) as archive:
