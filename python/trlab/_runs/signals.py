@@ -13,6 +13,7 @@ from .._errors import ExitStatusError
 from .systems import ENDING_SIGNALS, after_fork, ignores_ends_of_children
 
 
+
 def need_exit_statuses() -> None:
     """Raises `ExitStatusError` if SIGCHLD is ignored: Linux then forgets how a program ended, and Python calls it success."""
     if ignores_ends_of_children():
