@@ -148,8 +148,9 @@ def build_editable(wheel_directory, config_settings=None, metadata_directory=Non
 def build_sdist(sdist_directory, config_settings=None):
     """Builds an archive from which the same wheel can be built."""
     name = f"trlab-{version()}"
-    sources = [TOP / "pyproject.toml", *Path(__file__).parent.glob("*.py"), *(RELEASE / "release.txt", RELEASE / "sources")]
-    sources += [*RELEASE.glob("trlab-x86-64-v*.gz"), *RELEASE.glob(PAGE), *node_scripts(), *(MODULE / path[len("trlab/") :] for path in module_files())]
+    sources = [TOP / "pyproject.toml", *Path(__file__).parent.glob("*.py"), RELEASE / "release.txt", RELEASE / "sources"]
+    sources += [*RELEASE.glob("trlab-x86-64-v*.gz"), *RELEASE.glob(PAGE), *node_scripts()]
+    sources += [MODULE / path[len("trlab/") :] for path in module_files()]
     sources += [EXAMPLES / Path(path).name for path in example_files()]
     with tarfile.open(Path(sdist_directory) / f"{name}.tar.gz", "w:gz", format=tarfile.PAX_FORMAT) as archive:
         for source in sorted(sources):

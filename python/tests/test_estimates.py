@@ -306,11 +306,9 @@ class Lifetimes(unittest.TestCase):
         self.assertEqual(means, {0.1: 8, 0.2: 4})
 
     def test_of_runs(self):
-        lives = Grid(lambda seed, key: Job(limit=5, length=500, density=0.18, rule=SlowToStart("1/64", "3/4"), start=moving,
-                                           steps=500,
-                                           key=key),
-                                           seed=range(12)).run(call=lambda job: job.time_until(lambda it: it.stopped > 0,
-                                                                                               every=10))
+        ring = dict(limit=5, length=500, density=0.18, rule=SlowToStart("1/64", "3/4"), start=moving, steps=500)
+        grid = Grid(lambda seed, key: Job(**ring, key=key), seed=range(12))
+        lives = grid.run(call=lambda job: job.time_until(lambda it: it.stopped > 0, every=10))
         found = trlab.lifetime(lives.time, lives.observed)
         self.assertEqual((found.observed, found.mean), (lives.observed.sum(), lives.time.sum() / lives.observed.sum()))
         self.assertEqual(found.observed + found.censored, 12)

@@ -1,5 +1,4 @@
 """Input files as Python reads them: the same bytes again, or an error."""
-import json
 import tempfile
 import unittest
 import warnings

@@ -19,7 +19,7 @@ import trlab
 from tests.processes import PYTHON, calls, logging_program
 from tests.test_arrays import needs
 from tests.waiting import LIMIT
-from trlab import ProgramError, Job, Nasch, RejectedInputError, Rickert, Sweep
+from trlab import Job, Nasch, RejectedInputError, Rickert, Sweep
 
 SHAPE = Sweep(limit=5, length=100, rule=Nasch(0.25), warm=10, measure=20, cars=[10, 20])
 SWEEPS = {f"key_{key}": replace(SHAPE, key=key) for key in range(5)}

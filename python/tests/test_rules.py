@@ -267,7 +267,6 @@ class Words(unittest.TestCase):
         Own(nasch, change_lanes)
         Own("get r0, gap ; draw r0, 15, 1\nget r1, limit\nmin r0, r0, r1\ngo r0", program("return car.side and car.draw(p)", "change"))
 
-
     def test_a_draw_in_the_probability_of_another_is_made_first(self):
         nested = "return car.safe(1 if car.draw(p if car.draw(0.5) else 0) else 2)"
         self.assertRaisesRegex(RuleError, "line 3: .* another draw in its probability, which Python makes first", program, nested)

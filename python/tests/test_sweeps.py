@@ -5,7 +5,7 @@ from dataclasses import replace
 from statistics import fmean, stdev
 
 from tests.test_arrays import needs
-from trlab import Job, Nasch, Point, RejectedInputError, Rickert, Sweep, Table, even, jammed, moving, random_cells
+from trlab import Nasch, Point, RejectedInputError, Rickert, Sweep, Table, even, jammed, moving, random_cells
 
 SWEEP = Sweep(limit=5, length=60, rule=Nasch(0.25), warm=20, measure=100, cars=[10, 20, 20], key=7)
 ROAD = [0, None, 3, None, None]

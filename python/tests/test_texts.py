@@ -1,6 +1,5 @@
 """Input files: the Python that a user writes, and the exact file."""
 import unittest
-import warnings
 from fractions import Fraction
 
 from trlab import Job, Nasch, Own, Rickert, SlowToStart, Sweep, even, jammed, moving, random_cells
@@ -106,4 +105,3 @@ class Texts(unittest.TestCase):
     def test_cars_or_densities(self):
         for more in {}, {"cars": [1], "densities": [0.1]}:
             self.assertRaises(ValueError, Sweep, limit=5, length=10, rule=Nasch(0), warm=0, measure=1, **more)
-

@@ -92,8 +92,8 @@ ATTRIBUTE_LINE = re.compile(r"attributes (#\d+) = \{ (.*) \}")
 # Attributes of the processor and its stack, which WebAssembly has in its own way, and one that only rattle reads.
 OF_PROCESSOR = re.compile(r'"(?:probe-stack|stack-probe-size|target-cpu|rattle-sig)"="[^"]*"')
 OF_FUNCTION = re.compile(
-    r"(?:nounwind|alwaysinline|inlinehint|noinline|cold|noreturn|nobuiltin|nocallback|nofree|nosync|speculatable|willreturn|nocreateundeforpoison"
-    r"|memory\([\w: ,]*\))"
+    r"(?:nounwind|alwaysinline|inlinehint|noinline|cold|noreturn|nobuiltin|nocallback|nofree|nosync|speculatable|willreturn"
+    r"|nocreateundeforpoison|memory\([\w: ,]*\))"
 )
 # A hint for the processor, without meaning.
 PAUSE = "  call void @llvm.x86.sse2.pause()"

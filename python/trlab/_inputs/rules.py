@@ -4,7 +4,7 @@ from __future__ import annotations
 from dataclasses import dataclass
 from enum import Enum
 from collections.abc import Iterator, Mapping
-from typing import Optional, Union
+from typing import Union
 
 from .._errors import ParameterError
 from .._rules.functions import PythonRule, need_own_words, program_of

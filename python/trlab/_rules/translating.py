@@ -4,7 +4,6 @@ from __future__ import annotations
 from collections.abc import Callable, Mapping
 from typing import Any, NamedTuple, NoReturn, Optional, Union
 
-from .._errors import RuleError
 from .emission import Instruction, Place
 from .names import Attempt, Car, Frame
 from .reading import Function, plain

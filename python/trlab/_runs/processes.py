@@ -4,7 +4,6 @@ from __future__ import annotations
 import atexit
 import errno
 import functools
-import os
 import subprocess
 import tempfile
 import threading

@@ -2,7 +2,6 @@
 from __future__ import annotations
 
 import re
-from collections.abc import Sequence
 from typing import NamedTuple, Optional
 
 from .._errors import IncompleteOutputError, ParameterError

@@ -54,8 +54,8 @@ class Grid:
     the parameters.
 
     Raises `ParameterError` if two choices give the same input, because `make` ignores a parameter or its `key`; if two parameters
-    change only the key, or one with fractions as values; if two requested densities give the same number of cars; and if a parameter `density` (within one car),
-    `cars`, `limit`, `length`, `lanes`, `warm` or `measure` is not that of the input."""
+    change only the key, or one with fractions as values; if two requested densities give the same number of cars; and if a parameter
+    `density` (within one car), `cars`, `limit`, `length`, `lanes`, `warm` or `measure` is not that of the input."""
 
     def __init__(self, make: Callable[..., Input], /, **parameters: Union[Iterable[Any], Mapping[str, Any]]) -> None:
         values = {name: _named_values(name, given) for name, given in parameters.items()}

@@ -1,5 +1,5 @@
 """A lane change: the distances that a car sees, and the conditions of `rule rickert`."""
-from .svg import BLUE, GREEN, INK, Drawing, Lane
+from .svg import GREEN, INK, Drawing, Lane
 
 CELLS, LIMIT, SPEED = 20, 5, 3
 CAR, AHEAD, BEHIND, SIDE_AHEAD = 9, 12, 2, 17
