@@ -1,5 +1,4 @@
 """The time until an event: the end of the first window with the event, after which the program is stopped."""
-import subprocess
 import tempfile
 import unittest
 from dataclasses import replace
@@ -24,13 +23,13 @@ class Recorded:
     """The processes of the program that a block starts."""
 
     def __enter__(self):
-        self.found, popen = [], subprocess.Popen
+        self.found, child = [], processes.Child
 
         def start(*words, **options):
-            self.found.append(popen(*words, **options))
+            self.found.append(child(*words, **options))
             return self.found[-1]
 
-        self.patch = mock.patch.object(processes.subprocess, "Popen", start)
+        self.patch = mock.patch.object(processes, "Child", start)
         self.patch.start()
         return self.found
 

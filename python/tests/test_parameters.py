@@ -302,7 +302,7 @@ class Findings(unittest.TestCase):
 
     def test_a_wrong_option_runs_nothing(self):
         for options in {"every": -1}, {"workers": 17}, {"every": None}, {"first": 31}, {"every": 500001}, {"workers": True}:
-            with mock.patch("subprocess.Popen", side_effect=AssertionError):
+            with mock.patch("trlab._runs.processes.Child", side_effect=AssertionError):
                 self.assertRaises(ParameterError, JOB.run, **options)
                 self.assertRaises(ParameterError, JOB.snapshots, **options)
                 self.assertRaises(ParameterError, JOB.series, **options)
