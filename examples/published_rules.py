@@ -1,4 +1,4 @@
-"""Published rules as Python functions. docs/PROGRAMS.md has their sources, and the parts of them that cannot be written.
+"""Published rules as Python functions. docs/MODELS.md has their sources, and the parts of them that cannot be written.
 
     python3 -m trlab.rule examples/published_rules.py nasch p=1/4 > nasch.rule
 
@@ -24,6 +24,30 @@ def slow_to_start(car, p=0.01, p0=0.5):
     brakes = car.draw(p0 if car.speed == 0 else p)
     v = min(car.speed + 1, car.limit, car.gap)
     if brakes:
+        v = max(v - 1, 0)
+    return v
+
+
+@trlab.motion
+def takayasu(car, ps=0.5, p=0.0):
+    """T2, after Takayasu and Takayasu (1993): a stopped car with only one empty cell ahead stays with probability ps."""
+    v = min(car.speed + 1, car.limit, car.gap)
+    if car.speed == 0 and car.gap == 1 and car.draw(ps):
+        v = 0
+    if car.draw(p):
+        v = max(v - 1, 0)
+    return v
+
+
+@trlab.motion
+def benjamin(car, ps=0.5, p=0.0):
+    """BJH, after Benjamin, Johnson and Hui (1996): a car that had no gap a step ago stays with probability ps."""
+    # A step changes the gap by headspeed - speed, so that the gap a step ago was gap + speed - headspeed.
+    was_blocked = car.speed == 0 and car.gap == car.headspeed
+    v = min(car.speed + 1, car.limit, car.gap)
+    if was_blocked and car.draw(ps):
+        v = 0
+    if car.draw(p):
         v = max(v - 1, 0)
     return v
 

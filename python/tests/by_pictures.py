@@ -17,40 +17,43 @@ class OnLane(NamedTuple):
     stopped: int
 
 
-def on_lane(lane: str) -> OnLane:
-    counts = [lane.count(sign) for sign in SPEEDS]
+def counts_on_lane(lane: str) -> OnLane:
+    counts = [lane.count(character) for character in SPEEDS]
     return OnLane(sum(counts), sum(speed * count for speed, count in enumerate(counts)), counts[0])
 
 
 def cells_before_motion(lane: str) -> set[int]:
     """The cells of a lane from which its cars came in the motion."""
-    return {(cell - SPEEDS.index(sign)) % len(lane) for cell, sign in enumerate(lane) if sign != "."}
+    return {(cell - SPEEDS.index(character)) % len(lane) for cell, character in enumerate(lane) if character != "."}
 
 
 def changes(before: Snapshot, after: Snapshot) -> int:
     """The number of cars that changed lanes: cells that were taken before, and were empty when the motion began."""
     if len(before.lanes) == 1:
         return 0
-    taken = [{cell for cell, sign in enumerate(lane) if sign != "."} for lane in before.lanes]
+    taken = [{cell for cell, character in enumerate(lane) if character != "."} for lane in before.lanes]
     return sum(len(cells - cells_before_motion(lane)) for cells, lane in zip(taken, after.lanes))
 
 
 def window(snapshots: Sequence[Snapshot]) -> Window:
     """The line of a window, by the snapshot before it and those of its steps."""
-    behind = snapshots[1:]
-    lanes = len(behind[0].lanes)
-    cells, steps = lanes * len(behind[0].lanes[0]), len(behind)
-    sums = [[sum(column) for column in zip(*(on_lane(it.lanes[lane]) for it in behind))] for lane in range(lanes)]
+    counted = snapshots[1:]
+    lanes = len(counted[0].lanes)
+    cells, steps = lanes * len(counted[0].lanes[0]), len(counted)
+    sums = [
+        [sum(column) for column in zip(*(counts_on_lane(snapshot.lanes[lane]) for snapshot in counted))]
+        for lane in range(lanes)
+    ]
     (cars0, distance0, stopped0), (cars1, distance1, stopped1) = sums if lanes == 2 else [*sums, [0, 0, 0]]
     distance = distance0 + distance1
     return Window(
-        step=behind[-1].step,
+        step=counted[-1].step,
         cars=(cars0 + cars1) // steps,
         cells=cells,
         steps=steps,
         distance=distance,
         stopped=stopped0 + stopped1,
-        changes=sum(changes(*pair) for pair in zip(snapshots, behind)),
+        changes=sum(changes(*pair) for pair in zip(snapshots, counted)),
         flow_millionths=distance * 1000000 // (cells * steps),
         cars0=cars0,
         distance0=distance0,

@@ -20,39 +20,42 @@ def logging_program(folder):
     return path
 
 
-def calls(folder, word):
+def calls(folder, argument):
     """The number of calls of the program with this word."""
     file = Path(folder) / "calls"
-    return file.read_text().split().count(word) if file.exists() else 0
+    return file.read_text().split().count(argument) if file.exists() else 0
 
 
-def child(script, *words, **changes):
+def child(script, *arguments, **changes):
     """A child process of Python that runs a script, with a mark in its environment that its own children inherit."""
     mark = uuid.uuid4().hex
     environment = {**os.environ, "PYTHONPATH": str(PYTHON), "TRLAB": find_program(), MARK: mark, **changes}
-    line, streams = [sys.executable, "-c", script, *words], dict(stdin=subprocess.PIPE, stdout=subprocess.PIPE, stderr=subprocess.DEVNULL)
-    started = subprocess.Popen(line, env=environment, text=True, **streams)
-    started.mark = mark
-    return started
+    command = [sys.executable, "-c", script, *arguments]
+    streams = {"stdin": subprocess.PIPE, "stdout": subprocess.PIPE, "stderr": subprocess.DEVNULL}
+    process = subprocess.Popen(command, env=environment, text=True, **streams)
+    process.mark = mark
+    return process
 
 
 def marked(mark, name=""):
     """The numbers of the processes with a mark whose command line begins with a name, except zombies."""
-    found = []
+    numbers = []
     for folder in Path("/proc").glob("[0-9]*"):
         try:
-            environment, line = (folder / "environ").read_bytes(), (folder / "cmdline").read_bytes()
+            environment, command_line = (folder / "environ").read_bytes(), (folder / "cmdline").read_bytes()
         except OSError:
             continue
-        if f"{MARK}={mark}".encode() in environment.split(b"\0") and line.startswith(name.encode()) and line:
-            found.append(int(folder.name))
-    return found
+        has_mark = f"{MARK}={mark}".encode() in environment.split(b"\0")
+        # The command line of a zombie is empty.
+        if has_mark and command_line and command_line.startswith(name.encode()):
+            numbers.append(int(folder.name))
+    return numbers
 
 
-def end(started):
+def kill(process):
     """Kills a child and the processes that it started itself, and waits for its pipe to close."""
-    started.kill()
-    started.wait()
-    for number in marked(started.mark):
+    process.kill()
+    process.wait()
+    for number in marked(process.mark):
         os.kill(number, signal.SIGKILL)
-    started.communicate()
+    process.communicate()

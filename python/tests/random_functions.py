@@ -1,5 +1,6 @@
-"""Random functions of the subset of `trlab.motion` and `trlab.change`, and two ways to evaluate them: Python runs the function
-itself, and a small interpreter runs its program. Both are written from docs/PROGRAMS.md, and not from the translation."""
+"""Random functions of the subset of `trlab.motion` and `trlab.change`, and two ways to evaluate them: Python runs the
+function itself, and a small interpreter runs its program. Both are written from docs/PROGRAMS.md, and not from the
+translation."""
 import ast
 import functools
 import operator
@@ -7,25 +8,34 @@ import random
 import re
 from fractions import Fraction
 
+from tests.expected import ALWAYS
 from trlab import RuleError
 from trlab._rules.functions import rules_in
 
-CERTAIN = 2**31
+WORDS = 16  # the random words of a car in a step
+MAX_CELLS = 100000  # of a lane
 JUMPS = {
-    "jump": lambda: True, "jlt": operator.lt, "jle": operator.le, "jtrue": lambda flag: flag, "jfalse": lambda flag: not flag,
+    "jump": lambda: True, "jlt": operator.lt, "jle": operator.le, "jtrue": lambda flag: flag,
+    "jfalse": lambda flag: not flag,
 }
 INSTRUCTIONS = {
-    "num": int, "copy": lambda value: value, "add": operator.add, "sub": operator.sub, "mul": operator.mul, "div": operator.floordiv,
+    "num": int, "copy": lambda value: value, "add": operator.add, "sub": operator.sub, "mul": operator.mul,
+    "div": operator.floordiv,
     "min": min, "max": max, "not": operator.not_, "and": lambda a, b: a and b, "or": lambda a, b: a or b,
 }
-PROBABILITIES = ("0", "1", "0.5", "0.25", "'1/3'", "p", "1 - p", "0.9 if car.speed == 0 else 0.1", "p if car.gap < 3 else 0")
+CONSTANT_PROBABILITIES = ("0", "1", "0.5", "0.25", "'1/3'")
+PROBABILITIES = (
+    *CONSTANT_PROBABILITIES, "p", "1 - p", "0.9 if car.speed == 0 else 0.1", "p if car.gap < 3 else 0",
+)
 EXPECTED = (
-    "may be below 0", "may be more than", "may be above", "side cell is occupied", "at most 128", "more than eight registers",
+    "may be below 0", "may be more than", "may be above", "side cell is occupied", "at most 128",
+    "more than eight registers",
     "one draw too many", "which another draw uses too",
 )
 """Errors that a function of the subset may have."""
 
-# Statements with one feature each. {n} is a number, {c} a condition, {k} a constant above 0, {p} a probability, {t} turns.
+# Statements with one feature each. {n} is a number, {c} a condition, {k} a constant above 0, {p} a probability, {t}
+# turns.
 MOTIONS = """
 v = {n} + {n}
 v = {n} - {n}
@@ -182,45 +192,58 @@ class Writer:
         self.numbers, self.flags, self.has_helpers, self.own = ["x"], [], False, ["MARGIN"]
         inner = self.filled(self.dice.choice(_choices(INNER)))
         self.own = ["y", "y + 1", "MARGIN"]
-        return [inner, *(self.filled(self.dice.choice(_choices(it))) for it in (HELPERS, CLEARS))]
+        return [inner, *(self.filled(self.dice.choice(_choices(text))) for text in (HELPERS, CLEARS))]
 
     def filled(self, text):
         """A template with its holes filled."""
         holes = {
-            "n": lambda: self.number(self.dice.choice([0, 0, 1])), "c": lambda: self.condition(self.dice.choice([0, 1])),
-            "k": lambda: self.dice.choice(["1", "2", "3", "5", "g"]), "t": lambda: self.dice.choice(["0", "1", "2", "3", "g"]),
-            "p": lambda: self.dice.choice(PROBABILITIES) + self.word(), "q": lambda: self.dice.choice(PROBABILITIES[:5]) + self.word(),
+            "n": lambda: self.number(self.dice.choice([0, 0, 1])),
+            "c": lambda: self.condition(self.dice.choice([0, 1])),
+            "k": lambda: self.dice.choice(["1", "2", "3", "5", "g"]),
+            "t": lambda: self.dice.choice(["0", "1", "2", "3", "g"]),
+            "p": lambda: self.dice.choice(PROBABILITIES) + self.word(),
+            "q": lambda: self.dice.choice(CONSTANT_PROBABILITIES) + self.word(),
         }
         return re.sub("{([nckpqt])}", lambda hole: holes[hole[1]](), text)
 
     def word(self):
-        return f", word={self.dice.randrange(16)}" if self.has_words else ""
+        return f", word={self.dice.randrange(WORDS)}" if self.has_words else ""
 
     def small(self):
         """One or two statements with one feature each."""
-        kinds = MOTIONS if self.kind == "motion" else [*CHANGES, *CHANGES, *(it for it in MOTIONS if "safe" not in it)]
+        without_safe = [template for template in MOTIONS if "safe" not in template]
+        kinds = MOTIONS if self.kind == "motion" else [*CHANGES, *CHANGES, *without_safe]
         lines = []
         for _ in range(self.dice.choice([1, 1, 1, 2])):
             lines += self.filled(self.dice.choice(kinds)).split("|")
             self.numbers = ["v"]
         if self.kind == "change":
-            end = self.dice.choice(["v", "v", "car.side and v", "car.side and v > 1", "v and car.side", "not v"])
+            returned = self.dice.choice(["v", "v", "car.side and v", "car.side and v > 1", "v and car.side", "not v"])
         else:
-            end = self.dice.choice(["car.safe(v)"] * 3 + ["car.safe(v + 5)", "min(v, car.gap, car.limit)", "max(min(v, car.limit, car.gap), 0)"])
-        return "\n".join(f"    {line}" for line in [*lines, f"return {end}"])
+            # `v + 5` is often above the gap and the limit, so that `safe` has to reduce it.
+            returned = self.dice.choice(
+                3 * ["car.safe(v)"] + [
+                    "car.safe(v + 5)", "min(v, car.gap, car.limit)", "max(min(v, car.limit, car.gap), 0)"
+                ]
+            )
+        return "\n".join(f"    {line}" for line in [*lines, f"return {returned}"])
 
     def constant(self):
         return self.dice.choice(["0", "1", "1", "2", "3", "5", "7", "40", *self.own])
 
     def seen(self):
-        more = ["sidegap", "sideback", "lane"] * 2 if self.kind == "change" else []
-        return "car." + self.dice.choice(["speed", "limit", "gap", "headspeed", "speed", "gap", "limit", *more])
+        inputs_of_change = ["sidegap", "sideback", "lane"] * 2 if self.kind == "change" else []
+        return "car." + self.dice.choice(
+            ["speed", "limit", "gap", "headspeed", "speed", "gap", "limit", *inputs_of_change]
+        )
 
     def draw(self):
-        if self.draws + self.turns > 16:
+        if self.draws + self.turns > WORDS:
             return "car.gap > 2"
         self.draws += self.turns
-        return f"car.draw({self.dice.choice(PROBABILITIES if 'g' in self.own else PROBABILITIES[:5])}{self.word()})"
+        # Helpers have no parameter `p`.
+        probability = self.dice.choice(PROBABILITIES if "g" in self.own else CONSTANT_PROBABILITIES)
+        return f"car.draw({probability}{self.word()})"
 
     def number(self, depth):
         if depth <= 0 or self.dice.random() < 0.2:
@@ -231,8 +254,10 @@ class Writer:
         first, second = self.number(depth - 1), self.number(depth - 1)
         by = self.dice.choice(["2", "3", "MARGIN"])
         forms = [
-            f"{first} + {second}", f"({first} - {second})", f"({first} - {second})", f"max({first} - {second}, {self.dice.choice('001')})",
-            f"min({first}, {second})", f"max({first}, {second}, {self.number(depth - 1)})", f"({first}) // {by}", f"({first}) % {by}",
+            f"{first} + {second}", f"({first} - {second})", f"({first} - {second})",
+            f"max({first} - {second}, {self.dice.choice('001')})",
+            f"min({first}, {second})", f"max({first}, {second}, {self.number(depth - 1)})", f"({first}) // {by}",
+            f"({first}) % {by}",
             f"({first}) * {by}", f"{self.dice.choice(['2', '-1', '3'])} * ({first})", f"abs({first})", f"-({first})",
         ]
         if self.dice.random() < 0.25:
@@ -247,7 +272,8 @@ class Writer:
         choice, sign = self.dice.randrange(10), lambda: self.dice.choice(["<", "<=", ">", ">=", "==", "!="])
         if depth > 0 and choice < 3:
             first, second = self.condition(depth - 1), self.condition(depth - 1)
-            return self.dice.choice([f"({first} and {second})", f"({first} or {second})", f"not {first}", f"({first} and {second})"])
+            both = f"({first} and {second})"
+            return self.dice.choice([both, f"({first} or {second})", f"not {first}", both])
         if choice == 3 and ("g" in self.own or self.has_words):
             return self.draw()
         if choice == 4 and self.flags:
@@ -311,8 +337,8 @@ class Writer:
 
 
 class Numbered(ast.NodeTransformer):
-    """Gives each draw its random word: counted in the order in which Python evaluates the text, with the turns of loops and the
-    texts of called functions written out. A function gets the first word of its draws as a parameter `at`."""
+    """Gives each draw its random word: counted in the order in which Python evaluates the text, with the turns of loops
+    and the texts of called functions written out. A function gets the first word of its draws as a parameter `at`."""
 
     def __init__(self, draws, constants):
         self.draws, self.constants = draws, constants
@@ -323,12 +349,12 @@ class Numbered(ast.NodeTransformer):
         outer, before = self.count, self.turns
         name = node.target.id
         self.turns = f"{before} + [{', '.join(map(str, values))}].index({name}) * PER_{name}_{node.lineno}"
-        node.body = [self.visit(it) for it in node.body]
-        each = self.count - outer
-        for it in ast.walk(ast.Module(node.body, [])):
-            if isinstance(it, ast.Name) and it.id == f"PER_{name}_{node.lineno}":
-                it.id = f"({each})"
-        self.count, self.turns = outer + each * len(values), before
+        node.body = [self.visit(part) for part in node.body]
+        draws_of_turn = self.count - outer
+        for part in ast.walk(ast.Module(node.body, [])):
+            if isinstance(part, ast.Name) and part.id == f"PER_{name}_{node.lineno}":
+                part.id = f"({draws_of_turn})"
+        self.count, self.turns = outer + draws_of_turn * len(values), before
         return node
 
     def visit_Call(self, node):
@@ -351,13 +377,16 @@ def called_by_python(text, kind, given):
     tree, draws = ast.parse(text), {}
     for node in tree.body:
         if isinstance(node, ast.FunctionDef):
-            defaults = dict(zip([it.arg for it in node.args.args[::-1]], [ast.literal_eval(it) for it in node.args.defaults[::-1]]))
+            with_defaults = node.args.args[len(node.args.args) - len(node.args.defaults):]
+            values = map(ast.literal_eval, node.args.defaults)
+            defaults = {argument.arg: value for argument, value in zip(with_defaults, values)}
             numbered = Numbered(draws, {"MARGIN": 4, **defaults, **(given if node.name == "f" else {})})
-            node.body = [numbered.visit(it) for it in node.body]
+            node.body = [numbered.visit(statement) for statement in node.body]
             draws[node.name] = numbered.count
             node.args.kwonlyargs.append(ast.arg("at"))
             node.args.kw_defaults.append(ast.Constant(0))
-    names = {"motion": lambda it: it, "change": lambda it: it}
+    # The decorators return the function itself.
+    names = {"motion": lambda function: function, "change": lambda function: function}
     exec(compile(ast.unparse(ast.fix_missing_locations(tree)), "a function", "exec"), names)
     return lambda view: names["f"](Car(view, kind), **given)
 
@@ -371,41 +400,42 @@ class Car:
     def __getattr__(self, name):
         return self.view[name]
 
-    def draw(self, chance, count=None, word=None):
-        word = word if word is not None else count if self.kind == "motion" else 15 - count
-        return self.view["words"][word] // 2 < round(Fraction(chance) * CERTAIN)
+    def draw(self, probability, count=None, word=None):
+        word = word if word is not None else count if self.kind == "motion" else WORDS - 1 - count
+        return self.view["words"][word] // 2 < round(Fraction(probability) * ALWAYS)
 
     def safe(self, speed):
         return max(0, min(speed, self.gap, self.limit))
 
 
-def answer(program, view):
+def run_program(program, view):
     """The result of a program for a view: a speed, or whether the car changes lanes."""
     lines, labels = parsed(program)
     registers, pc = {}, 0
     while True:
-        name, *words = lines[pc]
+        name, *operands = lines[pc]
         pc += 1
         if name in ("go", "cross", "stay"):
-            return registers[words[0]] if name == "go" else name == "cross"
+            return registers[operands[0]] if name == "go" else name == "cross"
         if name[0] == "j":
-            pc = labels[words[-1]] if JUMPS[name](*(registers[word] for word in words[:-1])) else pc
+            pc = labels[operands[-1]] if JUMPS[name](*(registers[operand] for operand in operands[:-1])) else pc
         elif name in INSTRUCTIONS:
-            values = [registers[word] if word[0] == "r" else int(word) for word in words[1:]]
-            registers[words[0]] = INSTRUCTIONS[name](*values)
+            values = [registers[operand] if operand[0] == "r" else int(operand) for operand in operands[1:]]
+            registers[operands[0]] = INSTRUCTIONS[name](*values)
         elif name == "draw":
-            registers[words[0]] = view["words"][int(words[1])] // 2 < int(words[2])
+            registers[operands[0]] = view["words"][int(operands[1])] // 2 < int(operands[2])
         else:
-            registers[words[0]] = view["side"] if name == "side" else view[words[1]]
-        assert name[0] == "j" or 0 <= registers[words[0]] < 2**32
+            registers[operands[0]] = view["side"] if name == "side" else view[operands[1]]
+        assert name[0] == "j" or 0 <= registers[operands[0]] < 2**32
 
 
 @functools.lru_cache(maxsize=8)
 def parsed(program):
-    """The words of the instructions of a program, and the instructions with labels."""
+    """The name and the operands of each instruction of a program, and the numbers of the instructions by their
+    labels."""
     lines = [line.split(";")[0].strip() for line in program.split("\n")[1:]]
     lines = [line for line in lines if line]
-    labels = {line.split(":")[0]: at for at, line in enumerate(lines) if ":" in line}
+    labels = {line.split(":")[0]: number for number, line in enumerate(lines) if ":" in line}
     return [line.split(": ")[-1].replace(",", "").split() for line in lines], labels
 
 
@@ -415,12 +445,14 @@ def random_view(dice):
     is_empty = dice.random() < 0.6
 
     def cells():
-        return dice.choice([0, 1, 2, 3, 4, 5, 6, 7, 8, dice.randrange(50), dice.randrange(50), dice.randrange(100000), 99999])
+        small, large = [dice.randrange(50), dice.randrange(50)], [dice.randrange(MAX_CELLS), MAX_CELLS - 1]
+        return dice.choice([*range(9), *small, *large])
 
     return {
-        "limit": limit, "speed": dice.choice([0, limit, dice.randint(0, limit)]), "headspeed": dice.choice([0, limit, dice.randint(0, limit)]),
+        "limit": limit, "speed": dice.choice([0, limit, dice.randint(0, limit)]),
+        "headspeed": dice.choice([0, limit, dice.randint(0, limit)]),
         "gap": cells(), "lane": dice.randrange(2), "side": is_empty, "sidegap": cells() if is_empty else 0,
-        "sideback": cells() if is_empty else 0, "words": [dice.getrandbits(32) for _ in range(16)],
+        "sideback": cells() if is_empty else 0, "words": [dice.getrandbits(32) for _ in range(WORDS)],
     }
 
 
@@ -431,7 +463,9 @@ class Tried:
         self.dice = random.Random(seed)
         self.kind = self.dice.choice(["motion", "motion", "change"])
         self.text = Writer(self.dice, self.kind).text()
-        self.given = {"g": self.dice.choice([1, 2, 3]), "p": self.dice.choice([0, 0.5, 1, 0.7])} if self.dice.random() < 0.7 else {}
+        self.given = {}
+        if self.dice.random() < 0.7:
+            self.given = {"g": self.dice.choice([1, 2, 3]), "p": self.dice.choice([0, 0.5, 1, 0.7])}
         self.program, self.error = None, None
         try:
             self.program = rules_in(self.text)["f"](**self.given)
@@ -440,17 +474,18 @@ class Tried:
 
     def has_other_error(self):
         """Whether the error is not one that a function of the subset may have."""
-        return self.error is not None and not any(it in self.error for it in EXPECTED)
+        return self.error is not None and not any(message in self.error for message in EXPECTED)
 
     def difference(self, views):
-        """The first random view for which the program and the function differ, with both results; None if there is none."""
+        """The first random view for which the program and the function differ, with both results; None if there is
+        none."""
         by_python = called_by_python(self.text, self.kind, self.given)
         for _ in range(views):
             view = random_view(self.dice)
-            wanted = by_python(view)
-            found = answer(self.program, view)
-            if found != (int(wanted) if self.kind == "motion" else bool(wanted)):
-                return view, wanted, found
+            expected = by_python(view)
+            result = run_program(self.program, view)
+            if result != (int(expected) if self.kind == "motion" else bool(expected)):
+                return view, expected, result
         return None
 
     def __str__(self):

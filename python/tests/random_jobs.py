@@ -11,13 +11,15 @@ if importlib.util.find_spec("hypothesis"):
 
     @some.composite
     def jobs(draw, steps):
-        """A job of this number of steps. Most roads have some cars and some space; a density of a float would often be 0 or 1."""
+        """A job of this number of steps. Most roads have some cars and some space; a density of a float would often be
+        0 or 1."""
         lanes, length = draw(some.integers(1, 2)), draw(some.integers(2, 45) | some.integers(1, 3))
         cars = lanes * length * draw(some.integers(1, 19) | some.integers(0, 20)) // 20
         rules = [Rickert("1/4", "3/4")] if lanes == 2 else [Nasch("1/4"), SlowToStart("1/64", "1/2")]
         speed, seed = draw(some.sampled_from([0, None])), draw(some.integers(0, 999))
         return Job(
-            limit=draw(some.integers(2, 9) | some.integers(1, 35)), length=length, lanes=lanes, cars=cars, steps=steps, key=seed,
+            limit=draw(some.integers(2, 9) | some.integers(1, 35)), length=length, lanes=lanes, cars=cars, steps=steps,
+            key=seed,
             rule=draw(some.sampled_from(rules)), start=random_cells(seed, speed),
         )
 

@@ -13,6 +13,12 @@ st = hypothesis.strategies
 
 NAMES = ["p", "length", "site"]
 
+BY_LANE = [f"{name}{lane}" for lane in (0, 1) for name in ("cars", "distance", "stopped")]
+"""The columns of a window that count by lane."""
+
+NO_CARS = dict.fromkeys(BY_LANE, 0)
+"""Their values for a test that needs no lanes."""
+
 
 def known(key, cars=1, cells=10, ensemble="e"):
     """The known values of an input with one road."""
@@ -28,12 +34,13 @@ class Study:
         self.seeds = len({place[-1] for place in results})
 
     def expected(self):
-        """The number, mean and standard error of the flow over runs, by statistics and exact fractions."""
+        """By choice of the other parameters, the number, mean and standard error of the flow over runs, by statistics
+        and exact fractions."""
         groups = {}
         for place, rows in self.results.items():
             flow = Fraction(sum(row.distance for row in rows), rows[0].cells * sum(row.steps for row in rows))
             groups.setdefault(tuple(place[:-1]), []).append(float(flow))
-        return {place: (len(its), statistics.fmean(its), error(its)) for place, its in groups.items()}
+        return {place: (len(flows), statistics.fmean(flows), error(flows)) for place, flows in groups.items()}
 
 
 def error(values):
@@ -43,15 +50,20 @@ def error(values):
 @st.composite
 def studies(draw):
     names = NAMES[: draw(st.integers(0, 3))]
-    values = [draw(st.lists(st.sampled_from([0, 1, 2, 0.25, "a", "b"]), min_size=1, max_size=3, unique=True)) for _ in names]
+    values = [
+        draw(st.lists(st.sampled_from([0, 1, 2, 0.25, "a", "b"]), min_size=1, max_size=3, unique=True)) for _ in names
+    ]
     seeds, windows = range(draw(st.integers(1, 5))), draw(st.integers(1, 4))
     cells, cars, steps = draw(st.integers(2, 50)), draw(st.integers(1, 2)), draw(st.integers(1, 9))
     choice, results, runs = namedtuple("Choice", [*names, "seed"]), {}, {}
     for number, place in enumerate(itertools.product(*values, seeds)):
         counts = st.integers(0, cars * steps)
         rows = [
-            Window(steps * (at + 1), cars, cells, steps, *(draw(counts) for _ in range(3)), 0, *(draw(counts) for _ in range(6)))
-            for at in range(windows)
+            Window(
+                step=steps * (number + 1), cars=cars, cells=cells, steps=steps, flow_millionths=0,
+                **{name: draw(counts) for name in ("distance", "stopped", "changes", *BY_LANE)},
+            )
+            for number in range(windows)
         ]
         results[choice(*place)], runs[choice(*place)] = Table(Window, rows), known(number, cars, cells, str(place[:-1]))
     return Study(names, results, runs)

@@ -15,25 +15,31 @@ SCRIPT = "import sys; sys.modules.update(dict.fromkeys(sys.argv[1:])); import wh
 EXTRAS = "[project.optional-dependencies]"
 SEVERAL_LINES = '# "a"\n[a.b]\nc = [ # "d"\n  "e#", # "f"]\n\n  "]",\n]\n[a]\nd = []\n[[f.g]]\nh = false\n[[f.g]]'
 UNKNOWN = {
-    "an escape": r'a = "\n"', "a literal string": "a = 'b'", "a string over several lines": 'a = """b"""', "a number": "a = 1",
-    "a dotted key": 'a.b = "c"', "a quoted key": '"a" = "b"', "a table in a line": 'a = { b = "c" }', "a list in a list": 'a = [["b"]]',
-    "no comma": 'a = ["b" "c"]', "an open list": 'a = ["b",', "an open header": "[a\n]", "no value": "a =", "two values": 'a = "b" "c"',
+    "an escape": r'a = "\n"', "a literal string": "a = 'b'", "a string over several lines": 'a = """b"""',
+    "a number": "a = 1",
+    "a dotted key": 'a.b = "c"', "a quoted key": '"a" = "b"', "a table in a line": 'a = { b = "c" }',
+    "a list in a list": 'a = [["b"]]',
+    "no comma": 'a = ["b" "c"]', "an open list": 'a = ["b",', "an open header": "[a\n]", "no value": "a =",
+    "two values": 'a = "b" "c"',
     "a key twice": 'a = "b"\na = "c"', "a table twice": "[a]\n[a]", "a list of tables after a table": "[a]\n[[a]]",
-    "a table after a list of tables": "[[a]]\n[a]", "tables added to a list": 'a = ["b"]\n[[a]]', "a table in a string": 'a = "b"\n[a.c]',
+    "a table after a list of tables": "[[a]]\n[a]", "tables added to a list": 'a = ["b"]\n[[a]]',
+    "a table in a string": 'a = "b"\n[a.c]',
 }
 
 
 def information(text, *hidden):
     """The files that describe the package, by a backend with this pyproject.toml, without some modules."""
-    with tempfile.TemporaryDirectory() as name:
-        top = Path(name)
+    with tempfile.TemporaryDirectory() as folder:
+        top = Path(folder)
         backend, module = top / "python" / "backend", top / "python" / "trlab"
         module.mkdir(parents=True)
         shutil.copytree(TOP / "python" / "backend", backend, ignore=shutil.ignore_patterns("__pycache__"))
         shutil.copy(TOP / "python" / "trlab" / "_version.py", module)
         (top / "pyproject.toml").write_text(text, encoding="utf-8")
-        ran = subprocess.run([sys.executable, "-B", "-c", SCRIPT, *hidden], cwd=backend, capture_output=True, text=True)
-    return ran.stdout or ran.stderr
+        process = subprocess.run(
+            [sys.executable, "-B", "-c", SCRIPT, *hidden], cwd=backend, capture_output=True, text=True
+        )
+    return process.stdout or process.stderr
 
 
 class Backend(unittest.TestCase):
@@ -43,8 +49,8 @@ class Backend(unittest.TestCase):
             self.assertEqual(pyproject.read_strictly(text), pyproject.tomllib.loads(text))
 
     def test_a_list_over_several_lines(self):
-        wanted = {"a": {"b": {"c": ["e#", "]"]}, "d": []}, "f": {"g": [{"h": False}, {}]}}
-        self.assertEqual(pyproject.read_strictly(SEVERAL_LINES), wanted)
+        expected = {"a": {"b": {"c": ["e#", "]"]}, "d": []}, "f": {"g": [{"h": False}, {}]}}
+        self.assertEqual(pyproject.read_strictly(SEVERAL_LINES), expected)
 
     def test_the_strict_reader_rejects_other_forms_with_the_line(self):
         for form, text in UNKNOWN.items():
@@ -58,11 +64,11 @@ class Backend(unittest.TestCase):
         build, table = start.split("[project]")
         last = f"{build}[project]{table}{rest}\n{EXTRAS}{extras}"
         first = f"{EXTRAS}{extras}\n\n{rest}\n[project]{table}{build}"
-        wanted = information(TEXT)
-        self.assertIn("Provides-Extra: analysis", wanted)
+        expected = information(TEXT)
+        self.assertIn("Provides-Extra: analysis", expected)
         for text in TEXT, last, first:
             for hidden in (), ("tomllib",):
-                self.assertEqual(information(text, *hidden), wanted)
+                self.assertEqual(information(text, *hidden), expected)
 
 
 if __name__ == "__main__":

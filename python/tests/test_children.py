@@ -11,7 +11,7 @@ from trlab import ExitStatusError
 from trlab._runs.children import Child
 
 
-def started(script="", **options):
+def python_running(script="", **options):
     return Child([sys.executable, "-c", script], **options)
 
 
@@ -22,12 +22,16 @@ def has_ended(child):
 
 class Children(unittest.TestCase):
     def test_statuses(self):
-        for script, wanted in ("", 0), ("raise SystemExit(3)", 3), ("import os; os.kill(os.getpid(), 15)", -signal.SIGTERM):
-            with started(script) as child:
-                self.assertEqual([child.exit_status(), child.exit_status(), child.wait(), child.returncode], [wanted] * 4)
+        for script, status in (
+            ("", 0), ("raise SystemExit(3)", 3), ("import os; os.kill(os.getpid(), 15)", -signal.SIGTERM),
+        ):
+            with python_running(script) as child:
+                self.assertEqual(
+                    [child.exit_status(), child.exit_status(), child.wait(), child.returncode], [status] * 4
+                )
 
     def test_a_killed_child(self):
-        with started("input()", stdin=subprocess.PIPE) as child:
+        with python_running("input()", stdin=subprocess.PIPE) as child:
             child.kill()
             self.assertEqual(child.exit_status(), -signal.SIGKILL)
             child.kill()
@@ -35,7 +39,7 @@ class Children(unittest.TestCase):
 
     def test_a_child_that_is_killed_too_late_keeps_its_status(self):
         """Also for a thread that asks the system for it at the same time."""
-        with started("raise SystemExit(3)") as child:
+        with python_running("raise SystemExit(3)") as child:
             has_ended(child)
             child.kill()
             has_ended(child)
@@ -43,33 +47,33 @@ class Children(unittest.TestCase):
 
     def test_a_thread_that_asks_while_another_one_takes_the_status(self):
         """The other thread has taken it from the system, and has not noted it yet."""
-        answers, finds_none = [], threading.Event()
+        statuses, finds_none = [], threading.Event()
         take, ask = os.waitpid, os.waitid
 
-        def asked(*words):
+        def waitid(*arguments):
             try:
-                return ask(*words)
+                return ask(*arguments)
             except ChildProcessError:
                 finds_none.set()
                 raise
 
-        def taken(*words):
-            found = take(*words)
+        def waitpid(*arguments):
+            result = take(*arguments)
             other.start()
             finds_none.wait()
-            return found
+            return result
 
-        with started("raise SystemExit(3)") as child:
-            other = threading.Thread(target=lambda: answers.append(child.exit_status()))
-            with mock.patch.object(os, "waitid", asked), mock.patch.object(os, "waitpid", taken):
-                answers.append(child.exit_status())
+        with python_running("raise SystemExit(3)") as child:
+            other = threading.Thread(target=lambda: statuses.append(child.exit_status()))
+            with mock.patch.object(os, "waitid", waitid), mock.patch.object(os, "waitpid", waitpid):
+                statuses.append(child.exit_status())
                 other.join()
-        self.assertEqual(answers, [3, 3])
+        self.assertEqual(statuses, [3, 3])
 
     def test_a_status_that_something_else_takes_is_lost(self):
         """It is lost for every call of `Child` that comes afterwards."""
         for call in Child.exit_status, Child.kill, Child.wait:
-            with self.subTest(call=call.__name__), started("raise SystemExit(3)") as child:
+            with self.subTest(call=call.__name__), python_running("raise SystemExit(3)") as child:
                 os.waitpid(child.pid, 0)
                 with mock.patch.object(os, "kill", side_effect=AssertionError("another process may have this number")):
                     if call != Child.exit_status:

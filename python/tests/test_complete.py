@@ -11,9 +11,11 @@ from pathlib import Path
 from unittest import mock
 
 import trlab
-from tests.processes import MARK, PYTHON, child, end, marked
+from tests.processes import MARK, PYTHON, child, kill, marked
 from tests.waiting import holds
-from trlab import ExitStatusError, IncompleteOutputError, Job, Nasch, OutputFormatError, ProgramError, RejectedInputError, Rickert
+from trlab import (
+    ExitStatusError, IncompleteOutputError, Job, Nasch, OutputFormatError, ProgramError, RejectedInputError, Rickert,
+)
 from trlab import Sweep, check, explain, find_program
 from trlab._runs import cache as caching
 from trlab._runs.requests import Request
@@ -31,10 +33,12 @@ CALLS = {
 }
 
 
-def fake(folder, lines):
-    """A program in the shell: `real` in its lines is trlab with the same words."""
+def replaced_program(folder, lines):
+    """A program in the shell: `real` in its lines is trlab with the same arguments."""
     path = Path(folder) / "fake_trlab"
-    path.write_text(f'#!/bin/sh\nreal() {{ "{find_program()}" "$@"; }}\n[ "$1" != --version ] || exec echo trlab 0\n{lines}\n')
+    path.write_text(
+        f'#!/bin/sh\nreal() {{ "{find_program()}" "$@"; }}\n[ "$1" != --version ] || exec echo trlab 0\n{lines}\n'
+    )
     path.chmod(0o755)
     return mock.patch.dict(os.environ, TRLAB=str(path))
 
@@ -43,16 +47,18 @@ class Lines(unittest.TestCase):
     def test_the_number_of_lines_is_that_of_the_program(self):
         jobs = [JOB, TWO_LANES, Job(limit=1, length=1, cars=0, rule=Nasch(0), steps=0)]
         for text in (job.text() for job in jobs):
-            for options in [], ["--every", "2"], ["--from", "3"], ["--every=4", "--from=1"], ["--every", "7"], ["--from", "9"]:
+            for options in (
+                [], ["--every", "2"], ["--from", "3"], ["--every=4", "--from=1"], ["--every", "7"], ["--from", "9"],
+            ):
                 for command in "run", "series":
-                    words = (command, *options)
-                    with self.subTest(words=words):
-                        self.assertEqual(Request(words, text).lines(), self.lines(words, text))
+                    arguments = (command, *options)
+                    with self.subTest(words=arguments):
+                        self.assertEqual(Request(arguments, text).lines(), self.lines(arguments, text))
         self.assertEqual(Request(("sweep",), SWEEP.text()).lines(), self.lines(("sweep",), SWEEP.text()))
         self.assertIsNone(Request(("check",), "motion\n").lines())
 
-    def lines(self, words, text):
-        return subprocess_output(Request(words, text)).count("\n")
+    def lines(self, arguments, text):
+        return subprocess_output(Request(arguments, text)).count("\n")
 
 
 class Incomplete(unittest.TestCase):
@@ -65,11 +71,12 @@ class Incomplete(unittest.TestCase):
     def try_all(self, lines, *errors):
         """Every call of such a program raises one of these errors, and no output is kept."""
         errors = errors or (IncompleteOutputError,)
-        with fake(self.folder, lines):
+        with replaced_program(self.folder, lines):
             for name, call in CALLS.items():
                 with self.subTest(call=name):
                     self.assertRaises(errors, call)
-                    self.assertRaises(errors, list, trlab.results([call], call=lambda it: it(), cache=self.cache))
+                    results = trlab.results([call], call=lambda call: call(), cache=self.cache)
+                    self.assertRaises(errors, list, results)
                     self.assertEqual(list(self.cache.iterdir()), [])
 
     def test_no_output(self):
@@ -96,49 +103,51 @@ class Incomplete(unittest.TestCase):
         self.try_all("kill -9 $$", ProgramError)
 
     def test_an_endless_output_is_stopped(self):
-        for lines in "while :; do echo 0; done", "while :; do printf 0; done", "cat /dev/zero", 'real "$@"; cat /dev/zero':
+        for lines in (
+            "while :; do echo 0; done", "while :; do printf 0; done", "cat /dev/zero", 'real "$@"; cat /dev/zero',
+        ):
             mark = f"endless {id(lines)}"
             with mock.patch.dict(os.environ, {MARK: mark}):
                 self.try_all(lines)
-                with fake(self.folder, lines):
+                with replaced_program(self.folder, lines):
                     for call in lambda: check("motion\ngo 0\n"), lambda: explain(JOB):
                         if "real" not in lines and "do" not in lines:
-                            self.assertRaises(IncompleteOutputError, call)
+                            self.assertRaisesRegex(IncompleteOutputError, "wrote more than an answer has", call)
             self.assertTrue(holds(lambda: not marked(mark, "/bin/sh")))
 
     def test_snapshots_one_by_one_end_with_the_error(self):
-        with fake(self.folder, 'real "$@" | head -n 4'):
+        with replaced_program(self.folder, 'real "$@" | head -n 4'):
             snapshots = JOB.snapshots()
             self.assertEqual([next(snapshots).step for _ in range(2)], [0, 1])
             self.assertRaisesRegex(IncompleteOutputError, "`trlab run` wrote 4 of the 14 lines", next, snapshots)
 
     def test_bytes_that_are_not_text(self):
-        with fake(self.folder, r"printf '\377\n'"):
-            self.assertRaises(OutputFormatError, check, "motion\ngo 0\n")
+        with replaced_program(self.folder, r"printf '\377\n'"):
+            self.assertRaisesRegex(OutputFormatError, "bytes that are not text", check, "motion\ngo 0\n")
 
     def test_a_verdict_without_its_end(self):
-        with fake(self.folder, 'printf %s "$(real "$@")"'):
+        with replaced_program(self.folder, 'printf %s "$(real "$@")"'):
             program = "motion\nget r0, gap\nget r1, limit\nmin r0, r0, r1\ngo r0\n"
             self.assertRaisesRegex(IncompleteOutputError, "without its end", check, program)
 
     def test_a_rejection_that_is_not_explained(self):
-        with fake(self.folder, '[ "$1" = explain ] && real "$@" || { echo fault line 1 cause 1; exit 1; }'):
+        with replaced_program(self.folder, '[ "$1" = explain ] && real "$@" || { echo fault line 1 cause 1; exit 1; }'):
             self.assertRaisesRegex(ProgramError, "accepts", JOB.run)
 
     def test_a_kept_output_that_is_not_complete_is_replaced(self):
         request = Request(("series",), JOB.text())
-        whole = JOB.series()
+        table = JOB.series()
         cut = "".join(f"{line}\n" for line in subprocess_output(request).splitlines()[:3]).encode()
         self.cache.mkdir()
         key = caching.key_of(request)
         caching.Cache(self.cache).path(key).write_bytes(caching._heading(key, hashlib.sha256(cut).hexdigest()) + cut)
-        found = dict(trlab.results([JOB], call=Job.series, cache=self.cache))
-        self.assertEqual(found, {0: whole})
+        results = dict(trlab.results([JOB], call=Job.series, cache=self.cache))
+        self.assertEqual(results, {0: table})
 
 
 def subprocess_output(request):
-    line = [find_program(), *request.words]
-    return subprocess.run(line, input=request.text, stdout=subprocess.PIPE, text=True, check=True).stdout
+    command = [find_program(), *request.arguments]
+    return subprocess.run(command, input=request.text, stdout=subprocess.PIPE, text=True, check=True).stdout
 
 
 # Prints the class of the exception that each call raises, or of its result.
@@ -147,8 +156,8 @@ import sys, trlab
 from trlab.lab import Lab
 job = trlab.Job(limit=5, length=10, cars=1, rule=trlab.Nasch(0), steps=1)
 calls = [job.run, job.series, lambda: list(job.snapshots()), lambda: list(trlab.results([job])),
-         lambda: trlab.run_all([job], trlab.Job.run), lambda: trlab.check("motion\\ngo 0\\n"), lambda: trlab.explain(job),
-         trlab.version, Lab]
+         lambda: trlab.run_all([job], trlab.Job.run), lambda: trlab.check("motion\\ngo 0\\n"),
+         lambda: trlab.explain(job), trlab.version, Lab]
 for call in calls:
     try:
         print(type(call()).__name__)
@@ -160,11 +169,11 @@ for call in calls:
 class Statuses(unittest.TestCase):
     def test_a_status_that_would_be_lost_is_an_error(self):
         environment = {**os.environ, "PYTHONPATH": str(PYTHON), "TRLAB": find_program()}
-        for words in [], ["env", "--ignore-signal=CHLD"]:
-            line = [*words, sys.executable, "-c", EACH_CALL]
-            ran = subprocess.run(line, env=environment, stdout=subprocess.PIPE, text=True, check=True)
-            raised = [line for line in ran.stdout.splitlines() if line == "ExitStatusError True"]
-            self.assertEqual(len(raised), len(ran.stdout.splitlines()) if words else 0, ran.stdout)
+        for prefix in [], ["env", "--ignore-signal=CHLD"]:
+            command = [*prefix, sys.executable, "-c", EACH_CALL]
+            process = subprocess.run(command, env=environment, stdout=subprocess.PIPE, text=True, check=True)
+            printed = process.stdout.splitlines()
+            self.assertEqual(printed.count("ExitStatusError True"), len(printed) if prefix else 0, process.stdout)
 
     def test_a_status_that_another_takes_is_an_error(self):
         """A server that waits for any child process takes the statuses of all."""
@@ -177,14 +186,16 @@ class Statuses(unittest.TestCase):
                 except ChildProcessError:
                     is_over.wait(0.01)
 
-        with tempfile.TemporaryDirectory() as folder, fake(folder, 'real "$@"; kill -9 $$'):
+        with tempfile.TemporaryDirectory() as folder, replaced_program(folder, 'real "$@"; kill -9 $$'):
             # Before this the program has run for its version.
             find_program()
             reaper = threading.Thread(target=reap)
             reaper.start()
             try:
                 # The program's own status is seen if we are faster.
-                self.assertRaises((ExitStatusError, ProgramError), JOB.run)
+                self.assertRaisesRegex(
+                    (ExitStatusError, ProgramError), "exit status of trlab is lost|ended with status -9", JOB.run
+                )
             finally:
                 is_over.set()
                 reaper.join()
@@ -208,10 +219,11 @@ elif way == "snapshots":
     for snapshot in job.snapshots(every=1000):
         pass
 elif way == "inner":
-    trlab.run_all([long], lambda it: trlab.run_all([it, it], trlab.Sweep.sweep, at_once=2))
+    trlab.run_all([long], lambda sweep: trlab.run_all([sweep, sweep], trlab.Sweep.sweep, at_once=2))
 else:
     kind = {"threads": lambda: None, "pool": lambda: ThreadPoolExecutor(2), "processes": lambda: ProcessPoolExecutor(2)}
-    for name, table in trlab.results([short, long, long], call=trlab.Sweep.sweep, cache=cache, executor=kind[way](), at_once=2):
+    options = {"cache": cache, "executor": kind[way](), "at_once": 2}
+    for name, table in trlab.results([short, long, long], call=trlab.Sweep.sweep, **options):
         pass
 """
 
@@ -219,60 +231,63 @@ else:
 class Signals(unittest.TestCase):
     """SIGTERM and SIGHUP end a study as they would without trlab, and its programs with it."""
 
-    def try_one(self, way, sent, programs):
+    def try_one(self, way, number, programs):
         with tempfile.TemporaryDirectory() as cache:
-            running = child(ENDLESS, way, cache)
+            process = child(ENDLESS, way, cache)
             try:
-                self.assertEqual(running.stdout.readline(), "ready\n")
-                self.assertTrue(holds(lambda: len(marked(running.mark, find_program())) == programs))
-                running.send_signal(sent)
-                status = running.wait()
-                self.assertTrue(holds(lambda: not marked(running.mark, find_program())))
+                self.assertEqual(process.stdout.readline(), "ready\n")
+                self.assertTrue(holds(lambda: len(marked(process.mark, find_program())) == programs))
+                process.send_signal(number)
+                status = process.wait()
+                self.assertTrue(holds(lambda: not marked(process.mark, find_program())))
                 if way != "processes":
                     self.assertEqual([file.name for file in Path(cache).iterdir() if file.name.startswith(".")], [])
                 return status
             finally:
-                end(running)
+                kill(process)
 
     def test_all_kinds_of_ends(self):
         for way, programs in {"sweep": 1, "snapshots": 1, "inner": 2, "threads": 2, "pool": 2, "processes": 2}.items():
-            for sent in signal.SIGTERM, signal.SIGHUP:
-                with self.subTest(way=way, signal=sent):
-                    self.assertEqual(self.try_one(way, sent, programs), -sent)
+            for number in signal.SIGTERM, signal.SIGHUP:
+                with self.subTest(way=way, signal=number):
+                    self.assertEqual(self.try_one(way, number, programs), -number)
 
     def test_a_handler_of_the_script_stays(self):
         self.assertEqual(self.try_one("handled", signal.SIGTERM, 1), 7)
 
     def test_afterwards_the_signals_are_as_before(self):
         before = [signal.getsignal(number) for number in (signal.SIGTERM, signal.SIGHUP)]
-        held = trlab.results([JOB, JOB])
-        first = next(held)
+        results = trlab.results([JOB, JOB])
+        first = next(results)
         self.assertNotEqual([signal.getsignal(number) for number in (signal.SIGTERM, signal.SIGHUP)], before)
         JOB.series()
-        self.assertEqual(dict([first, *held]), {0: JOB.run(), 1: JOB.run()})
+        self.assertEqual(dict([first, *results]), {0: JOB.run(), 1: JOB.run()})
         self.assertEqual([signal.getsignal(number) for number in (signal.SIGTERM, signal.SIGHUP)], before)
 
     def test_a_process_that_was_forked_has_none_of_it(self):
-        held = trlab.results([JOB, JOB])
-        next(held)
+        results = trlab.results([JOB, JOB])
+        next(results)
         number = os.fork()
         if number == 0:
             os._exit(0 if signal.getsignal(signal.SIGTERM) == signal.SIG_DFL else 1)
         self.assertEqual(os.waitpid(number, 0)[1], 0)
-        held.close()
+        results.close()
 
     def test_the_first_process_of_a_container(self):
-        line = ["unshare", "--pid", "--fork", "--kill-child"]
-        if subprocess.run([*line, "true"], stderr=subprocess.DEVNULL).returncode:
+        command = ["unshare", "--pid", "--fork", "--kill-child"]
+        if subprocess.run([*command, "true"], stderr=subprocess.DEVNULL).returncode:
             self.skipTest("unshare is not allowed")
         script = "import os, signal, trlab; from trlab._runs.processes import new_processes\n" \
             "with new_processes():\n    os.kill(os.getpid(), signal.SIGTERM)\nprint('goes on')"
         environment = {**os.environ, "PYTHONPATH": str(PYTHON), "TRLAB": find_program()}
-        ran = subprocess.run([*line, sys.executable, "-c", script], env=environment, stdout=subprocess.PIPE, text=True)
-        self.assertEqual((ran.returncode, ran.stdout), (143, ""))
+        process = subprocess.run(
+            [*command, sys.executable, "-c", script], env=environment, stdout=subprocess.PIPE, text=True
+        )
+        self.assertEqual(process.returncode, 143)
+        self.assertEqual(process.stdout, "")
 
 
-class Words(unittest.TestCase):
+class Encodings(unittest.TestCase):
     def test_errors_do_not_depend_on_the_locale(self):
         script = (
             "import trlab, json\n"
@@ -281,20 +296,23 @@ class Words(unittest.TestCase):
             "    except trlab.RejectedInputError as error:\n"
             "        print(json.dumps([error.line, error.first, error.last, str(error), trlab.explain(program)]))"
         )
-        told = set()
-        plain = {"LC_ALL": "C", "PYTHONUTF8": "0", "PYTHONCOERCECLOCALE": "0"}
-        for changes in {}, plain, {"LC_ALL": "C.UTF-8", "PYTHONUTF8": "1"}:
+        outputs = set()
+        without_utf_8 = {"LC_ALL": "C", "PYTHONUTF8": "0", "PYTHONCOERCECLOCALE": "0"}
+        for changes in {}, without_utf_8, {"LC_ALL": "C.UTF-8", "PYTHONUTF8": "1"}:
             environment = {**os.environ, "PYTHONPATH": str(PYTHON), "TRLAB": find_program(), **changes}
-            ran = subprocess.run([sys.executable, "-c", script], env=environment, stdout=subprocess.PIPE, text=True, check=True)
-            self.assertEqual(len(ran.stdout.splitlines()), 2)
-            told.add(ran.stdout)
-        self.assertEqual(len(told), 1)
+            process = subprocess.run(
+                [sys.executable, "-c", script], env=environment, stdout=subprocess.PIPE, text=True, check=True
+            )
+            self.assertEqual(len(process.stdout.splitlines()), 2)
+            outputs.add(process.stdout)
+        self.assertEqual(len(outputs), 1)
 
     def test_bytes_that_were_not_text_reach_the_program(self):
         with self.assertRaises(RejectedInputError) as caught:
             check(b"motion\ng\xff\xfft r0, speed\n".decode("utf-8", "surrogateescape"))
-        self.assertEqual((caught.exception.line, caught.exception.first), (2, 1))
-        self.assertRaises(trlab.ParameterError, check, "motion\n\ud800\n")
+        self.assertEqual(caught.exception.line, 2)
+        self.assertEqual(caught.exception.first, 1)
+        self.assertRaisesRegex(trlab.ParameterError, "a character that no file has", check, "motion\n\ud800\n")
 
 
 if __name__ == "__main__":

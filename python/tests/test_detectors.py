@@ -23,7 +23,8 @@ else:
 
 
 def cell_by_cell(snapshots):
-    """The step, cell, lane and speed of each car that passes the end of a cell, from the path of each car in each step."""
+    """The step, cell, lane and speed of each car that passes the end of a cell, from the path of each car in each
+    step."""
     for snapshot in snapshots[1:]:
         length = len(snapshot.lanes[0])
         for lane, cells in enumerate(snapshot.speeds()):
@@ -43,12 +44,12 @@ class Detectors(unittest.TestCase):
     @ROADS
     def test_passages_are_those_of_each_car(self, job, first):
         snapshots, cells = job.run(first=first), [*range(job.length)]
-        found = trlab.passings(iter(snapshots), cells)
-        wanted = sorted(cell_by_cell(snapshots))
-        self.assertEqual([*found[["step", "cell", "lane", "speed"]].itertuples(index=False, name=None)], wanted)
-        self.assertEqual(len({row[:3] for row in wanted}), len(wanted))  # at most one car in a step
+        passings = trlab.passings(iter(snapshots), cells)
+        expected = sorted(cell_by_cell(snapshots))
+        self.assertEqual([*passings[["step", "cell", "lane", "speed"]].itertuples(index=False, name=None)], expected)
+        self.assertEqual(len({row[:3] for row in expected}), len(expected))  # at most one car in a step
         before = {}
-        for step, cell, lane, _, headway in found.itertuples(index=False):
+        for step, cell, lane, _, headway in passings.itertuples(index=False):
             if (cell, lane) in before:
                 self.assertEqual(headway, step - before[cell, lane])
             else:
@@ -61,21 +62,24 @@ class Detectors(unittest.TestCase):
         snapshots, cells = job.run(first=first)[:25], [*{0, job.length // 2, job.length - 1}]
         passed = [*cell_by_cell(snapshots)]
         for every in 1, 6, 24:
-            found = trlab.detectors(iter(snapshots), cells, every)
-            self.assertEqual((len(found), found.index.names), (len(cells) * job.lanes * 24 // every, ["cell", "lane", "step"]))
-            for (cell, lane, end), row in found.iterrows():
+            table = trlab.detectors(iter(snapshots), cells, every)
+            self.assertEqual(len(table), len(cells) * job.lanes * 24 // every)
+            self.assertEqual(table.index.names, ["cell", "lane", "step"])
+            for (cell, lane, end), row in table.iterrows():
                 before = [step for step, *place, _ in passed if place == [cell, lane] and step <= end]
-                speeds = [speed for step, *place, speed in passed if place == [cell, lane] and end - every < step <= end]
+                speeds = [
+                    speed for step, *place, speed in passed if place == [cell, lane] and end - every < step <= end
+                ]
                 headways = [after - then for then, after in zip(before, before[1:]) if after > end - every]
                 steps = snapshots[end - every - first + 1:end - first + 1]
-                wanted = {
+                expected = {
                     "count": len(speeds), "flow": Fraction(len(speeds), every), "time_mean_speed": mean(speeds),
                     "harmonic_mean_speed": 1 / mean([Fraction(1, speed) for speed in speeds]),
                     "mean_time_headway": mean(headways),
-                    "occupancy": mean([it.lanes[lane][cell] != "." for it in steps]),
+                    "occupancy": mean([snapshot.lanes[lane][cell] != "." for snapshot in steps]),
                 }
-                self.assertEqual(sorted(wanted), sorted(found.columns))
-                for name, value in wanted.items():
+                self.assertEqual(sorted(expected), sorted(table.columns))
+                for name, value in expected.items():
                     is_same = math.isnan(row[name]) if math.isnan(value) else abs(float(value) - row[name]) < 1e-12
                     self.assertTrue(is_same, (name, cell, lane, end, value, row[name]))
                 self.assertFalse(row.harmonic_mean_speed > row.time_mean_speed + 1e-12)
@@ -91,22 +95,27 @@ class Detectors(unittest.TestCase):
                 self.assertEqual(paths.time_headways(cell, lane).tolist(), here.time_headway[1:].tolist())
 
     def test_all_cells_together_count_the_distance_and_the_cars(self):
-        job = Job(limit=5, length=60, lanes=2, density=0.3, rule=Rickert("1/4", 1), start=random_cells(1), steps=90, key=2)
-        found = job.detectors(range(60), every=30, first=30)
+        job = Job(
+            limit=5, length=60, lanes=2, density=0.3, rule=Rickert("1/4", 1), start=random_cells(1), steps=90, key=2
+        )
+        table = job.detectors(range(60), every=30, first=30)
         for window in job.series(every=30, first=30):
-            here = found.xs(window.step, level="step")
+            here = table.xs(window.step, level="step")
             self.assertEqual(here["count"].sum(), window.distance)
             self.assertAlmostEqual(here["flow"].mean(), window.flow)
             self.assertAlmostEqual(here["occupancy"].mean(), window.density)
             self.assertEqual(here.xs(1, level="lane")["count"].sum(), window.distance1)
-        self.assertEqual(sorted({*found.index.get_level_values("step")}), [60, 90])
+        self.assertEqual(sorted({*table.index.get_level_values("step")}), [60, 90])
 
     def test_a_road_without_cars(self):
         (row,) = Job(limit=5, length=9, cars=0, rule=Nasch(0), steps=4).detectors([3], every=4).itertuples(index=False)
-        self.assertEqual((row.count, row.flow, row.occupancy), (0, 0, 0))
+        self.assertEqual(row.count, 0)
+        self.assertEqual(row.flow, 0)
+        self.assertEqual(row.occupancy, 0)
         self.assertTrue(all(map(math.isnan, (row.time_mean_speed, row.harmonic_mean_speed, row.mean_time_headway))))
         empty = trlab.passings(Job(limit=5, length=9, cars=0, rule=Nasch(0), steps=4).run(), [3])
-        self.assertEqual((len(empty), empty.dtypes["step"]), (0, "int64"))
+        self.assertEqual(len(empty), 0)
+        self.assertEqual(empty.dtypes["step"], "int64")
 
     def test_one_snapshot_is_kept(self):
         job, taken = Job(limit=5, length=9, cars=3, rule=Nasch(0), steps=400), []
@@ -119,27 +128,34 @@ class Detectors(unittest.TestCase):
 
         self.assertEqual(len(trlab.detectors(snapshots(), [0], every=100)), 4)
 
-    def test_wrong_arguments(self):
+    def test_wrong_cells_windows_and_snapshots(self):
         snapshots = Job(limit=5, length=20, cars=5, rule=Nasch("1/4"), steps=30).run()
         for cells in [20], [-1], [], [1, 1], [1.5], ["1"]:
-            self.assertRaises((ValueError, TypeError), trlab.detectors, snapshots, cells, 10)
-            self.assertRaises((ValueError, TypeError), trlab.passings, snapshots, cells)
+            self.assertRaisesRegex(
+                ParameterError, "a cell must be|must be different cells", trlab.detectors, snapshots, cells, 10
+            )
+            self.assertRaisesRegex(
+                ParameterError, "a cell must be|must be different cells", trlab.passings, snapshots, cells
+            )
         for every in 0, -1, 7, 31, 1.5:
-            self.assertRaises((ValueError, TypeError), trlab.detectors, snapshots, [0], every)
+            self.assertRaisesRegex(
+                ParameterError, "every must be|are not whole windows", trlab.detectors, snapshots, [0], every
+            )
         with self.assertRaisesRegex(ParameterError, "must be a list of cells, for example .0, 100., not 3"):
             trlab.detectors(snapshots, 3, 10)
         with self.assertRaisesRegex(ParameterError, "30 steps are not whole windows of 7 steps"):
             trlab.detectors(snapshots, [0], 7)
         other = Job(limit=5, length=20, cars=6, rule=Nasch("1/4"), steps=30).run()
         longer = Job(limit=5, length=21, cars=5, rule=Nasch("1/4"), steps=30).run()
-        for wrong, said in (
+        for wrong_snapshots, message in (
             (snapshots[:10] + snapshots[20:], "step 20 follows step 9"), (snapshots[::2], "step 2 follows step 0"),
             (snapshots[:5] + other[5:], "step 5 has another size or number"),
             (snapshots[:5] + longer[5:], "step 5 has another size"),
-            (Snapshots(), "no snapshots"), (Snapshots([Snapshot(0, (".0",)), Snapshot(1, (".?",))]), "neither a speed nor a dot"),
+            (Snapshots(), "no snapshots"),
+            (Snapshots([Snapshot(0, (".0",)), Snapshot(1, (".?",))]), "neither a speed nor a dot"),
         ):
-            for call in lambda: trlab.detectors(wrong, [0], 1), lambda: trlab.passings(wrong, [0]):
-                with self.assertRaisesRegex(SnapshotsError, said):
+            for call in lambda: trlab.detectors(wrong_snapshots, [0], 1), lambda: trlab.passings(wrong_snapshots, [0]):
+                with self.assertRaisesRegex(SnapshotsError, message):
                     call()
 
 
@@ -167,13 +183,14 @@ print("<html" in snapshots.html(), "41 snap" in snapshots._repr_html_())
 
 class MissingLibraries(unittest.TestCase):
     def test_each_call_names_the_missing_library(self):
-        words = [sys.executable, "-c", WITHOUT_LIBRARIES]
-        told = subprocess.run(words, capture_output=True, text=True, env=ENVIRONMENT, check=True)
-        *errors, numbers, pages = told.stdout.splitlines()
+        command = [sys.executable, "-c", WITHOUT_LIBRARIES]
+        process = subprocess.run(command, capture_output=True, text=True, env=ENVIRONMENT, check=True)
+        *errors, numbers, pages = process.stdout.splitlines()
         self.assertEqual(len(errors), 11)
         for error in errors:
             self.assertRegex(error, r"^this needs numpy\b.*: pip install .+$")
-        self.assertEqual((numbers, pages), (f"{7 / 9} True {len(JOB.series().text())}", "True True"))
+        self.assertEqual(numbers, f"{7 / 9} True {len(JOB.series().text())}")
+        self.assertEqual(pages, "True True")
 
 
 JOB = Job(limit=5, length=9, cars=2, rule=Nasch(0), steps=40)

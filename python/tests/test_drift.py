@@ -1,4 +1,5 @@
-"""The test for drift: its false alarms on noise, the drifts that it finds, and Student's distribution, which it uses."""
+"""The test for drift: its false alarms on noise, the drifts that it finds, and Student's distribution, which it
+uses."""
 import random
 import unittest
 from dataclasses import replace
@@ -39,7 +40,7 @@ class FalseAlarms(unittest.TestCase):
         self.assertTrue(150 < sum(signs) < 250)
 
 
-class Found(unittest.TestCase):
+class Drifts(unittest.TestCase):
     def test_a_slope(self):
         for seed in range(20):
             values = [value + place / 100 for place, value in enumerate(noise(seed, 500))]
@@ -56,7 +57,7 @@ class Found(unittest.TestCase):
         mean = sum(values) / 83
         total = sum((1 - k / 83) * k * (mean - sum(values[:k]) / k) for k in range(1, 84))
         batches = [sum(values[first : first + 2]) / 2 for first in range(43, 83, 2)]
-        sigma = (2 * sum((it - sum(batches) / 20) ** 2 for it in batches) / 19) ** 0.5
+        sigma = (2 * sum((batch - sum(batches) / 20) ** 2 for batch in batches) / 19) ** 0.5
         self.assertAlmostEqual(drift_of(values).z, 45**0.5 / (83**1.5 * sigma) * total, places=12)
 
     def test_scale_and_level_have_no_influence(self):
@@ -97,18 +98,22 @@ class Rejected(unittest.TestCase):
     def test_windows_of_several_runs(self):
         table, other = self.job.series(every=2), replace(self.job, cars=5).series(every=2)
         later = replace(self.job, key=1).series(every=4, first=80)
-        for wrong in table[::2] + table[1::2], table[:20] + table[21:], table + table, table[::-1], table[:60] + other[60:], \
-                table[:40] + later, table[:40] + table[40:41] + table[40:]:
-            self.assertRaisesRegex(EstimateError, "does not follow that of step [0-9]+: ", wrong.drift)
+        for windows in (
+            table[::2] + table[1::2], table[:20] + table[21:], table + table, table[::-1], table[:60] + other[60:],
+            table[:40] + later, table[:40] + table[40:41] + table[40:],
+        ):
+            self.assertRaisesRegex(EstimateError, "does not follow that of step [0-9]+: ", windows.drift)
         self.assertEqual(table[20:].copy().drift(), self.job.series(every=2, first=40).drift())
 
     def test_columns_that_cannot_drift(self):
         table = self.job.series()
         for column in "step", "steps", "cars", "cells", "density", "flow_millionths", "kind", "_asdict", "count":
-            said = f"^`column` must be one of flow, speed, .*, not '{column}'"
-            self.assertRaisesRegex(ParameterError, said, table.drift, column)
+            message = f"^`column` must be one of flow, speed, .*, not '{column}'"
+            self.assertRaisesRegex(ParameterError, message, table.drift, column)
         self.assertRaisesRegex(RenamedError, "flow", table.drift, "passing")
-        for column in "distance", "stopped", "changes", "change_rate", "cars0", "distance0", "stopped0", "cars1", "stopped1":
+        for column in (
+            "distance", "stopped", "changes", "change_rate", "cars0", "distance0", "stopped0", "cars1", "stopped1",
+        ):
             self.assertIsInstance(table.drift(column), Drift)
 
     def test_without_cars_there_is_no_speed(self):

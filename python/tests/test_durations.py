@@ -1,4 +1,5 @@
 """The time until an event: the end of the first window with the event, after which the program is stopped."""
+import signal
 import tempfile
 import unittest
 from dataclasses import replace
@@ -8,7 +9,9 @@ from unittest import mock
 import trlab
 from tests.test_arrays import needs
 from tests.test_continuing import short_inputs
-from trlab import Duration, IncompleteOutputError, Job, Nasch, ParameterError, RejectedInputError, Rickert, moving, random_cells
+from trlab import (
+    Duration, IncompleteOutputError, Job, Nasch, ParameterError, RejectedInputError, Rickert, moving, random_cells,
+)
 from trlab._runs import processes
 
 JOB = Job(limit=5, length=100, cars=12, start=moving, rule=Nasch(0.25), steps=60, key=3)
@@ -19,19 +22,19 @@ def stopped(window):
     return window.stopped > 1
 
 
-class Recorded:
+class RecordedProcesses:
     """The processes of the program that a block starts."""
 
     def __enter__(self):
-        self.found, child = [], processes.Child
+        self.processes, child = [], processes.Child
 
-        def start(*words, **options):
-            self.found.append(child(*words, **options))
-            return self.found[-1]
+        def start(*arguments, **options):
+            self.processes.append(child(*arguments, **options))
+            return self.processes[-1]
 
         self.patch = mock.patch.object(processes, "Child", start)
         self.patch.start()
-        return self.found
+        return self.processes
 
     def __exit__(self, *_):
         self.patch.stop()
@@ -39,47 +42,56 @@ class Recorded:
 
 class Durations(unittest.TestCase):
     def expected(self, job, condition, every, first):
-        ends = [it.step for it in job.series(every=every, first=first) if condition(it)]
+        ends = [window.step for window in job.series(every=every, first=first) if condition(window)]
         return Duration(ends[0] - first, True) if ends else Duration(job.steps - first, False)
 
-    def test_it_is_the_end_of_the_first_window(self):
+    def test_the_time_is_the_end_of_the_first_window_with_the_event(self):
         for every, first in (1, 0), (2, 0), (5, 10), (60, 0), (1, 59), (7, 4):
             for condition in stopped, lambda window: window.stopped > 20, lambda window: True, lambda window: False:
-                found = JOB.time_until(condition, every=every, first=first)
-                self.assertEqual(found, self.expected(JOB, condition, every, first))
-                self.assertEqual(type(found), Duration)
-        self.assertEqual(JOB.time_until(lambda window: False), (60, False))
-        self.assertEqual(JOB.time_until(lambda window: window.step == 60), (60, True))
+                duration = JOB.time_until(condition, every=every, first=first)
+                self.assertEqual(duration, self.expected(JOB, condition, every, first))
+                self.assertEqual(type(duration), Duration)
+        self.assertEqual(JOB.time_until(lambda window: False), Duration(time=60, observed=False))
+        self.assertEqual(JOB.time_until(lambda window: window.step == 60), Duration(time=60, observed=True))
 
     def test_windows_must_fill_the_run(self):
         for options in {"every": 7}, {"first": 60}, {"every": 61}, {"every": 0}, {"first": 1.5}:
-            self.assertRaises(ParameterError, JOB.time_until, stopped, **options)
+            self.assertRaisesRegex(
+                ParameterError, "(every|first) must be|no window of .* fits|are not whole windows", JOB.time_until,
+                stopped, **options,
+            )
 
     def test_jobs_of_more_steps_than_one_input_has(self):
         job = replace(JOB, at={25: Nasch(1)})
         for every, first in (1, 0), (6, 0), (15, 0), (20, 20), (4, 48):
-            for condition in stopped, lambda window: window.distance == 0, lambda window: window.step > 38, lambda window: False:
+            for condition in (
+                stopped, lambda window: window.distance == 0, lambda window: window.step > 38, lambda window: False,
+            ):
                 with short_inputs(20):
-                    self.assertEqual(job.time_until(condition, every=every, first=first), self.expected(job, condition, every, first))
+                    self.assertEqual(
+                        job.time_until(condition, every=every, first=first), self.expected(job, condition, every, first)
+                    )
 
     def test_the_program_stops_with_the_event(self):
-        with Recorded() as started:
+        with RecordedProcesses() as started:
             self.assertTrue(LONG.time_until(stopped).observed)
-        self.assertEqual([it.returncode for it in started], [-9])
+        self.assertEqual([process.returncode for process in started], [-signal.SIGKILL])
 
     def test_the_parts_after_the_event_do_not_run(self):
-        with short_inputs(20), Recorded() as started:
-            self.assertEqual(JOB.time_until(lambda window: window.step == 5), (5, True))
+        with short_inputs(20), RecordedProcesses() as started:
+            self.assertEqual(JOB.time_until(lambda window: window.step == 5), Duration(time=5, observed=True))
         self.assertEqual(len(started), 1)
 
     def test_an_exception_of_the_condition_ends_the_program(self):
-        with Recorded() as started:
+        with RecordedProcesses() as started:
             self.assertRaises(ZeroDivisionError, LONG.time_until, lambda window: 1 / 0)
-        self.assertEqual([it.returncode for it in started], [-9])
+        self.assertEqual([process.returncode for process in started], [-signal.SIGKILL])
 
     def test_a_condition_is_true_or_false(self):
-        for answer in 0, 1, None, "no", [], (), 1.5:
-            self.assertRaisesRegex(ParameterError, "must return True or False, not ", LONG.time_until, lambda window: answer)
+        for result in 0, 1, None, "no", [], (), 1.5:
+            self.assertRaisesRegex(
+                ParameterError, "must return True or False, not ", LONG.time_until, lambda window: result
+            )
         for condition in None, True, "window.stopped > 0", 5:
             self.assertRaisesRegex(ParameterError, "must be a function of a window", JOB.time_until, condition)
 
@@ -88,25 +100,33 @@ class Durations(unittest.TestCase):
         import numpy
 
         self.assertEqual(JOB.time_until(lambda window: numpy.int64(window.stopped) > 1), JOB.time_until(stopped))
-        for answer in numpy.array([True]), numpy.array([True, False]), numpy.int64(1), numpy.float64(0):
-            self.assertRaises(ParameterError, JOB.time_until, lambda window: answer)
+        for result in numpy.array([True]), numpy.array([True, False]), numpy.int64(1), numpy.float64(0):
+            self.assertRaisesRegex(
+                ParameterError, "must return True or False, not ", JOB.time_until, lambda window: result
+            )
 
-    def test_it_is_not_kept_in_a_cache(self):
-        with tempfile.TemporaryDirectory() as folder, Recorded() as started:
-            found = dict(trlab.results([JOB, LONG], call=lambda job: job.time_until(stopped), cache=folder, at_once=1))
+    def test_a_duration_is_not_kept_in_a_cache(self):
+        with tempfile.TemporaryDirectory() as folder, RecordedProcesses() as started:
+            durations = dict(
+                trlab.results([JOB, LONG], call=lambda job: job.time_until(stopped), cache=folder, at_once=1)
+            )
             self.assertEqual(list(Path(folder).iterdir()), [])
-            self.assertEqual(found, {0: JOB.time_until(stopped), 1: LONG.time_until(stopped)})
+            self.assertEqual(durations, {0: JOB.time_until(stopped), 1: LONG.time_until(stopped)})
         # The long run was stopped with its event.
-        self.assertIn(-9, [it.returncode for it in started if it.args[1] == "series"])
+        self.assertIn(-signal.SIGKILL, [process.returncode for process in started if process.args[1] == "series"])
 
     def test_a_cut_output_is_an_error(self):
-        lines = ["%s\n" % ",".join(trlab.Window._fields).replace("flow_millionths", "flow"), f"1,{','.join(['1'] * 13)}\n"]
-        with mock.patch("trlab._inputs.jobs.ask_by_line", lambda words, text: iter(lines)):
+        heading = ",".join(trlab.Window._fields).replace("flow_millionths", "flow")
+        lines = [f"{heading}\n", "1," * (len(trlab.Window._fields) - 1) + "1\n"]
+        with mock.patch("trlab._inputs.jobs.ask_by_line", lambda arguments, text: iter(lines)):
             self.assertRaisesRegex(IncompleteOutputError, "after 1 of 60 steps", JOB.time_until, lambda window: False)
 
-    def test_a_rejected_job(self):
-        self.assertRaises(RejectedInputError, replace(JOB, rule=Rickert(0, 0)).time_until, stopped)
-        self.assertEqual(replace(JOB, start=random_cells(1)).time_until(stopped, every=60), (60, True))
+    def test_a_rejected_job_and_one_that_is_not(self):
+        self.assertRaisesRegex(
+            RejectedInputError, "fault line 5 cause 4", replace(JOB, rule=Rickert(0, 0)).time_until, stopped
+        )
+        duration = replace(JOB, start=random_cells(1)).time_until(stopped, every=60)
+        self.assertEqual(duration, Duration(time=60, observed=True))
 
 
 if __name__ == "__main__":

@@ -1,4 +1,5 @@
-"""Estimates and their errors: how often the true value is within two standard errors, and which arguments are rejected."""
+"""Estimates and their errors: how often the true value is within two standard errors, and which arguments are
+rejected."""
 import contextlib
 import math
 import unittest
@@ -20,32 +21,34 @@ def runs_of(rows, levels):
 
 def autoregressive(noise, memory=0.9):
     """Series with correlations memory**k and the mean 0, one in each row."""
-    found = numpy.empty_like(noise)
-    found[:, 0] = noise[:, 0] / math.sqrt(1 - memory**2)
-    for at in range(1, noise.shape[1]):
-        found[:, at] = memory * found[:, at - 1] + noise[:, at]
-    return found
+    series = numpy.empty_like(noise)
+    series[:, 0] = noise[:, 0] / math.sqrt(1 - memory**2)
+    for place in range(1, noise.shape[1]):
+        series[:, place] = memory * series[:, place - 1] + noise[:, place]
+    return series
 
 
 class Blocking(unittest.TestCase):
     def setUp(self):
         self.numbers = numpy.random.default_rng(1)
 
-    def test_it_covers_correlated_series(self):
-        found, naive = [], 0
+    def test_the_error_covers_correlated_series(self):
+        estimates, naive_hits = [], 0
         for series in autoregressive(self.numbers.normal(size=(400, 4096))):
             try:
-                found.append(trlab.blocking(series))
+                estimates.append(trlab.blocking(series))
             except EstimateError:
                 continue
-            naive += abs(found[-1].mean) < 2 * series.std(ddof=1) / 64
-        self.assertGreater(len(found), 380)
-        self.assertGreater(numpy.mean([abs(it.mean) < 2 * it.sem for it in found]), 0.90)
-        self.assertLess(naive / len(found), 0.5)
-        # The variance of the mean is (1 + 0.9) / (1 - 0.9) = 19 times that of independent values; blocks find a little less.
-        self.assertLess(abs(numpy.mean([it.inefficiency for it in found]) / 19 - 1), 0.15)
-        self.assertLess(abs(numpy.mean([it.sem for it in found]) / numpy.std([it.mean for it in found]) - 1), 0.12)
-        self.assertLess(abs(numpy.std([it.sem for it in found]) / numpy.mean([it.sem_error for it in found]) - 1), 0.4)
+            naive_hits += abs(estimates[-1].mean) < 2 * series.std(ddof=1) / 64
+        self.assertGreater(len(estimates), 380)
+        self.assertGreater(numpy.mean([abs(estimate.mean) < 2 * estimate.sem for estimate in estimates]), 0.90)
+        self.assertLess(naive_hits / len(estimates), 0.5)
+        # The variance of the mean is (1 + 0.9) / (1 - 0.9) = 19 times that of independent values; blocks find a little
+        # less.
+        frame = pandas.DataFrame(estimates)
+        self.assertLess(abs(frame.inefficiency.mean() / 19 - 1), 0.15)
+        self.assertLess(abs(frame["sem"].mean() / frame["mean"].std(ddof=0) - 1), 0.12)
+        self.assertLess(abs(frame["sem"].std(ddof=0) / frame.sem_error.mean() - 1), 0.4)
 
     def test_independent_values_need_no_blocks(self):
         series = self.numbers.normal(size=1024)
@@ -54,12 +57,13 @@ class Blocking(unittest.TestCase):
         self.assertAlmostEqual(trlab.blocking(series).mean, series.mean())
 
     def test_the_formulas(self):
-        # 64 values, which are 0 or 1 in pairs: blocks of 2 lose nothing, and blocks of 16 are the first that are long enough.
+        # 64 values, which are 0 or 1 in pairs: blocks of 2 lose nothing, and blocks of 16 are the first that are long
+        # enough.
         pairs = numpy.repeat(self.numbers.integers(0, 2, size=32), 2).astype(float)
-        found = trlab.blocking(numpy.tile(pairs, 8))
-        level = numpy.tile(pairs, 8).reshape(-1, found.block).mean(axis=1)
-        self.assertAlmostEqual(found.sem, level.std(ddof=1) / math.sqrt(len(level)))
-        self.assertAlmostEqual(found.sem_error, found.sem / math.sqrt(2 * (len(level) - 1)))
+        estimate = trlab.blocking(numpy.tile(pairs, 8))
+        level = numpy.tile(pairs, 8).reshape(-1, estimate.block).mean(axis=1)
+        self.assertAlmostEqual(estimate.sem, level.std(ddof=1) / math.sqrt(len(level)))
+        self.assertAlmostEqual(estimate.sem_error, estimate.sem / math.sqrt(2 * (len(level) - 1)))
 
     def test_values_after_the_last_whole_block_count_in_the_mean(self):
         series = [*self.numbers.normal(size=64), 1000.0]
@@ -71,28 +75,41 @@ class Blocking(unittest.TestCase):
 
     def test_equal_values(self):
         for value in 0, 0.1, 7:
-            self.assertEqual(trlab.blocking([value] * 40), (value, 0.0, 0.0, 1, 1.0))
-        self.assertEqual(trlab.blocking([0, 1] * 32)[:2], (0.5, 0.0))
+            expected = trlab.Blocking(mean=value, sem=0.0, sem_error=0.0, block=1, inefficiency=1.0)
+            self.assertEqual(trlab.blocking([value] * 40), expected)
+        alternating = trlab.blocking([0, 1] * 32)
+        self.assertEqual(alternating.mean, 0.5)
+        self.assertEqual(alternating.sem, 0.0)
 
     def test_series_without_an_error(self):
-        for wrong in ([0.0] * 31, [[0.0] * 40] * 2, [*range(40), math.nan], [*range(40), math.inf], ["1"] * 40, [1j] * 40,
-                      range(200), self.numbers.normal(size=512).cumsum()):
-            self.assertRaises((EstimateError, ValueError), trlab.blocking, wrong)
-        with self.assertRaisesRegex(EstimateError, "drifts"):
-            trlab.blocking(range(200))
+        walk = self.numbers.normal(size=512).cumsum()
+        for values, message in (
+            ([0.0] * 31, "at least 32 values"), ([[0.0] * 40] * 2, "one list of numbers"),
+            ([*range(40), math.nan], "not finite"), ([*range(40), math.inf], "not finite"),
+            (["1"] * 40, "one list of numbers"), ([1j] * 40, "must be numbers"), (range(200), "drifts"), (walk, "drifts"),
+        ):
+            self.assertRaisesRegex(EstimateError, message, trlab.blocking, values)
 
     def test_one_run_of_a_grid(self):
-        grid = Grid(lambda density, seed, key: Job(limit=5, length=50, density=density, rule=Nasch(0.25), steps=20000, key=key,
-                                                   start=random_cells(key)), density=[0.2, 0.3], seed=range(2))
+        def make(density, seed, key):
+            start = random_cells(key)
+            return Job(limit=5, length=50, density=density, rule=Nasch(0.25), steps=20000, key=key, start=start)
+
+        grid = Grid(make, density=[0.2, 0.3], seed=range(2))
         flow = grid.run(call=lambda job: job.series(every=50)).flow
         self.assertRaisesRegex(EstimateError, "several values of .*density.*seed", trlab.blocking, flow)
-        one = flow.xs((0.2, 1), level=("density", "seed"))
+        flow_of_run = flow.xs((0.2, 1), level=("density", "seed"))
         table = grid.inputs[0.2, 1].series(every=50).to_pandas().flow
-        self.assertEqual(trlab.blocking(one), trlab.blocking(table))
+        self.assertEqual(trlab.blocking(flow_of_run), trlab.blocking(table))
         self.assertEqual(len(flow.groupby(["density", "seed"]).apply(trlab.blocking)), 4)
-        for part in one.drop(400), one[::-1], pandas.concat([one, one]), one.sample(frac=1, random_state=1):
+        twice, shuffled = pandas.concat([flow_of_run, flow_of_run]), flow_of_run.sample(frac=1, random_state=1)
+        for part in flow_of_run.drop(400), flow_of_run[::-1], twice, shuffled:
             self.assertRaisesRegex(EstimateError, "gaps", trlab.blocking, part)
-        self.assertEqual(trlab.blocking(one[50:]), trlab.blocking(list(one[50:])))
+        self.assertEqual(trlab.blocking(flow_of_run[50:]), trlab.blocking(list(flow_of_run[50:])))
+
+
+TOP, HEIGHT = 0.086, 0.318
+"""The density and the flow of the peak of the parabola, about those of Nagel and Schreckenberg (1992)."""
 
 
 class Peaks(unittest.TestCase):
@@ -101,35 +118,35 @@ class Peaks(unittest.TestCase):
     def setUp(self):
         self.numbers = numpy.random.default_rng(1)
 
-    def curve(self, flow, at=AT, runs=10, noise=0.002, shared=0.0):
+    def curve(self, flow, densities=AT, runs=10, noise=0.002, shared=0.0):
         common = self.numbers.normal(size=runs) * shared
         rows = [
             {"density": x, "seed": seed, "flow": flow(x) + noise * self.numbers.normal() + common[seed],
              "key": f"{seed if shared else 1000 * seed + number:064x}"}
-            for number, x in enumerate(at) for seed in range(runs)
+            for number, x in enumerate(densities) for seed in range(runs)
         ]
         return runs_of(rows, ["density", "seed"])
 
     @staticmethod
     def parabola(x):
-        return 0.318 - 20 * (x - 0.086) ** 2
+        return HEIGHT - 20 * (x - TOP) ** 2
 
-    def test_it_covers_a_parabola_also_with_shared_keys(self):
+    def test_the_errors_cover_a_parabola_also_with_shared_keys(self):
         for shared, runs in (0.0, 10), (0.002, 30):
             z = []
             for _ in range(80):
                 try:
-                    found = trlab.peak(self.curve(self.parabola, runs=runs, shared=shared), over="seed")
+                    peak = trlab.peak(self.curve(self.parabola, runs=runs, shared=shared), over="seed")
                 except EstimateError:
                     continue
-                z.append(((found.y - 0.318) / found.y_sem, (found.x - 0.086) / found.x_sem))
+                z.append(((peak.y - HEIGHT) / peak.y_sem, (peak.x - TOP) / peak.x_sem))
             self.assertGreater(len(z), 65)
-            for its in numpy.array(z).T:
-                self.assertGreater((abs(its) < 2).mean(), 0.87)
-                self.assertLess(abs(its.mean()), 0.4)
-                self.assertLess(abs(its.std() - 1), 0.3)
+            for deviations in numpy.array(z).T:
+                self.assertGreater((abs(deviations) < 2).mean(), 0.87)
+                self.assertLess(abs(deviations.mean()), 0.4)
+                self.assertLess(abs(deviations.std() - 1), 0.3)
 
-    def test_it_is_less_than_the_highest_mean(self):
+    def test_the_peak_is_nearer_to_the_maximum_than_the_highest_mean(self):
         frames = [self.curve(self.parabola, runs=5, noise=0.004) for _ in range(40)]
         highest = numpy.mean([trlab.means(frame, "seed").flow.max() for frame in frames])
         fitted = []
@@ -138,33 +155,33 @@ class Peaks(unittest.TestCase):
                 fitted.append(trlab.peak(frame, "seed").y)
             except EstimateError:
                 continue
-        self.assertGreater(highest - 0.318, 2 * abs(numpy.mean(fitted) - 0.318))
+        self.assertGreater(highest - HEIGHT, 2 * abs(numpy.mean(fitted) - HEIGHT))
 
-    def peaks(self, count, *curve, within=0.05, **how):
+    def peaks(self, count, *curve, within=0.05, **options):
         """The peaks of a number of curves, without those that are rejected."""
-        found = []
+        peaks = []
         for _ in range(count):
             with contextlib.suppress(EstimateError):
-                found.append(trlab.peak(self.curve(*curve, **how), over="seed", within=within))
-        return found
+                peaks.append(trlab.peak(self.curve(*curve, **options), over="seed", within=within))
+        return peaks
 
     def test_chi2_is_about_the_degrees_of_freedom(self):
-        found = self.peaks(60, self.parabola, runs=5)
-        self.assertGreater(len(found), 48)
+        peaks = self.peaks(60, self.parabola, runs=5)
+        self.assertGreater(len(peaks), 48)
         # Less than 1, because the degree is the best of four.
-        self.assertTrue(0.4 < numpy.mean([it.chi2 / it.dof for it in found]) < 1.2)
+        self.assertTrue(0.4 < numpy.mean([peak.chi2 / peak.dof for peak in peaks]) < 1.2)
 
     def test_a_flat_curve_has_no_peak(self):
-        found = self.peaks(40, lambda x: 0.318 - (x - 0.09) ** 2, runs=5, noise=0.01)
-        self.assertLess(len(found), 2)
+        peaks = self.peaks(40, lambda x: 0.318 - (x - 0.09) ** 2, runs=5, noise=0.01)
+        self.assertLess(len(peaks), 2)
 
     def test_a_peak_next_to_a_plateau(self):
         def flow(x):
             return 0.318 - (20 * (x - 0.086) ** 2 if x < 0.086 else 0.006 * (1 - math.exp(-((x - 0.086) / 0.015) ** 2)))
 
-        found = self.peaks(20, flow)
-        self.assertGreater(len(found), 15)
-        self.assertLess(abs(numpy.mean([it.y for it in found]) - 0.318), 0.001)
+        peaks = self.peaks(20, flow)
+        self.assertGreater(len(peaks), 15)
+        self.assertLess(abs(numpy.mean([peak.y for peak in peaks]) - 0.318), 0.001)
 
     def test_a_plateau_has_no_peak(self):
         def rising(x):
@@ -178,16 +195,18 @@ class Peaks(unittest.TestCase):
         # Here noise ends the part that is fitted, and not a fall of the curve.
         self.assertLess(len(self.peaks(40, lambda x: 0.3, numpy.linspace(0.05, 0.13, 60), within=0.006)), 3)
 
-    def test_its_result(self):
+    def test_the_fields_of_a_peak(self):
         frame = self.curve(self.parabola, runs=7, noise=1e-4)
-        found = trlab.peak(frame, over="seed", within=0.05)
-        self.assertEqual((found.n, found.points - found.degree - 1), (7, found.dof))
-        more = frame.assign(limit=5, step=30).set_index(["limit", "step"], append=True)
-        self.assertEqual(trlab.peak(more, over="seed"), found)
+        peak = trlab.peak(frame, over="seed", within=0.05)
+        self.assertEqual(peak.n, 7)
+        self.assertEqual(peak.points - peak.degree - 1, peak.dof)
+        with_constants = frame.assign(limit=5, step=30).set_index(["limit", "step"], append=True)
+        self.assertEqual(trlab.peak(with_constants, over="seed"), peak)
         scaled = trlab.peak(frame.assign(scaled=frame.flow * 3600), over="seed", y="scaled")
-        numpy.testing.assert_allclose([scaled.x, scaled.x_sem, scaled.y, scaled.y_sem],
-                                      [found.x, found.x_sem, 3600 * found.y, 3600 * found.y_sem],
-                                      rtol=1e-6)
+        numpy.testing.assert_allclose(
+            [scaled.x, scaled.x_sem, scaled.y, scaled.y_sem], [peak.x, peak.x_sem, 3600 * peak.y, 3600 * peak.y_sem],
+            rtol=1e-6,
+        )
 
     def test_a_bad_fit_has_larger_errors(self):
         from trlab._analysis.peak import _fit as fit
@@ -196,38 +215,42 @@ class Peaks(unittest.TestCase):
 
         def errors(ratio):
             def fitted(t, mean, covariance, n):
-                degree, _, solve = fit(t, mean, covariance, n)
-                return degree, ratio * (len(t) - degree - 1), solve
+                best = fit(t, mean, covariance, n)
+                return best._replace(chi2=ratio * (len(t) - best.degree - 1))
 
             with mock.patch("trlab._analysis.peak._fit", fitted):
-                found = trlab.peak(frame, over="seed")
-            return found.x_sem, found.y_sem
+                peak = trlab.peak(frame, over="seed")
+            return peak.x_sem, peak.y_sem
 
         numpy.testing.assert_allclose(errors(4.0), numpy.multiply(2, errors(0.5)))
 
     def test_curves_without_a_peak(self):
-        at = numpy.linspace(0.13, 0.21, 12)
-        for words, frame in (
-            ("kink", self.curve(lambda x: min(5 * x, 1 - x), at, 8, 0.0005)),
-            ("points are within", self.curve(lambda x: x, at, 8, 0.0005)),
-            ("points are within", self.curve(lambda x: 1 - x, at, 8, 0.0005)),
+        densities = numpy.linspace(0.13, 0.21, 12)
+        for message, frame in (
+            ("kink", self.curve(lambda x: min(5 * x, 1 - x), densities, 8, 0.0005)),
+            ("points are within", self.curve(lambda x: x, densities, 8, 0.0005)),
+            ("points are within", self.curve(lambda x: 1 - x, densities, 8, 0.0005)),
             ("points are within", self.curve(self.parabola, self.AT[:4])),
             ("does not fall significantly|kink|points are within", self.curve(lambda x: 0.3, noise=0.001)),
             ("at least 5 runs", self.curve(self.parabola, runs=4)),
             ("all equal", self.curve(self.parabola, noise=0.0)),
         ):
-            self.assertRaisesRegex(EstimateError, words, trlab.peak, frame, over="seed")
+            self.assertRaisesRegex(EstimateError, message, trlab.peak, frame, over="seed")
 
     def test_frames_that_are_not_a_curve(self):
         frame = self.curve(self.parabola)
-        two = pandas.concat({0.1: frame, 0.2: frame.assign(ensemble="x")}, names=["p"])
-        self.assertRaisesRegex(EstimateError, r"several curves: select one value of \['p'\]", trlab.peak, two, over="seed")
+        two_curves = pandas.concat({0.1: frame, 0.2: frame.assign(ensemble="x")}, names=["p"])
+        self.assertRaisesRegex(
+            EstimateError, r"several curves: select one value of \['p'\]", trlab.peak, two_curves, over="seed"
+        )
         self.assertRaisesRegex(EstimateError, "needs the levels", trlab.peak, frame, over="sed")
         self.assertRaisesRegex(EstimateError, "needs the levels", trlab.peak, frame, over="seed", y="speed")
         self.assertRaisesRegex(EstimateError, "share between 0 and 1", trlab.peak, frame, over="seed", within=5)
-        self.assertRaises((EstimateError, FrameError), trlab.peak, trlab.means(frame, "seed"), over="seed")
+        self.assertRaisesRegex(
+            (EstimateError, FrameError), "needs the levels", trlab.peak, trlab.means(frame, "seed"), over="seed"
+        )
         shared = frame.assign(key=[f"{number // 2:064x}" for number in range(len(frame))])
-        self.assertRaises((EstimateError, FrameError), trlab.peak, shared, over="seed")
+        self.assertRaisesRegex((EstimateError, FrameError), "have the same key", trlab.peak, shared, over="seed")
         partly = self.curve(self.parabola, shared=0.001, runs=20)
         keys = partly.key.to_list()
         keys[len(keys) // 2] = "f" * 64
@@ -236,45 +259,46 @@ class Peaks(unittest.TestCase):
 
 class Lifetimes(unittest.TestCase):
     def test_the_formula(self):
-        found = trlab.lifetime([3, 5, 2, 10], [True, True, False, False])
-        self.assertEqual(found, (10.0, 10 / math.sqrt(2), 2, 2))
+        estimate = trlab.lifetime([3, 5, 2, 10], [True, True, False, False])
+        self.assertEqual(estimate, trlab.Lifetime(mean=10.0, sem=10 / math.sqrt(2), observed=2, censored=2))
 
     def test_half_may_be_cut_off(self):
         numbers, z = numpy.random.default_rng(1), []
         for _ in range(200):
             times = numbers.exponential(1000, size=60)
-            found = trlab.lifetime(numpy.minimum(times, 700), times <= 700)
-            z.append((found.mean - 1000) / found.sem)
+            estimate = trlab.lifetime(numpy.minimum(times, 700), times <= 700)
+            z.append((estimate.mean - 1000) / estimate.sem)
         self.assertLess(abs(numpy.mean(z)), 0.3)
         self.assertGreater((abs(numpy.array(z)) < 2).mean(), 0.9)
 
     def test_survival_of_a_worked_example(self):
         # At 2 one of 5 lives ends, at 3 one of 4 ends and one is cut off, at 5 one of 2 ends.
-        found = trlab.survival([2, 3, 3, 5, 8], [True, True, False, True, False])
-        self.assertEqual((list(found.index), list(found.at_risk)), ([0, 2, 3, 5, 8], [5, 5, 4, 2, 1]))
-        numpy.testing.assert_allclose(found.survival, [1, 4 / 5, 3 / 5, 3 / 10, 3 / 10])
+        curve = trlab.survival([2, 3, 3, 5, 8], [True, True, False, True, False])
+        self.assertEqual(list(curve.index), [0, 2, 3, 5, 8])
+        self.assertEqual(list(curve.at_risk), [5, 5, 4, 2, 1])
+        numpy.testing.assert_allclose(curve.survival, [1, 4 / 5, 3 / 5, 3 / 10, 3 / 10])
         greenwood = numpy.cumsum([0, 1 / (5 * 4), 1 / (4 * 3), 1 / (2 * 1), 0])
-        numpy.testing.assert_allclose(found.survival_sem, found.survival * numpy.sqrt(greenwood))
+        numpy.testing.assert_allclose(curve.survival_sem, curve.survival * numpy.sqrt(greenwood))
 
     def test_survival_without_cuts_is_the_share_of_longer_lives(self):
         times = numpy.random.default_rng(2).integers(1, 30, size=50)
-        found = trlab.survival(times, [True] * 50)
-        for time, row in found.iterrows():
+        curve = trlab.survival(times, [True] * 50)
+        for time, row in curve.iterrows():
             share = numpy.mean(times > time)
             self.assertAlmostEqual(row.survival, share)
             if share:
                 self.assertAlmostEqual(row.survival_sem, math.sqrt(share * (1 - share) / 50))
-        self.assertTrue(math.isnan(found.survival_sem.iloc[-1]))
+        self.assertTrue(math.isnan(curve.survival_sem.iloc[-1]))
 
     def test_survival_of_an_exponential_law(self):
         times = numpy.random.default_rng(3).exponential(100, size=2000)
-        found = trlab.survival(numpy.minimum(times, 150), times < 150)
-        inside = abs(found.survival - numpy.exp(-found.index / 100)) < 3 * found.survival_sem + 0.01
-        self.assertTrue(inside[found.index < 140].all())
+        curve = trlab.survival(numpy.minimum(times, 150), times < 150)
+        inside = abs(curve.survival - numpy.exp(-curve.index / 100)) < 3 * curve.survival_sem + 0.01
+        self.assertTrue(inside[curve.index < 140].all())
 
     def test_lives_without_information(self):
         for call in trlab.lifetime, trlab.survival:
-            for words, times, observed in (
+            for message, times, observed in (
                 ("above 0", [0, 5], [True, True]),
                 ("above 0", [-1, 5], [True, True]),
                 ("not finite", [math.nan, 5], [True, True]),
@@ -288,7 +312,7 @@ class Lifetimes(unittest.TestCase):
                 ("one list", numpy.ones((2, 2)), [True, True]),
                 ("must be a list", 5, True),
             ):
-                with self.subTest(words, times=times), self.assertRaisesRegex(EstimateError, words):
+                with self.subTest(message, times=times), self.assertRaisesRegex(EstimateError, message):
                     call(times, observed)
         self.assertRaisesRegex(EstimateError, "no life ended in 7 steps", trlab.lifetime, [3, 4], [False, False])
         self.assertEqual(list(trlab.survival([3, 4], [False, False]).survival), [1, 1, 1])
@@ -297,21 +321,26 @@ class Lifetimes(unittest.TestCase):
         index = pandas.MultiIndex.from_product([[0.1, 0.2], [0, 1]], names=["density", "seed"])
         lives = pandas.DataFrame({"time": [3, 5, 4, 4], "observed": [True, False, True, True]}, index=index)
         for call in trlab.lifetime, trlab.survival:
-            self.assertRaisesRegex(EstimateError, r"several values of \['density', 'seed'\]", call, lives.time, lives.observed)
-            self.assertRaisesRegex(EstimateError, "of the same run", call, lives.droplevel("density").time,
-                                   lives.droplevel("density").observed)
+            self.assertRaisesRegex(
+                EstimateError, r"several values of \['density', 'seed'\]", call, lives.time, lives.observed
+            )
+            self.assertRaisesRegex(
+                EstimateError, "of the same run", call, lives.droplevel("density").time,
+                lives.droplevel("density").observed,
+            )
             self.assertRaisesRegex(EstimateError, "same runs", call, lives.time, lives.observed[::-1])
             self.assertRaisesRegex(EstimateError, "one column", call, lives, lives.observed)
         means = {density: trlab.lifetime(runs.time, runs.observed).mean for density, runs in lives.groupby("density")}
         self.assertEqual(means, {0.1: 8, 0.2: 4})
 
-    def test_of_runs(self):
+    def test_the_lifetime_of_free_flow(self):
         ring = dict(limit=5, length=500, density=0.18, rule=SlowToStart("1/64", "3/4"), start=moving, steps=500)
         grid = Grid(lambda seed, key: Job(**ring, key=key), seed=range(12))
-        lives = grid.run(call=lambda job: job.time_until(lambda it: it.stopped > 0, every=10))
-        found = trlab.lifetime(lives.time, lives.observed)
-        self.assertEqual((found.observed, found.mean), (lives.observed.sum(), lives.time.sum() / lives.observed.sum()))
-        self.assertEqual(found.observed + found.censored, 12)
+        lives = grid.run(call=lambda job: job.time_until(lambda window: window.stopped > 0, every=10))
+        estimate = trlab.lifetime(lives.time, lives.observed)
+        self.assertEqual(estimate.observed, lives.observed.sum())
+        self.assertEqual(estimate.mean, lives.time.sum() / lives.observed.sum())
+        self.assertEqual(estimate.observed + estimate.censored, 12)
 
     def test_a_mean_of_censored_times_is_rejected(self):
         lives = runs_of([{"seed": 0, "time": 3, "observed": True}, {"seed": 1, "time": 5, "observed": False}], ["seed"])

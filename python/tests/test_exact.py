@@ -52,11 +52,11 @@ class Solutions(unittest.TestCase):
 
     def test_small_rings_forget_their_start_before_they_are_measured(self):
         for ring in RINGS[:8]:
-            found = chain(first_state(ring.length, ring.lanes, ring.cars), ring.model)
-            exact = float(stationary(found, most_states=0).distance)
+            states = chain(first_state(ring.length, ring.lanes, ring.cars), ring.model)
+            exact = float(stationary(states, most_states=0).distance)
             with self.subTest(ring=ring.name):
-                self.assertLess(abs(expected_distance(found, 300) - exact), 1e-5)
-                self.assertGreater(abs(expected_distance(found, 1) - exact), 1e-3)
+                self.assertLess(abs(expected_distance(states, 300) - exact), 1e-5)
+                self.assertGreater(abs(expected_distance(states, 1) - exact), 1e-3)
 
     def test_the_formula_for_v_max_1_holds_on_every_small_ring(self):
         for p, length in product((QUARTER, HALF, Fraction(3, 4)), range(2, 8)):
@@ -75,15 +75,15 @@ class Solutions(unittest.TestCase):
     def test_a_worked_step(self):
         # Both cars have room for one cell, and move with 3/4 each.
         odds = {(".1.1.",): 9, (".10..",): 3, ("0..1.",): 3, ("0.0..",): 1}
-        found = next_states(("0.0..",), NagelSchreckenberg(QUARTER, 1))
-        self.assertEqual(found, {state: Fraction(parts, 16) for state, parts in odds.items()})
+        odds_of_states = next_states(("0.0..",), NagelSchreckenberg(QUARTER, 1))
+        self.assertEqual(odds_of_states, {state: Fraction(parts, 16) for state, parts in odds.items()})
 
     def test_a_worked_lane_change(self):
         # The first car is hindered and changes lanes with 1/2. Then each car with room moves with 3/4.
         stays = {("0.1..", "....."): 12, ("00...", "....."): 4}
         changes = {("..1..", ".1..."): 9, (".0...", ".1..."): 3, ("..1..", "0...."): 3, (".0...", "0...."): 1}
-        found = next_states(("11...", "....."), Rickert(QUARTER, HALF, 1))
-        self.assertEqual(found, {state: Fraction(parts, 32) for state, parts in {**stays, **changes}.items()})
+        odds_of_states = next_states(("11...", "....."), Rickert(QUARTER, HALF, 1))
+        self.assertEqual(odds_of_states, {state: Fraction(parts, 32) for state, parts in {**stays, **changes}.items()})
 
 
 class Runs(unittest.TestCase):
@@ -93,7 +93,7 @@ class Runs(unittest.TestCase):
         sums = Sums.of(ring.sweep(number, points=100, warm=300, measure=1000).sweep())
         return [sums.z(name, float(mean)) for name, mean in exact._asdict().items()]
 
-    def test_flows(self):
+    def test_runs_have_the_exact_flow(self):
         for name in "nasch_1_4_v1_3_on_8", "vdr_1_64_v2_4_on_10", "careful_v3_4_on_9", "rickert_1_4_v2_3_on_2x7":
             ring = NAMED[name]
             for number in (1, 2)[: 3 - ring.lanes]:
@@ -107,7 +107,7 @@ class Runs(unittest.TestCase):
     def test_transitions(self):
         for name in "nasch_1_4_v2_4_on_10", "vdr_1_64_v3_3_on_8", "careful_v3_4_on_9", "rickert_1_4_v2_3_on_2x7":
             ring = NAMED[name]
-            verdict = judged(counted(it.lanes for it in ring.job(1, 10000).snapshots()), ring.model)
+            verdict = judged(counted(snapshot.lanes for snapshot in ring.job(1, 10000).snapshots()), ring.model)
             with self.subTest(ring=name):
                 self.assertEqual(verdict.impossible, 0)
                 self.assertGreater(verdict.freedom, 50)
@@ -115,7 +115,7 @@ class Runs(unittest.TestCase):
 
     def test_a_wrong_model_is_detected(self):
         ring = NAMED["nasch_1_4_v1_4_on_8"]
-        counts = counted(it.lanes for it in ring.job(1, 20000).snapshots())
+        counts = counted(snapshot.lanes for snapshot in ring.job(1, 20000).snapshots())
         self.assertGreater(abs(self.z(ring, NagelSchreckenberg(Fraction(17, 64), 1), 1)[0]), 4)
         self.assertGreater(judged(counts, NagelSchreckenberg(Fraction(5, 16), 1)).share_below(), 0.9999)
         self.assertGreater(judged(counts, NagelSchreckenberg(Fraction(0), 1)).impossible, 1000)

@@ -1,4 +1,5 @@
-"""`trlab.exact`: its numbers are those of every small ring counted step by step, and those of long runs of the program."""
+"""`trlab.exact`: its numbers are those of every small ring counted step by step, and those of long runs of the
+program."""
 import importlib.util
 import unittest
 from dataclasses import replace
@@ -7,6 +8,7 @@ from itertools import combinations, product
 from math import sqrt
 from statistics import fmean, stdev
 
+from tests.expected import ALWAYS, TENTH, THIRD
 from tests.random_jobs import needs_hypothesis
 from trlab import Job, Nasch, Own, ParameterError, Rickert, SlowToStart, Sweep, even, exact, jammed, random_cells
 
@@ -19,7 +21,7 @@ if importlib.util.find_spec("hypothesis"):
 else:
     EXAMPLES = LANES = RINGS = needs_hypothesis
 
-CHANCES = Fraction(0), Fraction(1, 2**31), Fraction(1, 4), Fraction(1, 3), Fraction(7, 8), Fraction(1)
+PROBABILITIES = Fraction(0), Fraction(1, 2**31), Fraction(1, 4), Fraction(1, 3), Fraction(7, 8), Fraction(1)
 RULE_184, SLOW = Nasch(0), Own("get r0, gap\ndiv r0, r0, 2\nget r1, limit\nmin r0, r0, r1\ngo r0\n")
 
 
@@ -33,75 +35,83 @@ def text(ring, length):
 
 
 def next_rings(ring, length, brake):
-    """For each set of cars with an empty cell ahead that move, with v_max = 1: its probability and the ring after the step."""
-    free = [cell for cell in ring if (cell + 1) % length not in ring]
-    for moves in product((False, True), repeat=len(free)):
-        going = {cell for cell, is_moving in zip(free, moves) if is_moving}
-        chance = (1 - brake) ** len(going) * brake ** (len(free) - len(going))
-        yield chance, len(going), ring - going | {(cell + 1) % length for cell in going}
+    """For each set of cars with an empty cell ahead that move, with v_max = 1: its probability and the ring after the
+    step."""
+    free_cars = [cell for cell in ring if (cell + 1) % length not in ring]
+    for moves in product((False, True), repeat=len(free_cars)):
+        moving_cars = {cell for cell, is_moving in zip(free_cars, moves) if is_moving}
+        probability = (1 - brake) ** len(moving_cars) * brake ** (len(free_cars) - len(moving_cars))
+        yield probability, len(moving_cars), ring - moving_cars | {(cell + 1) % length for cell in moving_cars}
 
 
-def walked(lane, limit, steps, delay=0):
-    """The distance of each car of a lane: min(limit, gap) cells in each step, but at most one more than before in the first `delay`
-    steps, in which all cars are stopped at first."""
-    length, cells = len(lane), [cell for cell, sign in enumerate(lane) if sign != "."]
-    gone, speeds = [0] * len(cells), [0] * len(cells)
+def driven_distances(lane, limit, steps, delay=0):
+    """The distance of each car of a lane: min(limit, gap) cells in each step, but at most one more than before in the
+    first `delay` steps, in which all cars are stopped at first."""
+    length, cells = len(lane), [cell for cell, character in enumerate(lane) if character != "."]
+    distances, speeds = [0] * len(cells), [0] * len(cells)
     for step in range(steps):
-        at = [cell + far for cell, far in zip(cells, gone)]
-        gaps = [(ahead - place - 1) % length for place, ahead in zip(at, at[1:] + at[:1])]
-        most = [speed + 1 if step < delay else limit for speed in speeds]
-        speeds = [min(limit, gap, fast) for gap, fast in zip(gaps, most)]
-        gone = [far + speed for far, speed in zip(gone, speeds)]
-    return gone
+        places = [cell + distance for cell, distance in zip(cells, distances)]
+        gaps = [(ahead - place - 1) % length for place, ahead in zip(places, places[1:] + places[:1])]
+        limits = [speed + 1 if step < delay else limit for speed in speeds]
+        speeds = [min(limit, gap, maximum) for gap, maximum in zip(gaps, limits)]
+        distances = [distance + speed for distance, speed in zip(distances, speeds)]
+    return distances
 
 
 class StationaryState(unittest.TestCase):
     def test_every_ring_of_up_to_6_cells(self):
-        for brake, length in product(CHANCES, range(1, 7)):
+        for brake, length in product(PROBABILITIES, range(1, 7)):
             q = exact.braking_probability(brake)
             for cars in range(length + 1):
                 with self.subTest(brake=brake, length=length, cars=cars):
-                    self.judge(rings(length, cars), length, cars, q)
+                    self.compare_all(rings(length, cars), length, cars, q)
 
-    def judge(self, all_rings, length, cars, q):
+    def compare_all(self, all_rings, length, cars, q):
         """The weights of these rings are stationary, and their sums over the rings are those of the closed forms."""
         weight = {ring: exact.stationary_weight(text(ring, length), q) for ring in all_rings}
         after, moved, total = dict.fromkeys(all_rings, Fraction(0)), Fraction(0), sum(weight.values())
         for ring in all_rings:
-            for chance, moving, following in next_rings(ring, length, q):
-                after[following] += weight[ring] * chance
-                moved += weight[ring] * chance * moving
+            for probability, moving, following in next_rings(ring, length, q):
+                after[following] += weight[ring] * probability
+                moved += weight[ring] * probability * moving
         self.assertEqual(after, weight)
         self.assertEqual(total == 0, q == 0 and 2 * cars > length)
         if total == 0:
             self.assertRaisesRegex(ParameterError, "has the weight 0", exact.clusters, length, cars, q)
-            self.assertRaisesRegex(ParameterError, "has the weight 0", exact.stationary_probability, text(all_rings[0], length), q)
+            self.assertRaisesRegex(
+                ParameterError, "has the weight 0", exact.stationary_probability, text(all_rings[0], length), q
+            )
             self.assertEqual(exact.flow(length, cars, q), exact.triangle(1, Fraction(cars, length)))
             return
         self.assertEqual(exact.flow(length, cars, q), moved / total / length)
         probability = {ring: exact.stationary_probability(text(ring, length), q) for ring in all_rings}
-        self.assertEqual(probability, {ring: its / total for ring, its in weight.items()})
-        found = {}
+        self.assertEqual(probability, {ring: value / total for ring, value in weight.items()})
+        probabilities = {}
         for ring in all_rings:
             clusters = sum((cell + 1) % length not in ring for cell in ring)
-            found[clusters] = found.get(clusters, 0) + probability[ring]
-        self.assertEqual(exact.clusters(length, cars, q), {k: found[k] for k in sorted(found)})
+            probabilities[clusters] = probabilities.get(clusters, 0) + probability[ring]
+        self.assertEqual(exact.clusters(length, cars, q), {k: probabilities[k] for k in sorted(probabilities)})
 
     def test_known_flows(self):
         self.assertEqual(exact.flow(6, 3, "1/4"), Fraction(99, 344))
-        self.assertEqual([exact.flow(10, cars, "1/4") for cars in (2, 5, 8)], [Fraction(29, 200), Fraction(1921, 7096), Fraction(29, 200)])
+        self.assertEqual(
+            [exact.flow(10, cars, "1/4") for cars in (2, 5, 8)],
+            [Fraction(29, 200), Fraction(1921, 7096), Fraction(29, 200)],
+        )
         self.assertEqual([exact.flow(8, cars, 0.25) for cars in (3, 4)], [Fraction(387, 1568), Fraction(735, 2656)])
 
     def test_the_probability_is_the_one_that_files_have(self):
-        third = Fraction(715827883, 2**31)
+        third = Fraction(THIRD, ALWAYS)
         for brake in "1/3", 1 / 3, Fraction(1, 3), third:
-            self.assertEqual(Nasch(brake).lines(), ["rule nasch 715827883"])
+            self.assertEqual(Nasch(brake).lines(), [f"rule nasch {THIRD}"])
             self.assertEqual(exact.braking_probability(brake), third)
             self.assertEqual(exact.flow(2, 1, brake), (1 - third) / 2)
             self.assertEqual(exact.stationary_weight("00.", brake), third)
         self.assertNotEqual(exact.flow(2, 1, "1/3"), Fraction(1, 3))
-        self.assertEqual(exact.flow(2, 1, "0.1"), (1 - Fraction(214748365, 2**31)) / 2)
-        self.assertEqual([exact.braking_probability(brake) for brake in (0, 1, "0.5", "1/4")], [0, 1, Fraction(1, 2), Fraction(1, 4)])
+        self.assertEqual(exact.flow(2, 1, "0.1"), (1 - Fraction(TENTH, ALWAYS)) / 2)
+        self.assertEqual(
+            [exact.braking_probability(brake) for brake in (0, 1, "0.5", "1/4")], [0, 1, Fraction(1, 2), Fraction(1, 4)]
+        )
 
     @EXAMPLES
     @RINGS
@@ -112,7 +122,9 @@ class StationaryState(unittest.TestCase):
         self.assertEqual(fraction, exact.flow(length, length - cars, brake))  # cars and empty cells exchanged
 
     def test_the_float_of_long_rings(self):
-        for length, cars, brake in (5000, 1500, 0.25), (4000, 3999, "1/2"), (3000, 1500, Fraction(1, 2**31)), (2000, 900, 1 - 2**-31):
+        for length, cars, brake in (
+            (5000, 1500, 0.25), (4000, 3999, "1/2"), (3000, 1500, Fraction(1, 2**31)), (2000, 900, 1 - 2**-31),
+        ):
             fraction = exact.flow(length, cars, brake)
             self.assertLess(abs(Fraction(exact.flow_as_float(length, cars, brake)) / fraction - 1), 1e-12)
         for density, brake in product((0.1, 0.5, 0.8), (0.25, 0.5)):
@@ -126,44 +138,58 @@ class StationaryState(unittest.TestCase):
             flows = {count: [] for count in cars}
             for point in sweep.sweep():
                 flows[point.cars].append(point.flow)
-            z = [(fmean(its) - exact.flow(12, count, brake)) / (stdev(its) / sqrt(30)) for count, its in flows.items()]
-            self.assertLess(max(map(abs, z)), 4)
-            self.assertLess(sum(it * it for it in z), 35)  # 11 degrees of freedom
-            self.assertGreater(max(abs(fmean(its) - exact.flow(12, count, 0.3)) * sqrt(30) / stdev(its) for count, its in flows.items()), 9)
+
+            def z(count, braking):
+                """How many standard errors the mean of the runs differs from the exact flow for this probability."""
+                sem = stdev(flows[count]) / sqrt(30)
+                return (fmean(flows[count]) - exact.flow(12, count, braking)) / sem
+
+            differences = [z(count, brake) for count in cars]
+            self.assertLess(max(map(abs, differences)), 4)
+            self.assertLess(sum(difference**2 for difference in differences), 35)  # 11 degrees of freedom
+            self.assertGreater(max(abs(z(count, 0.3)) for count in cars), 9)
 
     def test_wrong_arguments(self):
         for call in exact.flow, exact.flow_as_float, exact.clusters:
-            for length, cars, brake in (0, 0, 0.5), (100001, 5, 0.5), (10, 11, 0.5), (10, -1, 0.5), (10, 5.0, 0.5), (True, 1, 0.5):
-                self.assertRaises(ParameterError, call, length, cars, brake)
+            for length, cars, brake in (
+                (0, 0, 0.5), (100001, 5, 0.5), (10, 11, 0.5), (10, -1, 0.5), (10, 5.0, 0.5), (True, 1, 0.5),
+            ):
+                self.assertRaisesRegex(ParameterError, "(length|cars) must be", call, length, cars, brake)
             for brake in 1.5, -0.1, "x", None, 1e-12, True:
                 self.assertRaisesRegex(ParameterError, "brake", call, 10, 5, brake)
         for lane in "0,.", ["0.", "0."], [0, 1], "", 3:
-            self.assertRaises(ParameterError, exact.stationary_weight, lane, 0.5)
+            self.assertRaisesRegex(
+                ParameterError, "has the character ','|of one lane|only 0 and 1|a road is a list of speeds",
+                exact.stationary_weight, lane, 0.5,
+            )
         self.assertEqual(exact.stationary_weight([5, None, 0, 1], 0.5), exact.stationary_weight("0.00", 0.5))
 
 
 class Triangle(unittest.TestCase):
-    def test_flows(self):
+    def test_flows_of_known_densities(self):
         self.assertEqual(exact.triangle(5, "3/20"), Fraction(3, 4))
         self.assertEqual(exact.triangle(5, Fraction(1, 6)), Fraction(5, 6))
         self.assertEqual(exact.triangle(1, 0.75), Fraction(1, 4))
         self.assertEqual([exact.triangle(3, density) for density in (0, 1)], [0, 0])
         for limit, density in (0, 0.5), (36, 0.5), (5, 1.5), (5, "x"), (5.0, 0.5):
-            self.assertRaises(ParameterError, exact.triangle, limit, density)
+            self.assertRaisesRegex(ParameterError, "(limit|density) must be", exact.triangle, limit, density)
 
     def test_every_small_road_has_relaxed(self):
         for length, limit in product(range(1, 10), (1, 2, 3)):
             for cars in range(length + 1):
                 step = exact.relaxed_from(limit, length, cars, exact.gap_rule)
-                most = min(limit * cars, length - cars)
+                maximum = min(limit * cars, length - cars)
                 for ring in rings(length, cars):
                     lane = text(ring, length)
-                    now, then = walked(lane, limit, step), walked(lane, limit, step + 1)
-                    self.assertEqual(sum(then) - sum(now), most, (lane, limit))
+                    before, after = driven_distances(lane, limit, step), driven_distances(lane, limit, step + 1)
+                    self.assertEqual(sum(after) - sum(before), maximum, (lane, limit))
                 # A queue has not relaxed before.
                 queue = cars * "0" + (length - cars) * "."
                 if step and cars > 1:
-                    self.assertLess(sum(walked(queue, limit, step)) - sum(walked(queue, limit, step - 1)), most)
+                    self.assertLess(
+                        sum(driven_distances(queue, limit, step)) - sum(driven_distances(queue, limit, step - 1)),
+                        maximum,
+                    )
 
     def test_runs_are_on_the_triangle(self):
         for limit, rule in product((1, 2, 5), (Nasch(0), exact.gap_rule)):
@@ -174,15 +200,18 @@ class Triangle(unittest.TestCase):
                     (window,) = job.series(every=50, first=warm)
                     self.assertEqual(Fraction(window.distance, 120 * 50), exact.triangle(limit, Fraction(cars, 120)))
 
-    def test_steps(self):
+    def test_the_step_of_relaxation(self):
         self.assertEqual(exact.relaxed_from(2, 11, 4), 5)
         self.assertEqual(exact.relaxed_from(3, 8, 2), 4)
         self.assertEqual(exact.relaxed_from(5, 1000, 0), 5)
         self.assertEqual([exact.relaxed_from(1, 9, cars) for cars in (0, 1, 4, 9)], [0, 0, 3, 0])
         self.assertEqual(exact.relaxed_from(1, 9, 4), exact.relaxed_from(1, 9, 4, exact.gap_rule))
         self.assertEqual(exact.relaxed_from(5, 1000, 150, SlowToStart(0, 0)), exact.relaxed_from(5, 1000, 150))
-        for words in (0, 9, 4), (1, 0, 0), (1, 9, 10), (1, 9, 4, Nasch(0.5)), (1, 9, 4, "nasch"):
-            self.assertRaises(ParameterError, exact.relaxed_from, *words)
+        for arguments in (0, 9, 4), (1, 0, 0), (1, 9, 10), (1, 9, 4, Nasch(0.5)), (1, 9, 4, "nasch"):
+            self.assertRaisesRegex(
+                ParameterError, "(limit|length|cars) must be|without randomization|a rule is Nasch", exact.relaxed_from,
+                *arguments,
+            )
 
 
 class MinimumPrinciple(unittest.TestCase):
@@ -190,58 +219,76 @@ class MinimumPrinciple(unittest.TestCase):
         for length, limit in product(range(1, 7), (1, 2, 3, 7)):
             for lane in map("".join, product(".0", repeat=length)):
                 for steps in range(2 * length + 4):
-                    self.assertEqual(exact.minimum_principle(lane, limit, steps), walked(lane, limit, steps), (lane, limit, steps))
+                    self.assertEqual(
+                        exact.minimum_principle(lane, limit, steps), driven_distances(lane, limit, steps),
+                        (lane, limit, steps),
+                    )
 
     @EXAMPLES
     @LANES
-    def test_roads(self, lane, limit, steps):
-        self.assertEqual(exact.minimum_principle(lane, limit, steps), walked(lane, limit, steps))
+    def test_random_lanes(self, lane, limit, steps):
+        self.assertEqual(exact.minimum_principle(lane, limit, steps), driven_distances(lane, limit, steps))
 
     @EXAMPLES
     @LANES
-    def test_later(self, lane, limit, steps):
-        """Cars that accelerate by one per step: from step `limit` on the minimum principle holds on the road that they reach."""
-        gone, cells = walked(lane, limit, limit, limit), [cell for cell, sign in enumerate(lane) if sign != "."]
-        at = [(cell + far) % len(lane) for cell, far in zip(cells, gone)]
-        road = "".join("0" if cell in at else "." for cell in range(len(lane)))
-        later = dict(zip(sorted(at), exact.minimum_principle(road, limit, steps)))
-        self.assertEqual([far + later[cell] for far, cell in zip(gone, at)], walked(lane, limit, limit + steps, limit))
+    def test_the_principle_holds_after_acceleration(self, lane, limit, steps):
+        """Cars that accelerate by one per step: from step `limit` on the minimum principle holds on the road that they
+        reach."""
+        distances = driven_distances(lane, limit, limit, limit)
+        cells = [cell for cell, character in enumerate(lane) if character != "."]
+        places = [(cell + distance) % len(lane) for cell, distance in zip(cells, distances)]
+        road = "".join("0" if cell in places else "." for cell in range(len(lane)))
+        later = dict(zip(sorted(places), exact.minimum_principle(road, limit, steps)))
+        together = [distance + later[cell] for distance, cell in zip(distances, places)]
+        self.assertEqual(together, driven_distances(lane, limit, limit + steps, limit))
 
-    def test_runs(self):
-        for rule, limits in (exact.gap_rule, (1, 3, 12)), (Nasch(0), (1, 2, 5, 12)), (SlowToStart(0, 0), (1, 4)), (Rickert(0, 0), (1, 5)):
+    def test_distances_are_those_of_runs(self):
+        for rule, limits in (
+            (exact.gap_rule, (1, 3, 12)), (Nasch(0), (1, 2, 5, 12)), (SlowToStart(0, 0), (1, 4)),
+            (Rickert(0, 0), (1, 5)),
+        ):
             for limit, seed in product(limits, (1, 2)):
                 lanes = 2 if isinstance(rule, Rickert) else 1 + seed % 2
                 density = (0.1, 0.4)[seed - 1]
-                job = Job(limit=limit, length=60, lanes=lanes, density=density, start=random_cells(seed, None), rule=rule, steps=130)
+                job = Job(
+                    limit=limit, length=60, lanes=lanes, density=density, start=random_cells(seed, None), rule=rule,
+                    steps=130,
+                )
                 with self.subTest(rule=rule, limit=limit, seed=seed):
                     self.compare(job)
 
     def compare(self, job):
         """Distances and positions with those that follow from the snapshots of the run, car by car."""
-        shots = [shot.speeds() for shot in job.run()]
-        length, starts = len(shots[0][0]), [(lane, cell) for lane in range(job.lanes) for cell in range(len(shots[0][0]))]
-        place = [(lane, cell) for lane, cell in starts if shots[0][lane][cell] is not None]
-        gone = [0] * len(place)
-        for step, speeds in enumerate(shots):
+        roads = [snapshot.speeds() for snapshot in job.run()]
+        length = len(roads[0][0])
+        cars = [(lane, cell) for lane, cells in enumerate(roads[0]) for cell, speed in enumerate(cells) if speed is not None]
+        distances = [0] * len(cars)
+        for step, speeds in enumerate(roads):
             if step:
-                came = {(lane, (cell - speed) % length): speed for lane, cells in enumerate(speeds)
-                        for cell, speed in enumerate(cells) if speed is not None}
-                drove = [came[it] for it in place]
-                place = [(lane, (cell + speed) % length) for (lane, cell), speed in zip(place, drove)]
-                gone = [far + speed for far, speed in zip(gone, drove)]
+                # A car at speed v came from the cell v behind it.
+                speed_from = {
+                    (lane, (cell - speed) % length): speed
+                    for lane, cells in enumerate(speeds)
+                    for cell, speed in enumerate(cells)
+                    if speed is not None
+                }
+                driven = [speed_from[car] for car in cars]
+                cars = [(lane, (cell + speed) % length) for (lane, cell), speed in zip(cars, driven)]
+                distances = [distance + speed for distance, speed in zip(distances, driven)]
+            # The first and the last step, those around the end of the acceleration, and one between.
             if step in (0, 1, job.limit - 1, job.limit, job.limit + 1, 29, job.steps):
-                self.assertEqual(exact.distances(job, step), gone, step)
-                self.assertEqual(exact.positions(job, step), [cell for _, cell in place], step)
-        self.assertEqual(exact.distances(job), gone)
+                self.assertEqual(exact.distances(job, step), distances, step)
+                self.assertEqual(exact.positions(job, step), [cell for _, cell in cars], step)
+        self.assertEqual(exact.distances(job), distances)
 
-    def test_it_is_a_bound_for_other_rules(self):
+    def test_the_principle_is_a_bound_for_other_rules(self):
         for rule in Nasch(0), Nasch(0.25), SlowToStart(0.1, 0.75), SLOW:
             job = Job(limit=3, length=50, cars=17, start=random_cells(5), rule=rule, steps=40, key=3)
-            gone = 0
-            for step, shot in enumerate(job.run()):
-                gone += sum(speed or 0 for speed in shot.speeds()[0]) if step else 0
-                self.assertLessEqual(gone, sum(exact.minimum_principle(job.run()[0].lanes, 3, step)))
-            self.assertLess(gone, sum(exact.minimum_principle(job.run()[0].lanes, 3, 40)))
+            driven = 0
+            for step, snapshot in enumerate(job.run()):
+                driven += sum(speed or 0 for speed in snapshot.speeds()[0]) if step else 0
+                self.assertLessEqual(driven, sum(exact.minimum_principle(job.run()[0].lanes, 3, step)))
+            self.assertLess(driven, sum(exact.minimum_principle(job.run()[0].lanes, 3, 40)))
 
     def test_very_late_steps(self):
         for limit, cars in (5, 20), (5, 60), (1, 70), (2, 40):
@@ -249,7 +296,9 @@ class MinimumPrinciple(unittest.TestCase):
             early, late = (exact.distances(job, step) for step in (500, 10**15))
             self.assertEqual(sum(late) - sum(early), (10**15 - 500) * min(limit * cars, 120 - cars))
             # The pattern has period 120, and after 120 steps each car has taken the place of another one.
-            self.assertEqual(sorted(exact.positions(job, 10**15)), sorted(exact.positions(job, 500 + (10**15 - 500) % 120)))
+            self.assertEqual(
+                sorted(exact.positions(job, 10**15)), sorted(exact.positions(job, 500 + (10**15 - 500) % 120))
+            )
 
     def test_forms_of_roads(self):
         self.assertEqual(exact.minimum_principle("000..0.......", 3, 5), [8, 9, 11, 12])
@@ -259,17 +308,28 @@ class MinimumPrinciple(unittest.TestCase):
         self.assertEqual(exact.minimum_principle("0", 3, 10**15), [0])
 
     def test_wrong_arguments(self):
-        for road, limit, steps in ("0.x", 1, 1), ("0.4", 3, 1), ("0.", 0, 1), ("0.", 36, 1), ("0.", 1, -1), ("0.", 1, 1.0), (7, 1, 1):
-            self.assertRaises(ParameterError, exact.minimum_principle, road, limit, steps)
+        for road, limit, steps in (
+            ("0.x", 1, 1), ("0.4", 3, 1), ("0.", 0, 1), ("0.", 36, 1), ("0.", 1, -1), ("0.", 1, 1.0), (7, 1, 1),
+        ):
+            self.assertRaisesRegex(
+                ParameterError, "has the character|(limit|steps) must be|a road is a list of speeds",
+                exact.minimum_principle, road, limit, steps,
+            )
         job = Job(limit=3, length=20, cars=4, start=even, rule=Nasch(0), steps=9)
         for rule in Nasch(0.25), SlowToStart(0, 0.5), SlowToStart(0.5, 0), SLOW, Own(exact.gap_rule.motion, "stay\n"):
-            self.assertRaisesRegex(ParameterError, "without randomization and lane changes", exact.distances, replace(job, rule=rule))
+            self.assertRaisesRegex(
+                ParameterError, "without randomization and lane changes", exact.distances, replace(job, rule=rule)
+            )
         for rule in Rickert(0, 0.5), Rickert(0.5, 0):
-            self.assertRaisesRegex(ParameterError, "lane changes", exact.positions, replace(job, rule=rule, lanes=2, cars=3))
-        self.assertRaisesRegex(ParameterError, "one rule throughout", exact.distances, replace(job, at={3: exact.gap_rule}))
+            self.assertRaisesRegex(
+                ParameterError, "lane changes", exact.positions, replace(job, rule=rule, lanes=2, cars=3)
+            )
+        self.assertRaisesRegex(
+            ParameterError, "one rule throughout", exact.distances, replace(job, at={3: exact.gap_rule})
+        )
         self.assertEqual(exact.distances(replace(job, at={3: Nasch(0)})), exact.distances(job))
         for step in -1, 1.5, 10**16:
-            self.assertRaises(ParameterError, exact.distances, job, step)
+            self.assertRaisesRegex(ParameterError, "step must be", exact.distances, job, step)
         self.assertRaisesRegex(ParameterError, "takes a road", exact.distances, "0..0")
 
 

@@ -12,7 +12,7 @@ from pathlib import Path
 
 import trlab
 from tests.libraries import hypothesis, numpy, pandas
-from tests.studies_for_tests import known, studies
+from tests.studies_for_tests import NO_CARS, known, studies
 from trlab import FrameError, Grid, Job, Nasch, ParameterError, random_cells
 from trlab._analysis.columns import COUNTS, LANE_SUMS
 from trlab._analysis.frames import tidy
@@ -25,23 +25,38 @@ FEW = hypothesis.settings(max_examples=12, deadline=None, database=None, derando
 
 
 def as_dict(means, column="flow"):
+    """The number, mean and standard error of a column by place, which is a tuple of the parameters."""
     rows = means[["n", column, f"{column}_sem"]].itertuples(name=None)
-    return {(at if isinstance(at, tuple) else (at,)): numbers for at, *numbers in rows}
+    return {(place if isinstance(place, tuple) else (place,)): numbers for place, *numbers in rows}
+
+
+def runs_by_seed(**columns):
+    """A frame of two repetitions with these columns."""
+    identity = {"key": ["a", "b"], "road": 0, "ensemble": "e"}
+    return pandas.DataFrame({"seed": [0, 1], **identity, **columns}).set_index("seed")
+
+
+def window_until(step):
+    """The 10 steps until this one, of one car on 10 cells."""
+    return trlab.Window(
+        step=step, cars=1, cells=10, steps=10, distance=5, stopped=0, changes=0, flow_millionths=0, **NO_CARS
+    )
 
 
 def at_random(frame, order):
+    """The rows of a frame in a random order."""
     rows = list(range(len(frame)))
     order.shuffle(rows)
     return frame.iloc[rows]
 
 
 class Means(unittest.TestCase):
-    def same(self, found, wanted):
-        if set(wanted) == {()}:
-            found = {(): next(iter(found.values()))}
-        self.assertEqual(set(found), set(wanted))
-        for place, values in wanted.items():
-            numpy.testing.assert_allclose(found[place], values, rtol=1e-9, atol=1e-12)
+    def same(self, result, expected):
+        if set(expected) == {()}:
+            result = {(): next(iter(result.values()))}
+        self.assertEqual(set(result), set(expected))
+        for place, values in expected.items():
+            numpy.testing.assert_allclose(result[place], values, rtol=1e-9, atol=1e-12)
 
     @MANY
     @given(studies(), st.randoms())
@@ -53,13 +68,13 @@ class Means(unittest.TestCase):
     @given(studies(), st.randoms())
     def test_equal_plain_pandas(self, study, order):
         runs = at_random(trlab.per_run(study.frame), order)
-        found = trlab.means(runs, over="seed", of=["speed", "stopped", "windows"])
+        means = trlab.means(runs, over="seed", of=["speed", "stopped", "windows"])
         groups = runs.groupby(study.names) if study.names else runs.groupby(lambda _: 0)
         for name in "speed", "stopped", "windows":
             mean, sem = groups[name].mean(), groups[name].sem()
-            index = found.index if study.names else mean.index
-            numpy.testing.assert_allclose(found[name], mean.loc[index], rtol=1e-9)
-            numpy.testing.assert_allclose(found[f"{name}_sem"], sem.loc[index], rtol=1e-9, atol=1e-12)
+            index = means.index if study.names else mean.index
+            numpy.testing.assert_allclose(means[name], mean.loc[index], rtol=1e-9)
+            numpy.testing.assert_allclose(means[f"{name}_sem"], sem.loc[index], rtol=1e-9, atol=1e-12)
 
     @MANY
     @given(studies(), st.data())
@@ -67,13 +82,13 @@ class Means(unittest.TestCase):
         runs = trlab.per_run(study.frame)
         kept = runs[[data.draw(st.booleans()) for _ in range(len(runs))]]
         if not len(kept):
-            return self.assertRaises(FrameError, trlab.means, kept, "seed")
+            return self.assertRaisesRegex(FrameError, "no rows", trlab.means, kept, "seed")
         sizes = set(kept.groupby(study.names).size()) if study.names else {len(kept)}
         if len(sizes) > 1:
             self.assertRaisesRegex(FrameError, "groups have", trlab.means, kept, "seed")
-        found = trlab.means(kept, over="seed", of="flow", unequal=True)
-        for place, (n, mean, sem) in as_dict(found).items():
-            flows = [row.flow for at, row in kept.iterrows() if not study.names or at[:-1] == place]
+        means = trlab.means(kept, over="seed", of="flow", unequal=True)
+        for place, (n, mean, sem) in as_dict(means).items():
+            flows = [row.flow for choice, row in kept.iterrows() if not study.names or choice[:-1] == place]
             self.assertEqual(n, len(flows))
             self.assertAlmostEqual(mean, statistics.fmean(flows))
             self.assertTrue(math.isnan(sem) if n == 1 else abs(sem - statistics.stdev(flows) / n**0.5) < 1e-12)
@@ -87,7 +102,7 @@ class Means(unittest.TestCase):
         others = [*range(row), *range(row + 1, len(runs))]
 
         def in_row(wrong, right):
-            return [wrong if at == row else right for at in range(len(runs))]
+            return [wrong if number == row else right for number in range(len(runs))]
 
         defects = {
             "windows": (lambda: trlab.means(frame.droplevel("step"), "seed"), len(frame) == len(runs)),
@@ -95,7 +110,9 @@ class Means(unittest.TestCase):
             "windows per run twice": (lambda: trlab.per_run(runs), False),
             "a window twice": (lambda: trlab.per_run(pandas.concat([frame, frame.iloc[[row]]])), False),
             "means of means": (lambda: trlab.means(trlab.means(runs, "seed"), group[0] if group else "seed"), False),
-            "means without n": (lambda: trlab.means(trlab.means(runs, "seed")[["flow"]], group[0] if group else "seed"), False),
+            "means without n": (
+                lambda: trlab.means(trlab.means(runs, "seed")[["flow"]], group[0] if group else "seed"), False
+            ),
             "means with runs": (lambda: trlab.means(pandas.concat([runs, trlab.means(runs, "seed")]), "seed"), False),
             "means of pandas": (lambda: trlab.means(runs.groupby("seed").mean(numeric_only=True), "seed"), False),
             "a text": (lambda: trlab.means(runs.assign(x=in_row("a", 1)), "seed"), is_one),
@@ -105,18 +122,25 @@ class Means(unittest.TestCase):
             "no key": (lambda: trlab.means(runs.assign(key=in_row(None, "0" * 64)), "seed"), False),
             "keys as numbers": (lambda: trlab.means(runs.assign(key=range(len(runs))), "seed"), False),
             "no road": (lambda: trlab.means(runs.assign(road=in_row(None, 0)), "seed"), False),
-            "NaN": (lambda: trlab.means(runs.assign(flow=runs.flow.where(numpy.arange(len(runs)) != row)), "seed"), False),
+            "NaN": (
+                lambda: trlab.means(runs.assign(flow=runs.flow.where(numpy.arange(len(runs)) != row)), "seed"), False
+            ),
             "NaN of a speed": (lambda: trlab.means(runs.assign(speed=in_row(numpy.nan, 1)), "seed"), False),
             "infinite": (lambda: trlab.means(runs.assign(speed=numpy.inf), "seed"), False),
             "None": (lambda: trlab.means(runs.assign(x=in_row(None, 1)), "seed"), False),
-            "NA": (lambda: trlab.means(runs.assign(x=pandas.array(in_row(pandas.NA, 1), dtype="Int64")), "seed"), False),
+            "NA": (
+                lambda: trlab.means(runs.assign(x=pandas.array(in_row(pandas.NA, 1), dtype="Int64")), "seed"), False
+            ),
             "own sem": (lambda: trlab.means(runs.assign(flow_sem=0.0), "seed"), False),
             "own n": (lambda: trlab.means(runs.assign(n=7), "seed"), False),
-            "missing run": (lambda: trlab.means(runs.iloc[others], "seed"),
-                            is_one_seed and not is_one or len(runs) == study.seeds > 1),
+            "missing run": (
+                lambda: trlab.means(runs.iloc[others], "seed"),
+                is_one_seed and not is_one or len(runs) == study.seeds > 1,
+            ),
             "doubled": (lambda: trlab.means(pandas.concat([runs, runs.iloc[[row]]]), "seed"), False),
-            "doubled under another name": (lambda: trlab.means(pandas.concat({"a": runs, "b": runs}, names=["of"]),
-                                                               ["of", "seed"]), False),
+            "doubled under another name": (
+                lambda: trlab.means(pandas.concat({"a": runs, "b": runs}, names=["of"]), ["of", "seed"]), False
+            ),
             "other length": (lambda: trlab.means(runs.assign(steps=in_row(1, 2)), "seed"), is_one_seed),
             "other cars": (lambda: trlab.means(runs.assign(cars=in_row(1, 2)), "seed"), is_one_seed),
             "no index": (lambda: trlab.means(flat, "seed"), False),
@@ -126,12 +150,16 @@ class Means(unittest.TestCase):
         # Parameters that are lost: harmless only if they have one value.
         is_lost_well = not group or len({place[0] for place in study.results}) == 1
         defects.update({
-            "forgotten parameter": (lambda: trlab.means(flat.set_index([*group, "seed"][1:] or ["seed"]), "seed"), is_lost_well),
-            "dropped parameter": (lambda: trlab.means(runs.droplevel(group[0]) if group else runs, "seed", unequal=True),
-                                  is_lost_well),
+            "forgotten parameter": (
+                lambda: trlab.means(flat.set_index([*group, "seed"][1:] or ["seed"]), "seed"), is_lost_well
+            ),
+            "dropped parameter": (
+                lambda: trlab.means(runs.droplevel(group[0]) if group else runs, "seed", unequal=True), is_lost_well
+            ),
             "a parameter is not a repetition": (lambda: trlab.means(runs, over=group[:1] + ["seed"]), is_lost_well),
-            "renumbered": (lambda: trlab.means(runs.assign(run=range(len(runs))).set_index("run"), "run"),
-                           len(runs) == study.seeds),
+            "renumbered": (
+                lambda: trlab.means(runs.assign(run=range(len(runs))).set_index("run"), "run"), len(runs) == study.seeds
+            ),
         })
         for name, (defect, is_harmless) in defects.items():
             if is_harmless:
@@ -142,9 +170,10 @@ class Means(unittest.TestCase):
 
     @FEW
     @given(studies(), st.data())
-    def test_a_failed_choice_is_seen(self, study, data):
+    def test_a_failed_choice_is_reported(self, study, data):
         place = data.draw(st.sampled_from(list(study.results)))
-        for failed in {**study.results, place: OSError("gone")}, {at: its for at, its in study.results.items() if at != place}:
+        others = {other: rows for other, rows in study.results.items() if other != place}
+        for failed in {**others, place: OSError("gone")}, others:
             frame = tidy(failed, study.fields, study.runs, keep=True)
             (error,) = frame["error"].dropna()
             self.assertIn(error, ("OSError: gone", "no result yet"))
@@ -158,70 +187,74 @@ class Means(unittest.TestCase):
         for (_, run), rows in zip(runs.iterrows(), study.results.values()):
             for name in COUNTS[2:] + LANE_SUMS:
                 self.assertEqual(run[name], sum(getattr(row, name) for row in rows))
-            self.assertEqual((run.windows, run.cars), (len(rows), rows[0].cars))
+            self.assertEqual(run.windows, len(rows))
+            self.assertEqual(run.cars, rows[0].cars)
 
     def test_a_missing_window_is_an_error(self):
-        rows = [trlab.Window(10 * at, 1, 10, 10, 5, 0, 0, 0, *[0] * 6) for at in (1, 2, 3)]
+        rows = [window_until(step) for step in (10, 20, 30)]
         frame = tidy({(0,): trlab.Table(trlab.Window, rows)}, ["seed"], {(0,): known(0)})
         self.assertRaisesRegex(FrameError, "do not follow each other at step 30", trlab.per_run, frame.iloc[[0, 2]])
         self.assertEqual(list(trlab.per_run(frame.iloc[1:]).steps), [20])
 
     def test_windows_that_cannot_be_added_up(self):
-        rows = [trlab.Window(10 * at, 1, 10, 10, 5, 0, 0, 0, *[0] * 6) for at in (1, 2, 3, 4)]
+        rows = [window_until(step) for step in (10, 20, 30, 40)]
         frame = tidy({(0,): trlab.Table(trlab.Window, rows)}, ["seed"], {(0,): known(0)})
         self.assertRaisesRegex(FrameError, r"cannot add up \['gap'\]", trlab.per_run, frame.assign(gap=1))
         self.assertRaisesRegex(FrameError, "cannot add up", trlab.per_run, frame.drop(columns="distance"))
         for name in "distance", "stopped0", "cars":
-            self.assertRaisesRegex(FrameError, f"`{name}` has 1 values that are missing", trlab.per_run,
-                                   frame.assign(**{name: [1, math.nan, 1, 1]}))
-        two = frame.assign(key=["a", "a", "b", "b"])
-        self.assertRaisesRegex(FrameError, "windows of different steps", trlab.per_run, two)
+            self.assertRaisesRegex(
+                FrameError, f"`{name}` has 1 values that are missing", trlab.per_run,
+                frame.assign(**{name: [1, math.nan, 1, 1]}),
+            )
+        of_two_keys = frame.assign(key=["a", "a", "b", "b"])
+        self.assertRaisesRegex(FrameError, "windows of different steps", trlab.per_run, of_two_keys)
 
     def test_without_cars_only_values_per_car_are_missing(self):
-        frame = pandas.DataFrame({"seed": [0, 1], "key": list("ab"), "road": 0, "ensemble": "e", "cars": 0,
-                                  "flow": [0.0, math.nan],
-                                  "speed": math.nan}).set_index("seed")
+        frame = runs_by_seed(cars=[0, 0], flow=[0.0, math.nan], speed=[math.nan, math.nan])
         self.assertRaisesRegex(FrameError, "`flow` has 1 values", trlab.means, frame, "seed")
         self.assertTrue(math.isnan(trlab.means(frame, "seed", of="speed").speed[0]))
 
     def test_the_missing_run_is_named(self):
-        frame = pandas.DataFrame({"p": [1, 1, 2], "seed": [0, 1, 0], "key": list("abc"), "road": 0, "ensemble": list("xxy"),
-                                  "x": 0.0})
+        frame = pandas.DataFrame(
+            {"p": [1, 1, 2], "seed": [0, 1, 0], "key": list("abc"), "road": 0, "ensemble": list("xxy"), "x": 0.0}
+        )
         with self.assertRaisesRegex(FrameError, r"p=2 \(without seed=1\)"):
             trlab.means(frame.set_index(["p", "seed"]), "seed")
 
     def test_counts_are_averaged_on_request(self):
-        frame = pandas.DataFrame({"seed": [0, 1], "key": list("ab"), "road": 0, "ensemble": "e", "distance": [4, 6],
-                                  "distance0": [1, 3],
-                                  "windows": 2, "x": 1.0}).set_index("seed")
+        frame = runs_by_seed(distance=[4, 6], distance0=[1, 3], windows=[2, 2], x=[1.0, 1.0])
         self.assertEqual(list(trlab.means(frame, "seed")), ["n", "x", "x_sem"])
-        self.assertEqual(trlab.means(frame, "seed", of="distance").iloc[0].to_dict(), {"n": 2, "distance": 5, "distance_sem": 1})
+        self.assertEqual(
+            trlab.means(frame, "seed", of="distance").iloc[0].to_dict(), {"n": 2, "distance": 5, "distance_sem": 1}
+        )
 
     def test_runs_with_one_name(self):
-        frame = pandas.DataFrame({"seed": [0, 0], "key": list("ab"), "road": 0, "ensemble": "e",
-                                  "x": [1.0, 2.0]}).set_index("seed")
+        frame = pandas.DataFrame(
+            {"seed": [0, 0], "key": list("ab"), "road": 0, "ensemble": "e", "x": [1.0, 2.0]}
+        ).set_index("seed")
         self.assertRaisesRegex(FrameError, "two rows are seed=0", trlab.means, frame, "seed")
 
     def test_a_level_may_have_missing_values(self):
-        frame = pandas.DataFrame({"p": [None, None, 1.0, 1.0], "seed": [0, 1] * 2, "key": list("abcd"), "road": 0,
-                                  "ensemble": "e",
-                                  "x": [1.0, 3.0, 5.0, 7.0]}).set_index(["p", "seed"])
+        columns = {"p": [None, None, 1.0, 1.0], "seed": [0, 1] * 2, "key": list("abcd"), "x": [1.0, 3.0, 5.0, 7.0]}
+        frame = pandas.DataFrame({**columns, "road": 0, "ensemble": "e"}).set_index(["p", "seed"])
         self.assertEqual(list(trlab.means(frame, "seed").x), [2, 6])
 
     def test_a_frame_without_rows_or_numbers(self):
-        frame = pandas.DataFrame({"seed": [0, 1], "key": list("ab"), "road": 0, "ensemble": "e", "x": "a"}).set_index("seed")
+        frame = runs_by_seed(x=["a", "a"])
         self.assertRaisesRegex(FrameError, "no rows", trlab.means, frame[:0], "seed")
         self.assertRaisesRegex(FrameError, "no column of numbers", trlab.means, frame, "seed")
         self.assertRaisesRegex(FrameError, "`over` is the name", trlab.means, frame, [])
 
     def test_equal_values_have_no_error(self):
         mean, sem = mean_and_sem(numpy.array([0.1, 7.0, 0.1, 0.1]), numpy.array([0, 1, 0, 0]))
-        self.assertEqual((list(mean), sem[0]), ([0.1, 7.0], 0.0))
+        self.assertEqual(list(mean), [0.1, 7.0])
+        self.assertEqual(sem[0], 0.0)
         self.assertTrue(math.isnan(sem[1]))
 
     def test_a_large_offset_costs_no_digits(self):
         mean, sem = mean_and_sem(1e9 + numpy.array([0.0, 1.0] * 50), numpy.zeros(100, dtype=int))
-        self.assertEqual((mean[0], round(sem[0], 12)), (1e9 + 0.5, round(statistics.stdev([0.0, 1.0] * 50) / 10, 12)))
+        self.assertEqual(mean[0], 1e9 + 0.5)
+        self.assertEqual(round(sem[0], 12), round(statistics.stdev([0.0, 1.0] * 50) / 10, 12))
 
 
 class Misreadings(unittest.TestCase):
@@ -236,9 +269,10 @@ class Misreadings(unittest.TestCase):
     def test_the_error_of_a_mean_is_that_over_runs(self):
         frame = self.frame()
         self.assertRaisesRegex(FrameError, "windows of one run are correlated", trlab.means, frame, "step")
-        found = trlab.means(trlab.per_run(frame), "seed").iloc[0]
+        means = trlab.means(trlab.per_run(frame), "seed").iloc[0]
         flows = [job.series(every=40)[0].flow for job in Grid(self.job, density=[0.2], seed=range(4)).inputs.values()]
-        self.assertEqual((found.n, round(found.flow_sem, 12)), (4, round(statistics.stdev(flows) / 2, 12)))
+        self.assertEqual(means.n, 4)
+        self.assertEqual(round(means.flow_sem, 12), round(statistics.stdev(flows) / 2, 12))
         by_window = trlab.means(frame, "seed")
         self.assertRaisesRegex(FrameError, "are they means already", trlab.means, by_window, "step")
 
@@ -246,11 +280,14 @@ class Misreadings(unittest.TestCase):
         frame = self.frame(lambda job: {"count": 7, "x": 1.0, "x_sem": 0.001})
         self.assertEqual(list(frame["count"]), [7] * 4)
         self.assertRaisesRegex(FrameError, "`x_sem` would be overwritten", trlab.means, frame, "seed")
-        self.assertRaisesRegex(FrameError, "`n` would be overwritten", trlab.means, frame.rename(columns={"count": "n"}), "seed",
-                               of="n")
+        self.assertRaisesRegex(
+            FrameError, "`n` would be overwritten", trlab.means, frame.rename(columns={"count": "n"}), "seed", of="n"
+        )
 
     def test_a_parameter_and_a_result_of_one_name(self):
-        self.assertRaisesRegex(FrameError, "give measured values another name", self.frame, lambda job: {"density": 0.9999})
+        self.assertRaisesRegex(
+            FrameError, "give measured values another name", self.frame, lambda job: {"density": 0.9999}
+        )
         self.assertRaisesRegex(FrameError, "give it another name", self.frame, lambda job: {"seed": 1})
 
     def test_the_density_is_that_of_the_road(self):
@@ -266,16 +303,21 @@ class Misreadings(unittest.TestCase):
         self.assertTrue(math.isnan(speeds.mean()))
 
     def test_numbers_of_numpy_and_missing_ones(self):
-        frame = self.frame(lambda job: {"x": numpy.int64(job.count()), "y": numpy.nan, "z": None, "flag": numpy.bool_(True)})
+        frame = self.frame(
+            lambda job: {"x": numpy.int64(job.count()), "y": numpy.nan, "z": None, "flag": numpy.bool_(True)}
+        )
         self.assertEqual(trlab.means(frame, "seed", of=["x", "flag"]).x[0.2], 10)
         for name in "y", "z":
-            self.assertRaisesRegex(FrameError, f"`{name}` has 4 values that are missing", trlab.means, frame, "seed", of=name)
+            self.assertRaisesRegex(
+                FrameError, f"`{name}` has 4 values that are missing", trlab.means, frame, "seed", of=name
+            )
         self.assertRaisesRegex(FrameError, "missing or not finite", trlab.means, frame, "seed")
 
     def test_one_value_does_not_remove_a_column(self):
         for odd in {"x": None}, {}, {"x": "a"}:
-            frame = self.frame(lambda job: {"x": 1.0} if job.key % 3 else {"y": 0, **odd}, seed=range(9)).drop(columns="y")
-            self.assertRaises(FrameError, trlab.means, frame, "seed")
+            frame = self.frame(lambda job: {"x": 1.0} if job.key % 3 else {"y": 0, **odd}, seed=range(9))
+            frame = frame.drop(columns="y")
+            self.assertRaisesRegex(FrameError, "missing or not finite|not numbers", trlab.means, frame, "seed")
 
     def test_a_choice_without_rows_does_not_vanish(self):
         def windows(job):
@@ -300,8 +342,9 @@ class Misreadings(unittest.TestCase):
     def test_the_error_of_one_long_run(self):
         flows, naive, blocks = [], [], []
         for key in range(20):
-            table = Job(limit=5, length=100, density=0.12, rule=Nasch(0.25), steps=9000, key=key,
-                        start=random_cells(key)).series(every=5, first=1000)
+            table = Job(
+                limit=5, length=100, density=0.12, rule=Nasch(0.25), steps=9000, key=key, start=random_cells(key)
+            ).series(every=5, first=1000)
             flow = table.to_pandas().flow
             flows.append(flow.mean())
             naive.append(flow.sem())
@@ -320,11 +363,16 @@ class Misreadings(unittest.TestCase):
 
 class NumpyTwo(unittest.TestCase):
     def test_means_by_the_promotion_of_numpy_2(self):
-        words = [sys.executable, "-B", "-m", "unittest", "-q", "tests.test_frames.Means.test_equal_plain_python_in_any_order",
-                 "tests.test_frames.Means.test_equal_values_have_no_error", "tests.test_tidy", "tests.test_units"]
-        place = {**os.environ, "NPY_PROMOTION_STATE": "weak"}
-        found = subprocess.run(words, cwd=Path(__file__).parents[1], env=place, capture_output=True, text=True)
-        self.assertEqual(found.returncode, 0, found.stderr)
+        command = [
+            sys.executable, "-B", "-m", "unittest", "-q",
+            "tests.test_frames.Means.test_equal_plain_python_in_any_order",
+            "tests.test_frames.Means.test_equal_values_have_no_error", "tests.test_tidy", "tests.test_units",
+        ]
+        environment = {**os.environ, "NPY_PROMOTION_STATE": "weak"}
+        process = subprocess.run(
+            command, cwd=Path(__file__).parents[1], env=environment, capture_output=True, text=True
+        )
+        self.assertEqual(process.returncode, 0, process.stderr)
 
 
 class Strangers(unittest.TestCase):
@@ -367,10 +415,12 @@ class Strangers(unittest.TestCase):
         for call in trlab.to_si, trlab.per_run:
             self.assertRaisesRegex(FrameError, "`speed` is not what the counts", call, wrong)
         runs = trlab.per_run(frame)
-        self.assertRaisesRegex(FrameError, "`flow` is between 0 and 1", trlab.means, runs.assign(flow=runs.flow * 1e6), "seed")
-        one = frame.loc[frame.groupby("seed").flow.idxmax()]
-        if one.index.get_level_values("step").nunique() > 1:
-            self.assertRaisesRegex(FrameError, "windows of different steps", trlab.per_run, one)
+        self.assertRaisesRegex(
+            FrameError, "`flow` is between 0 and 1", trlab.means, runs.assign(flow=runs.flow * 1e6), "seed"
+        )
+        best_windows = frame.loc[frame.groupby("seed").flow.idxmax()]
+        if best_windows.index.get_level_values("step").nunique() > 1:
+            self.assertRaisesRegex(FrameError, "windows of different steps", trlab.per_run, best_windows)
 
     def test_repetitions_without_random_numbers_are_all_the_same(self):
         def make(rule, start, seed, key):
@@ -388,7 +438,9 @@ class Strangers(unittest.TestCase):
         def make(limit, seed, key):
             return Job(limit=5, length=100, cars=20, rule=Nasch(0.25), steps=40, key=key)
 
-        self.assertRaisesRegex(ParameterError, "`limit` is 3, and the input has 5", Grid, make, limit=[3], seed=range(2))
+        self.assertRaisesRegex(
+            ParameterError, "`limit` is 3, and the input has 5", Grid, make, limit=[3], seed=range(2)
+        )
 
 
 if __name__ == "__main__":

@@ -6,14 +6,15 @@ from dataclasses import replace
 from fractions import Fraction
 from pathlib import Path
 
+from tests.expected import ALWAYS, QUARTER
 from trlab import Job, Nasch, Own, ParameterError, RejectedInputError, Rickert, SlowToStart, Sweep, TrlabWarning
 from trlab import check, explain
 
 TOP = Path(__file__).resolve().parents[2]
 ZERO = f"key {64 * '0'}\n"
-JOB = f"road 1\n{ZERO}limit 5\nlane 0..3.\nrule nasch 536870912\nsteps 9\n"
+JOB = f"road 1\n{ZERO}limit 5\nlane 0..3.\nrule nasch {QUARTER}\nsteps 9\n"
 TWO = JOB.replace("lane 0..3.\n", "lane 0..3.\nlane .....\n")
-SWEEP = f"sweep 1\n{ZERO}limit 5\nlength 9\nlanes 1\nrule vdr 1 2147483648\nwarm 0\nmeasure 4\ncars 3\ncars 0\n"
+SWEEP = f"sweep 1\n{ZERO}limit 5\nlength 9\nlanes 1\nrule vdr 1 {ALWAYS}\nwarm 0\nmeasure 4\ncars 3\ncars 0\n"
 STOP = "num r0, 0\ngo r0\n"
 GO = "code 54524c4201000200" + "0100000000000000" + "1400000000000000"  # the bytes of STOP
 STAY = "code 54524c4201010100" + "1600000000000000"
@@ -21,8 +22,8 @@ STAY = "code 54524c4201010100" + "1600000000000000"
 
 def files(*kinds):
     """The input files of the examples and the studies."""
-    found = [*(TOP / "examples").iterdir(), *(TOP / "studies").glob("*/texts/*")]
-    return sorted(path for path in found if path.suffix in kinds)
+    paths = [*(TOP / "examples").iterdir(), *(TOP / "studies").glob("*/texts/*")]
+    return sorted(path for path in paths if path.suffix in kinds)
 
 
 class Files(unittest.TestCase):
@@ -30,9 +31,9 @@ class Files(unittest.TestCase):
         warnings.simplefilter("ignore", TrlabWarning)
 
     def test_every_file_of_the_repository_again(self):
-        for kind, suffix, least in (Job, ".job", 40), (Sweep, ".sweep", 80):
+        for kind, suffix, minimum in (Job, ".job", 40), (Sweep, ".sweep", 80):
             paths = files(suffix)
-            self.assertGreater(len(paths), least)
+            self.assertGreater(len(paths), minimum)
             for path in paths:
                 self.assertEqual(kind.read(path).text().encode(), path.read_bytes(), path)
 
@@ -41,33 +42,38 @@ class Files(unittest.TestCase):
         text = text.replace("lane 0..3.\n", "lane 0..3.\nlane .z...\n").replace("limit 5", "limit 35")
         at = {0: Rickert(0, Fraction(1, 2**31)), 3: Own("motion\n" + STOP), 7: Own(GO)}
         job = Job(limit=35, start=["0..3.", ".z..."], rule=Nasch(Fraction(1, 4)), steps=9, at=at)
-        self.assertEqual((Job.from_text(text), job.text()), (job, text))
+        self.assertEqual(Job.from_text(text), job)
+        self.assertEqual(job.text(), text)
         self.assertEqual(Job.from_text(text).run(), job.run())
 
     def test_a_sweep_is_one_that_python_can_write(self):
         sweep = Sweep(limit=5, length=9, rule=SlowToStart(Fraction(1, 2**31), 1), warm=0, measure=4, cars=[3, 0])
-        self.assertEqual((Sweep.from_text(SWEEP), sweep.text()), (sweep, SWEEP))
+        self.assertEqual(Sweep.from_text(SWEEP), sweep)
+        self.assertEqual(sweep.text(), SWEEP)
         self.assertEqual(Sweep.from_text(SWEEP).sweep(), sweep.sweep())
 
     def test_programs_with_everything_that_they_may_contain(self):
         for motion in "", "\n", "\n\n", "; a comment \u00e9 \u2028 \x0b\r\n", "  \n":
             for after in "", "\n", "\n\n", "; end\n", "end ; of it\n", " end\n":
                 for change in "", "change\nstay\nend\n", "change\n\nstay\n\n\nend\n", STAY + "\n":
-                    text = TWO.replace("rule nasch 536870912\n", f"rule own\nmotion\n{motion}{STOP}{after}end\n{change}")
+                    text = TWO.replace(
+                        f"rule nasch {QUARTER}\n", f"rule own\nmotion\n{motion}{STOP}{after}end\n{change}"
+                    )
                     if "fault line" in explain(text):
-                        self.assertRaises(RejectedInputError, Job.from_text, text)
+                        self.assertRaisesRegex(RejectedInputError, "^fault line ", Job.from_text, text)
                     else:
                         self.assertEqual(Job.from_text(text).text(), text)
-        both = TWO.replace("rule nasch 536870912\n", f"rule own\n{GO}\nchange\nstay\nend\n")
+        both = TWO.replace(f"rule nasch {QUARTER}\n", f"rule own\n{GO}\nchange\nstay\nend\n")
         self.assertEqual(Job.from_text(both).rule, Own(GO, "change\nstay\n"))
 
-    def test_keys(self):
+    def test_keys_keep_their_form(self):
         for digits, key in (63 * "0" + "7", 7), (64 * "f", 2**256 - 1), (64 * "F", 64 * "F"), (32 * "aB", 32 * "aB"):
             for kind, text in (Job, JOB), (Sweep, SWEEP):
-                read = kind.from_text(text.replace(64 * "0", digits))
-                self.assertEqual((read.key, read.text()), (key, text.replace(64 * "0", digits)))
+                made = kind.from_text(text.replace(64 * "0", digits))
+                self.assertEqual(made.key, key)
+                self.assertEqual(made.text(), text.replace(64 * "0", digits))
 
-    def test_paths(self):
+    def test_files_are_read_by_their_paths(self):
         with tempfile.TemporaryDirectory() as folder:
             path = Path(folder) / "a.job"
             path.write_bytes(JOB.encode())
@@ -75,7 +81,7 @@ class Files(unittest.TestCase):
             path.write_bytes(JOB.encode()[:-1] + b"\xff\n")
             self.assertRaisesRegex(ParameterError, "not in UTF-8", Job.read, path)
             path.write_bytes(JOB.replace("\n", "\r\n").encode())
-            self.assertRaises(RejectedInputError, Job.read, path)
+            self.assertRaisesRegex(RejectedInputError, "^fault line ", Job.read, path)
             self.assertRaises(FileNotFoundError, Job.read, Path(folder) / "b.job")
         for kind, text in (Job, JOB), (Sweep, SWEEP):
             self.assertRaisesRegex(ParameterError, f"{kind.__name__}.from_text", kind.read, text)
@@ -87,15 +93,17 @@ class Rejected(unittest.TestCase):
         for text, line in (JOB.replace("limit 5", "limit 2"), 4), (late, 7), (SWEEP, 1), ("", 1), ("road 1\n", 2):
             with self.assertRaises(RejectedInputError) as caught:
                 Job.from_text(text)
-            self.assertEqual((caught.exception.line, caught.exception.explanation), (line, explain_as("run", text)))
+            self.assertEqual(caught.exception.line, line)
+            self.assertEqual(caught.exception.explanation, explain_as("run", text))
         with self.assertRaises(RejectedInputError) as caught:
             Sweep.from_text(SWEEP + "cars 10\n")
-        self.assertEqual((caught.exception.line, caught.exception.explanation), (11, explain_as("sweep", SWEEP + "cars 10\n")))
+        self.assertEqual(caught.exception.line, 11)
+        self.assertEqual(caught.exception.explanation, explain_as("sweep", SWEEP + "cars 10\n"))
 
     def test_an_input_is_a_string(self):
         for call in Job.from_text, Sweep.from_text, explain, check:
-            for other in JOB.encode(), None, 5:
-                self.assertRaisesRegex(ParameterError, "text, not ", call, other)
+            for value in JOB.encode(), None, 5:
+                self.assertRaisesRegex(ParameterError, "text, not ", call, value)
 
     def test_a_missing_line_feed_is_reported(self):
         self.assertRaisesRegex(ParameterError, "does not end with a line feed", Job.from_text, JOB[:-1])
@@ -113,11 +121,11 @@ try:
 except ImportError:
     pass
 else:
-    PARTS = st.integers(0, 2**31).map(lambda it: Fraction(it, 2**31))
+    PARTS = st.integers(0, 2**31).map(lambda numerator: Fraction(numerator, 2**31))
     SHARES = st.one_of(PARTS, st.floats(1e-9, 1 - 1e-9), st.sampled_from(["1/3", "0.1", 0, 1]))
     MOTIONS = st.sampled_from(["motion\n" + STOP, STOP, "\n\n" + STOP[:-1], STOP + "\n\n", "; a note\n" + STOP, GO])
     CHANGES = st.sampled_from([None, "change\nstay\n", "stay", "stay\n\n", STAY])
-    KEYS = st.one_of(st.integers(0, 2**256 - 1), st.integers(0, 2**256 - 1).map(lambda it: f"{it:064X}"))
+    KEYS = st.one_of(st.integers(0, 2**256 - 1), st.integers(0, 2**256 - 1).map(lambda number: f"{number:064X}"))
 
     def rules(lanes):
         own = st.builds(Own, MOTIONS, CHANGES if lanes == 2 else st.none())
@@ -143,18 +151,19 @@ else:
 
     class Random(unittest.TestCase):
         def again(self, made):
-            read = type(made).from_text(made.text())
-            self.assertEqual((read.text(), hash(read)), (made.text(), hash(replace(read))))
-            self.assertEqual(type(read).from_text(read.text()), read)
+            read_again = type(made).from_text(made.text())
+            self.assertEqual(read_again.text(), made.text())
+            self.assertEqual(hash(read_again), hash(replace(read_again)))
+            self.assertEqual(type(read_again).from_text(read_again.text()), read_again)
 
         @settings(deadline=None, database=None, derandomize=True, max_examples=150)
         @given(jobs())
-        def test_jobs(self, job):
+        def test_random_jobs_are_read_again(self, job):
             self.again(job)
 
         @settings(deadline=None, database=None, derandomize=True, max_examples=100)
         @given(sweeps())
-        def test_sweeps(self, sweep):
+        def test_random_sweeps_are_read_again(self, sweep):
             self.again(sweep)
 
 

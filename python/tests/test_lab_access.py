@@ -4,6 +4,7 @@ import unittest
 
 from tests.browsers import Keys, Window, missing
 from tests.lab_pages import OnPage
+from trlab import Job, Rickert, SlowToStart
 from trlab._results.tables import Window as Row, Table
 from trlab._runs.calls import ask
 
@@ -165,6 +166,25 @@ class ForEveryone(OnPage):
         wanted = f"{row.step}{row.flow:.4f}{row.speed:.3f}{row.stopped_share:.3f}"
         self.has(wanted, lambda: self.page.js("return document.querySelector('#rows tr').textContent"))
         self.hold(lambda: f"Step {row.step}: flow" in self.page.text("silent"))
+
+    def test_numbers_are_not_cut(self):
+        page = Window(self.browser, self.lab.address, 400, 800)
+        try:
+            self.assertTrue(page.holds(lambda: page.js("return window.lab?.player.step >= 0")))
+            for rule in SlowToStart("1/64", "1/3"), Rickert("2/3", "1/7"):
+                text = Job(limit=5, lanes=2, length=30, cars=17, rule=rule, steps=400).text()
+                page.js("lab.open('a.job', arguments[0])", text)
+                self.assertTrue(page.holds(lambda: page.job() == text and not page.js("return lab.isWriting")))
+                self.assertEqual(page.value("density"), "0.283333")
+                cut = page.js("return [...document.querySelectorAll('.field input.number')].filter(it => it.scrollWidth > it.clientWidth).map(it => it.value)")
+                self.assertEqual(cut, [])
+            # A choice has an arrow on the right, for which 24 pixels are enough.
+            cut = page.js("""const select = document.getElementById('example'), pen = document.createElement('canvas').getContext('2d');
+                pen.font = getComputedStyle(select).font;
+                return [...select.options].filter(it => pen.measureText(it.text).width > select.clientWidth - 24).map(it => it.text)""")
+            self.assertEqual(cut, [])
+        finally:
+            page.close()
 
     def test_a_narrow_page_without_motion(self):
         page = Window(self.browser, self.lab.address, 400, 800, calm=True)

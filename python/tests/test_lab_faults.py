@@ -111,7 +111,8 @@ class Faults(OnPage):
         self.page.click("again")
         self.type("#p", "1/3")
         self.has_job(job_of(rule=Nasch("1/3")))
-        self.has(["0.3333333333", False, "", "alert"], lambda: self.box("#p"))
+        self.has(["1/3", False, "", "alert"], lambda: self.box("#p"))
+        self.has(["1/3", "0.3333333333"], lambda: [self.page.value("p"), str(self.page.js("return lab.job.rules[0].p"))])
         for selector, text, wanted in (
             (".lead [data-set=p]", "1/4", {}), ("#p", " 5e-1", {"rule": Nasch(0.5)}), ("#p", ".25", {}), ("#density", "1/3", {"cars": 333}),
             ("#cars", "150", {}), (".lead [data-set=length]", "2000", {"length": 2000, "cars": 300}),

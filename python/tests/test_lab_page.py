@@ -54,6 +54,24 @@ class Playing(OnPage):
                 }))""")
             self.assertEqual(["".join(colours.get(it, ".") for it in row) for row in ring], list(found[step].lanes))
 
+    def test_a_short_run_is_drawn_as_a_whole(self):
+        for length, steps, wanted in (10, 4, 60), (60, 20, 14), (80, 40, 7), (300, 200, 3), (1000, 100, 1):
+            with self.subTest(length=length, steps=steps):
+                self.open(Job(limit=5, length=length, cars=5, rule=Nasch(0.25), steps=steps).text())
+                self.hold(lambda: self.page.js("const {length, steps} = lab.player.film; return [length, steps]") == [length, steps])
+                self.run_to(steps)
+                high, top = self.page.js("const {high, top} = lab.rows(); return [high, top]")
+                self.assertEqual((high, top), (wanted, max(0, steps + 1 - 300 // wanted)))
+                self.assertEqual(self.page.text("axes"), f"Across: cells 0 to {length - 1}. Down: steps {top} to {steps}.")
+
+    def test_the_flow_is_an_average_over_steps(self):
+        self.open(Job(limit=5, length=60, cars=6, start=trlab.moving, rule=Nasch(0), steps=12).text())
+        self.hold(lambda: self.page.js("return lab.player.film.length") == 60)
+        for step in 1, 12:
+            self.run_to(step)
+            self.page.js("lab.player.show(arguments[0])", step)
+            self.has(["0.500", "5.00"], lambda: [self.page.text("flow"), self.page.text("speed")])
+
     def test_cars_move_between_steps(self):
         self.open(Job(limit=5, length=100, cars=1, rule=Nasch(0), steps=400).text())
         self.hold(lambda: self.page.js("return lab.job.length") == 100)

@@ -12,7 +12,7 @@ import trlab
 from tests.page_scripts import MISSING, Thrown, answer, answers
 from trlab import Job, Nasch, Own, ParameterError, Rickert, SlowToStart, Sweep
 from trlab._inputs.numbers import ALWAYS, parts, probability
-from trlab._inputs.states import halved, lanes_are_told
+from trlab._inputs.states import halved, no_warning_of_lanes
 from trlab.lab import scripts
 
 EXAMPLES = Path(__file__).resolve().parents[2] / "examples"
@@ -39,7 +39,7 @@ def job_of(controls):
         road = {name: controls[name] for name in ("length", "lanes", "cars")}
         road["start"] = STATES[controls["start"]](int(controls.get("seed", controls["key"])))
     at = {rule["at"]: rule_of(rule, controls["lanes"]) for rule in later}
-    with lanes_are_told():
+    with no_warning_of_lanes():
         return Job(
             limit=controls["limit"], steps=controls["steps"], key=int(controls["key"]), rule=rule_of(first, controls["lanes"]), at=at, **road
         )

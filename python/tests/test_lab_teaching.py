@@ -58,6 +58,12 @@ class Teaching(OnPage):
             self.assertEqual(len(re.findall(r"[.](?= |$)", self.page.text("about").partition(link[2])[0])), 2)
         self.assertEqual(self.page.js("return document.getElementById('model').getAttribute('aria-describedby')"), "about")
 
+    def test_the_model_of_a_file_is_explained(self):
+        for rule, word in (SlowToStart("1/8", "3/4"), "stopped cars"), (Nasch("1/4"), "random braking"):
+            self.show_job(rule=rule)
+            self.hold(lambda: word in self.page.text("about"))
+            self.assertTrue(self.page.js("return document.getElementById('about').checkVisibility()"), word)
+
     def test_every_example_has_a_name_and_a_sentence(self):
         listed = self.page.js("return [...document.querySelectorAll('#example option')].slice(1).map(it => [it.value, it.textContent, it.parentNode.label])")
         self.assertCountEqual([value for value, _, _ in listed if "." in value], self.examples())
@@ -67,6 +73,21 @@ class Teaching(OnPage):
         for name in "queue.job", "nasch.rule":
             self.choose(name)
             self.hold(lambda: self.page.text("story").endswith(f". {name}"))
+
+    def test_there_is_time_to_watch_an_example(self):
+        examples = ("two_cars.job", 4, "1"), ("queue.job", 20, "2"), ("jams.job", 200, "19"), ("nasch.rule", 200, "19"), ("triangle.sweep", 5000, "33")
+        for example, steps, wanted in examples:
+            self.choose(example)
+            self.has([steps, wanted], lambda: [self.page.js("return lab.job.steps"), self.page.text("rateout")])
+
+    def test_the_road_of_a_sweep_shows_its_phenomenon(self):
+        self.choose("lane_rule.sweep")
+        self.hold(lambda: self.page.value("cars") == "60" and self.page.js("return lab.job.lanes") == 2)
+        self.run_to(100)
+        one, other = self.page.js("return lab.player.film.of(100).densities")
+        self.assertGreater(one, 1.5 * other)
+        self.choose("two_lanes.sweep")
+        self.has("150", lambda: self.page.value("cars"))
 
     def test_hysteresis_is_an_example(self):
         self.page.set("warm", 2)
@@ -109,6 +130,14 @@ class Teaching(OnPage):
         self.assertIn("flow 0.400, v_max 5, 1000 cells", self.page.js("return document.querySelector('path.point title').textContent"))
         self.assertEqual(self.page.js("return document.querySelectorAll('path.point').length"), 1)
 
+    def test_the_legend_is_not_cut(self):
+        self.page.js("lab.marks.push({name: 'p 0.123456789, two lanes', start: 'jam', group: 1, limit: 35, length: 100000, lanes: 2, points: [{density: 0.2, flow: 0.4}]})")
+        self.page.set("units", "road")
+        self.page.set("units", "cells")
+        self.hold(lambda: "2 × 100000 cells" in self.page.text("diagram"))
+        right = self.page.js("return Math.max(...[...document.querySelectorAll('#diagram text')].map(it => { const box = it.getBBox(); return box.x + box.width; }))")
+        self.assertLessEqual(right, 360)
+
     # The followed car
 
     def test_why_a_car_brakes(self):
@@ -149,6 +178,11 @@ class Teaching(OnPage):
 
     # A disturbance by the user
 
+    def follows_in_the_new_run(self, car):
+        """Wait until the page follows a car in the run that begins with its stop."""
+        stopped = {"step": 0, "lane": car["lane"], "cell": car["cell"]}
+        self.has(stopped, lambda: self.page.js("const {film, car} = lab.player; return car && film.follow(car, 0)"))
+
     def test_a_car_brakes(self):
         text = self.show_job(rule=Nasch("1/4"), at={390: Nasch("1/2")})
         self.assertTrue(self.page.js("return document.getElementById('brake').disabled"))
@@ -163,9 +197,7 @@ class Teaching(OnPage):
         stopped = lane[:car["cell"]] + "0" + lane[car["cell"] + 1:]
         self.has_job(Job(limit=3, start=[stopped], rule=Nasch("1/4"), steps=400, key=5, at={390 - step: Nasch("1/2")}).text())
         self.hold(lambda: f"braked to a stop at step {step}." in self.page.text("story"))
-        self.hold(lambda: self.page.step() >= 0 and self.page.js("return lab.player.car !== null"))
-        followed = self.page.js("const {film, car} = lab.player; return film.follow(car, 0)")
-        self.assertEqual(followed, {"step": 0, "lane": 0, "cell": car["cell"]})
+        self.follows_in_the_new_run(car)
         self.run_to(50)
         shots = self.page.js("return lab.player.film.shots.map(it => String.fromCharCode(...it.cells))")
         self.assertEqual(shots, ["".join(it.lanes) for it in snapshots(self.page.job())][:len(shots)])
@@ -179,6 +211,7 @@ class Teaching(OnPage):
         lanes = [list(lane) for lane in snapshots(text)[step].lanes]
         lanes[car["lane"]][car["cell"]] = "0"
         self.has_job(Job(limit=3, start=["".join(lane) for lane in lanes], rule=Rickert("1/4", "1/2"), steps=400, key=5).text())
+        self.follows_in_the_new_run(car)
         self.page.keys(Keys.ESCAPE)
         self.hold(lambda: self.page.js("return lab.player.car") is None)
 

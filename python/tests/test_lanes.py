@@ -15,11 +15,11 @@ def cars_by_lane(job):
 
 
 def warnings_of(make):
-    with warnings.catch_warnings(record=True) as found:
+    with warnings.catch_warnings(record=True) as caught:
         warnings.simplefilter("always")
         make()
-    assert all(it.category is TrlabWarning and it.filename == __file__ for it in found)
-    return [str(it.message) for it in found]
+    assert all(warning.category is TrlabWarning and warning.filename == __file__ for warning in caught)
+    return [str(warning.message) for warning in caught]
 
 
 class Lanes(unittest.TestCase):
@@ -31,7 +31,9 @@ class Lanes(unittest.TestCase):
                     lanes = Job(limit=5, length=length, lanes=2, cars=cars, rule=Nasch(0), steps=0).road()
                 first, second = (sum(cell is not None for cell in lane) for lane in lanes)
                 self.assertEqual(surplus(cars, length), first - second)
-                self.assertTrue(all(0 <= it <= 2 * length and surplus(it, length) <= 1 for it in halved(cars, length)))
+                self.assertTrue(
+                    all(0 <= count <= 2 * length and surplus(count, length) <= 1 for count in halved(cars, length))
+                )
                 self.assertEqual(halved(cars, length) == [cars], surplus(cars, length) <= 1)
 
     def test_every_kind_of_input_warns(self):
@@ -48,7 +50,10 @@ class Lanes(unittest.TestCase):
                     lambda: Sweep(**SWEEP, densities=[cars / 2000], start=start),
                 ):
                     (message,) = warnings_of(make)
-                    self.assertIn(f"on two lanes of 1000 cells, {cars} cars are {first} on lane 0 and {second} on lane 1: ", message)
+                    self.assertIn(
+                        f"on two lanes of 1000 cells, {cars} cars are {first} on lane 0 and {second} on lane 1: ",
+                        message,
+                    )
                     self.assertIn(f"or {' or '.join(map(str, halved(cars, 1000)))} instead of {cars} cars", message)
                 for near in halved(cars, 1000):
                     self.assertEqual(warnings_of(lambda: Job(**JOB, cars=near, start=start)), [])
@@ -57,13 +62,17 @@ class Lanes(unittest.TestCase):
         def study():
             for start in even, moving:
                 sweep = Sweep(**SWEEP, cars=[300, 299, 100, 100, 50, 20], start=start)
-                sweep.jobs(), sweep.counts(), sweep.sweep(), sweep.jobs()[0].text(), sweep.is_of_jobs() or sweep.parts()[0].text()
+                sweep.jobs(), sweep.counts(), sweep.sweep(), sweep.jobs()[0].text()
+                sweep.is_of_jobs() or sweep.parts()[0].text()
 
         messages = warnings_of(study)
         self.assertEqual(len(messages), 2)
-        told = "300 cars are 200 on lane 0 and 100 on lane 1; 100 cars are 100 on lane 0 and 0 on lane 1; 50 cars are 50 on lane 0"
+        examples = (
+            "300 cars are 200 on lane 0 and 100 on lane 1; 100 cars are 100 on lane 0 and 0 on lane 1; 50 cars are 50 "
+            "on lane 0"
+        )
         for message in messages:
-            self.assertIn(told, message)
+            self.assertIn(examples, message)
             self.assertIn("; further uneven numbers of cars: 1: use", message)
 
     def test_a_file_warns_too(self):

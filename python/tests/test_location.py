@@ -30,18 +30,18 @@ class Named(Folder):
         return str(path)
 
     def test_all_reasons_for_a_missing_program_are_one_class(self):
-        good = b"#!/bin/sh\necho trlab 0\n"
+        working = b"#!/bin/sh\necho trlab 0\n"
         named = {
             "there is no file": [str(self.folder / "missing"), str(self.folder), "~nobody of this name/trlab"],
-            "is not executable": [self.script(good, 0o644)],
+            "is not executable": [self.script(working, 0o644)],
         }
-        for said, names in named.items():
+        for message, names in named.items():
             for name in names:
                 with self.subTest(name), mock.patch.dict(os.environ, TRLAB=name):
-                    self.assertRaisesRegex(ProgramNotFoundError, said, find_program)
+                    self.assertRaisesRegex(ProgramNotFoundError, message, find_program)
         shell = b"#!/bin/sh\n"
-        others = [shell + line for line in (b"echo other 0\n", b"exit 3\n", b"cat /dev/zero\n")]
-        for content in *others, b"#!/nowhere\n", b"\0\1\2", b"":
+        other_programs = [shell + line for line in (b"echo other 0\n", b"exit 3\n", b"cat /dev/zero\n")]
+        for content in *other_programs, b"#!/nowhere\n", b"\0\1\2", b"":
             with self.subTest(content), mock.patch.dict(os.environ, TRLAB=self.script(content)):
                 self.assertRaisesRegex(ProgramNotFoundError, "is not trlab", find_program)
         self.assertTrue(issubclass(ProgramNotFoundError, (TrlabError, FileNotFoundError)))
@@ -52,13 +52,14 @@ class Named(Folder):
             path = self.script(b"#!/bin/sh\necho trlab 0\n")
             with mock.patch("trlab._runs.processes.find_program", return_value=path):
                 change(path)
-                self.assertRaises(ProgramNotFoundError, job.run)
+                self.assertRaisesRegex(ProgramNotFoundError, "cannot be run", job.run)
 
-    def test_the_command_reports_it_in_one_line(self):
+    def test_the_command_reports_a_missing_program_in_one_line(self):
         environment = {**os.environ, "PYTHONPATH": str(PYTHON), "TRLAB": str(self.folder / "missing")}
-        ran = subprocess.run([sys.executable, "-m", "trlab"], env=environment, stderr=subprocess.PIPE, text=True)
-        self.assertEqual((ran.returncode, ran.stderr.count("\n")), (1, 1))
-        self.assertRegex(ran.stderr, "^trlab: TRLAB is ")
+        process = subprocess.run([sys.executable, "-m", "trlab"], env=environment, stderr=subprocess.PIPE, text=True)
+        self.assertEqual(process.returncode, 1)
+        self.assertEqual(process.stderr.count("\n"), 1)
+        self.assertRegex(process.stderr, "^trlab: TRLAB is ")
 
 
 class Packed(Folder):
@@ -88,31 +89,32 @@ class Packed(Folder):
 
     def test_first_use(self):
         path = self.find()
-        self.assertEqual((Path(path).parent, Path(path).read_bytes()), (self.home / "trlab", self.content))
+        self.assertEqual(Path(path).parent, self.home / "trlab")
+        self.assertEqual(Path(path).read_bytes(), self.content)
         self.assertEqual([file.name for file in (self.home / "trlab").iterdir()], [Path(path).name])
         self.assertEqual(self.find(), path)
         Path(path).write_bytes(b"damaged")
         self.assertEqual(Path(self.find()).read_bytes(), self.content)
 
     def test_a_cut_download_is_an_error(self):
-        whole = gzip.compress(self.content)
-        changed = whole[:50] + bytes(100) + whole[150:]
-        for content in whole[:-9], whole[:100], whole[:5], b"", b"no archive", changed, gzip.compress(b"other"):
+        packed = gzip.compress(self.content)
+        changed = packed[:50] + bytes(100) + packed[150:]
+        for content in packed[:-9], packed[:100], packed[:5], b"", b"no archive", changed, gzip.compress(b"other"):
             self.write(content)
             with self.subTest(length=len(content)):
                 self.assertRaisesRegex(ProgramNotFoundError, "is damaged.*install trlab again", self.find)
 
     def test_a_new_file_that_another_process_removes(self):
-        before = os.fsync
+        fsync = os.fsync
 
         def remove(handle):
             for file in (self.home / "trlab").glob(".new*"):
                 file.unlink()
-            before(handle)
+            fsync(handle)
 
         with mock.patch("trlab._runs.location.os.fsync", remove):
-            found = self.find()
-        self.assertEqual(Path(found).read_bytes(), self.content)
+            path = self.find()
+        self.assertEqual(Path(path).read_bytes(), self.content)
 
     def test_files_of_a_killed_first_use_are_removed(self):
         folder = self.home / "trlab"

@@ -16,6 +16,7 @@ from pathlib import Path
 from unittest import mock
 
 import trlab
+from tests.expected import NEEDS_TWO_LANES
 from tests.processes import PYTHON, calls, logging_program
 from tests.test_arrays import needs
 from tests.waiting import LIMIT
@@ -24,7 +25,7 @@ from trlab import Job, Nasch, RejectedInputError, Rickert, Sweep
 SHAPE = Sweep(limit=5, length=100, rule=Nasch(0.25), warm=10, measure=20, cars=[10, 20])
 SWEEPS = {f"key_{key}": replace(SHAPE, key=key) for key in range(5)}
 JOB = Job(limit=5, length=20, cars=4, rule=Nasch(0.25), steps=9)
-WRONG = replace(JOB, rule=Rickert(0, 0))
+REJECTED = replace(JOB, rule=Rickert(0, 0))
 
 
 def windows(job):
@@ -40,9 +41,9 @@ def ends_its_process(job):
 
 class Results(unittest.TestCase):
     def test_names_and_results(self):
-        self.assertEqual(dict(trlab.results(SWEEPS)), {name: it.sweep() for name, it in SWEEPS.items()})
-        found = dict(trlab.results([SHAPE, JOB]))
-        self.assertEqual(found, {0: SHAPE.sweep(), 1: JOB.run()})
+        self.assertEqual(dict(trlab.results(SWEEPS)), {name: sweep.sweep() for name, sweep in SWEEPS.items()})
+        results = dict(trlab.results([SHAPE, JOB]))
+        self.assertEqual(results, {0: SHAPE.sweep(), 1: JOB.run()})
         self.assertEqual(list(trlab.results([])), [])
         self.assertEqual(sorted(trlab.results(range(3), call=lambda number: number + 1)), [(0, 1), (1, 2), (2, 3)])
 
@@ -53,28 +54,28 @@ class Results(unittest.TestCase):
             self.assertTrue(number > 0 or is_over.wait(10))
             return number
 
-        found = trlab.results([0, 1, 2], call=call, at_once=2)
-        self.assertEqual(sorted([next(found)[0], next(found)[0]]), [1, 2])
+        results = trlab.results([0, 1, 2], call=call, at_once=2)
+        self.assertEqual(sorted([next(results)[0], next(results)[0]]), [1, 2])
         is_over.set()
-        self.assertEqual(next(found), (0, 0))
+        self.assertEqual(next(results), (0, 0))
 
     def test_the_number_of_calls_at_once(self):
-        lock, running, most, two = threading.Lock(), [], [], threading.Barrier(2, timeout=LIMIT)
+        lock, running, counts, both_run = threading.Lock(), [], [], threading.Barrier(2, timeout=LIMIT)
 
         def call(number):
             with lock:
                 running.append(number)
-                most.append(len(running))
-            two.wait()
+                counts.append(len(running))
+            both_run.wait()
             with lock:
                 running.remove(number)
 
         for options in {"at_once": 2}, {"at_once": 2, "executor": ThreadPoolExecutor(5)}:
-            most.clear()
+            counts.clear()
             self.assertEqual(len(list(trlab.results(range(12), call=call, **options))), 12)
-            self.assertEqual(max(most), 2)
+            self.assertEqual(max(counts), 2)
 
-    def test_wrong_arguments(self):
+    def test_errors_at_once_and_inputs_are_checked(self):
         self.assertRaisesRegex(ValueError, "errors", trlab.results, SWEEPS, errors="ignore")
         self.assertRaisesRegex(ValueError, "at_once", trlab.results, SWEEPS, at_once=0)
         self.assertRaisesRegex(TypeError, "input 'a'", trlab.results, {"a": "sweep 1"})
@@ -82,19 +83,22 @@ class Results(unittest.TestCase):
 
 class Exceptions(unittest.TestCase):
     def test_a_rejected_input_is_raised(self):
-        with self.assertRaises(RejectedInputError):
-            list(trlab.results({"good": JOB, "wrong": WRONG}))
-        with self.assertRaises(RejectedInputError):
-            trlab.run_all([JOB, WRONG], Job.run)
+        with self.assertRaisesRegex(RejectedInputError, "fault line 5 cause 4"):
+            list(trlab.results({"good": JOB, "wrong": REJECTED}))
+        with self.assertRaisesRegex(RejectedInputError, "fault line 5 cause 4"):
+            trlab.run_all([JOB, REJECTED], Job.run)
 
     def test_a_rejected_input_is_kept(self):
-        found = dict(trlab.results({"good": JOB, "wrong": WRONG, "also_good": replace(JOB, key=1)}, errors="keep"))
-        self.assertEqual((found["good"], found["also_good"]), (JOB.run(), replace(JOB, key=1).run()))
-        self.assertEqual((type(found["wrong"]), found["wrong"].cause), (RejectedInputError, 4))
+        results = dict(trlab.results({"good": JOB, "wrong": REJECTED, "also_good": replace(JOB, key=1)}, errors="keep"))
+        self.assertEqual(results["good"], JOB.run())
+        self.assertEqual(results["also_good"], replace(JOB, key=1).run())
+        self.assertIs(type(results["wrong"]), RejectedInputError)
+        self.assertEqual(results["wrong"].cause, NEEDS_TWO_LANES)
 
     def test_an_error_of_the_call_is_kept(self):
-        found = dict(trlab.results([1, 0], call=lambda number: 1 / number, errors="keep"))
-        self.assertEqual((found[0], type(found[1])), (1, ZeroDivisionError))
+        results = dict(trlab.results([1, 0], call=lambda number: 1 / number, errors="keep"))
+        self.assertEqual(results[0], 1)
+        self.assertIs(type(results[1]), ZeroDivisionError)
 
     def test_a_broken_executor_is_always_raised(self):
         with ProcessPoolExecutor(1, multiprocessing.get_context("fork")) as pool:
@@ -103,12 +107,12 @@ class Exceptions(unittest.TestCase):
 
 
 class Progress(unittest.TestCase):
-    def test_a_function(self):
-        told = []
-        list(trlab.results(SWEEPS, progress=lambda done, total: told.append((done, total))))
-        self.assertEqual(told, [(number, 5) for number in range(1, 6)])
+    def test_a_function_gets_the_numbers_of_inputs(self):
+        calls = []
+        list(trlab.results(SWEEPS, progress=lambda done, total: calls.append((done, total))))
+        self.assertEqual(calls, [(number, 5) for number in range(1, 6)])
 
-    def test_lines(self):
+    def test_a_line_for_each_percent(self):
         with mock.patch.object(sys, "stderr", io.StringIO()) as errors:
             list(trlab.results(range(1000), call=abs, progress=True))
             list(trlab.results(range(3), call=abs))
@@ -130,15 +134,17 @@ class Executors(unittest.TestCase):
     JOBS = {key: replace(JOB, key=key) for key in range(6)}
 
     def try_executor(self, pool):
-        wanted = {key: windows(job) for key, job in self.JOBS.items()}
+        expected = {key: windows(job) for key, job in self.JOBS.items()}
         with tempfile.TemporaryDirectory() as folder:
             kept = []
             for _ in range(2):
-                self.assertEqual(dict(trlab.results(self.JOBS, call=windows, cache=folder, executor=pool)), wanted)
+                self.assertEqual(dict(trlab.results(self.JOBS, call=windows, cache=folder, executor=pool)), expected)
                 kept.append({file.name: file.stat().st_ino for file in Path(folder).iterdir()})
-        self.assertEqual((len(kept[0]), kept[1]), (len(self.JOBS), kept[0]))
-        found = dict(trlab.results({**self.JOBS, -1: WRONG}, call=windows, executor=pool, errors="keep"))
-        self.assertEqual((type(found.pop(-1)), found), (RejectedInputError, wanted))
+        self.assertEqual(len(kept[0]), len(self.JOBS))
+        self.assertEqual(kept[1], kept[0])
+        results = dict(trlab.results({**self.JOBS, -1: REJECTED}, call=windows, executor=pool, errors="keep"))
+        self.assertIs(type(results.pop(-1)), RejectedInputError)
+        self.assertEqual(results, expected)
 
     def test_threads(self):
         with ThreadPoolExecutor(3) as pool:
@@ -174,9 +180,14 @@ class Executors(unittest.TestCase):
         if not shutil.which("mpiexec"):
             self.skipTest("mpiexec is not installed")
         script = PYTHON / "tests" / "with_mpi.py"
-        words = ["mpiexec", "--allow-run-as-root", "--oversubscribe", "-n", "3", sys.executable, "-m", "mpi4py.futures"]
-        ran = subprocess.run([*words, str(script)], stdout=subprocess.PIPE, stderr=subprocess.STDOUT, text=True, timeout=LIMIT)
-        self.assertEqual((ran.returncode, ran.stdout.strip()[-2:]), (0, "OK"), ran.stdout)
+        command = [
+            "mpiexec", "--allow-run-as-root", "--oversubscribe", "-n", "3", sys.executable, "-m", "mpi4py.futures"
+        ]
+        process = subprocess.run(
+            [*command, str(script)], stdout=subprocess.PIPE, stderr=subprocess.STDOUT, text=True, timeout=LIMIT
+        )
+        self.assertEqual(process.returncode, 0, process.stdout)
+        self.assertEqual(process.stdout.strip()[-2:], "OK", process.stdout)
 
 
 class Nested(unittest.TestCase):
@@ -188,9 +199,9 @@ class Nested(unittest.TestCase):
             program = logging_program(folder)
             with mock.patch.dict("os.environ", TRLAB=str(program)):
                 for _ in range(2):
-                    found = dict(trlab.results([0, 10], call=both, cache=f"{folder}/cache"))
+                    results = dict(trlab.results([0, 10], call=both, cache=f"{folder}/cache"))
             self.assertEqual(calls(folder, "sweep"), 4)
-        self.assertEqual(found, {place: both(10 * place) for place in range(2)})
+        self.assertEqual(results, {place: both(10 * place) for place in range(2)})
 
 
 if __name__ == "__main__":

@@ -125,15 +125,15 @@ class Forms(unittest.TestCase):
         self.assertEqual(self.module(), "".join(narrow.WIDE_TARGET.values()))
         for missing in TARGETS:
             with self.assertRaises(narrow.UnknownForm):
-                list(narrow.narrowed([it for it in TARGETS if it != missing]))
+                list(narrow.narrowed([line for line in TARGETS if line != missing]))
 
     def test_lines_that_mean_the_same_stay(self):
         self.assertEqual(self.body(*SAME.splitlines()), SAME)
 
     def test_pointers_in_memory_become_numbers(self):
-        for line, wanted in REWRITTEN.items():
+        for line, rewritten in REWRITTEN.items():
             with self.subTest(line):
-                self.assertEqual(self.body(line), "" if wanted is None else f"{wanted}\n")
+                self.assertEqual(self.body(line), "" if rewritten is None else f"{rewritten}\n")
 
     def test_each_new_name_is_new(self):
         line = "  %r1 = load ptr, ptr %r0, align 8"
@@ -143,9 +143,12 @@ class Forms(unittest.TestCase):
         for line in UNKNOWN.splitlines():
             with self.subTest(line), self.assertRaises(narrow.UnknownForm):
                 self.body(line)
-        ran = subprocess.run([sys.executable, HERE / "narrow.py"], input="".join(TARGETS) + "an instruction\n", capture_output=True, text=True)
-        self.assertEqual(ran.returncode, 1)
-        self.assertIn("an instruction", ran.stderr)
+        process = subprocess.run(
+            [sys.executable, HERE / "narrow.py"], input="".join(TARGETS) + "an instruction\n", capture_output=True,
+            text=True,
+        )
+        self.assertEqual(process.returncode, 1)
+        self.assertIn("an instruction", process.stderr)
 
     def test_each_known_form_is_rejected_with_one_more_pointer(self):
         """A type that becomes `ptr` or a vector of pointers makes a line unknown, or is rewritten, but never stays."""
@@ -180,21 +183,23 @@ int main(void) {{
 @unittest.skipUnless(HERE.is_dir() and shutil.which("gcc"), "no release/wasm, or no gcc")
 class Numbers(unittest.TestCase):
     def test_numbers_of_128_bits(self):
-        draw, most = random.Random(1), 2**64 - 1
-        words = lambda: [draw.choice((0, 1, most, 1 << 63, draw.getrandbits(64), draw.getrandbits(32))) for _ in range(4)]
-        given = [(*words(), by) for by in range(128) for _ in range(20)]
+        dice, maximum = random.Random(1), 2**64 - 1
+        four_words = lambda: [
+            dice.choice((0, 1, maximum, 1 << 63, dice.getrandbits(64), dice.getrandbits(32))) for _ in range(4)
+        ]
+        operands = [(*four_words(), by) for by in range(128) for _ in range(20)]
         with tempfile.TemporaryDirectory() as folder:
             source, program = Path(folder, "numbers.c"), Path(folder, "numbers")
             source.write_text(PROGRAM.format(numbers=HERE / "numbers.c"))
             subprocess.run(["gcc", "-O1", "-o", program, source], check=True)
-            lines = "".join("%x %x %x %x %d\n" % it for it in given)
-            ran = subprocess.run([program], input=lines, capture_output=True, text=True, check=True)
-        found = [int(high, 16) << 64 | int(low, 16) for high, low in map(str.split, ran.stdout.splitlines())]
-        wanted = []
-        for a, b, c, d, by in given:
+            lines = "".join("%x %x %x %x %d\n" % numbers for numbers in operands)
+            process = subprocess.run([program], input=lines, capture_output=True, text=True, check=True)
+        results = [int(high, 16) << 64 | int(low, 16) for high, low in map(str.split, process.stdout.splitlines())]
+        expected = []
+        for a, b, c, d, by in operands:
             x, y = a << 64 | b, c << 64 | d
-            wanted += [x * y % 2**128, (x << by) % 2**128, x >> by]
-        self.assertEqual(found, wanted)
+            expected += [x * y % 2**128, (x << by) % 2**128, x >> by]
+        self.assertEqual(results, expected)
 
 
 if __name__ == "__main__":

@@ -22,8 +22,15 @@ SWEEP = Sweep(limit=5, length=50, rule=Nasch(0), warm=5, measure=10, densities=[
 
 
 def needs_node(test):
-    why = "Node is not installed" if shutil.which("node") is None else "the release has no page with the program"
-    return unittest.skipIf(PROGRAM is None or shutil.which("node") is None, why)(test)
+    if shutil.which("node") is None:
+        return unittest.skip("Node is not installed")(test)
+    return unittest.skipIf(PROGRAM is None, "the release has no page with the program")(test)
+
+
+def results_of_calls():
+    """A result of each command of the program."""
+    program = trlab.check("motion\nnum r0, 0\ngo r0\n")
+    return JOB.run().text(), JOB.series(every=20).text(), SWEEP.sweep().text(), program
 
 
 def elsewhere():
@@ -31,7 +38,8 @@ def elsewhere():
     for cached in location._packed, location._of_checkout, location._for_node:
         cached.cache_clear()
     environment = {name: value for name, value in os.environ.items() if name != "TRLAB"}
-    return mock.patch.dict(os.environ, environment, clear=True), mock.patch.object(location, "fits_native_programs", return_value=False)
+    without_name = mock.patch.dict(os.environ, environment, clear=True)
+    return without_name, mock.patch.object(location, "fits_native_programs", return_value=False)
 
 
 class Elsewhere(unittest.TestCase):
@@ -39,7 +47,7 @@ class Elsewhere(unittest.TestCase):
 
     def setUp(self):
         # The results of the native program.
-        self.wanted = JOB.run().text(), JOB.series(every=20).text(), SWEEP.sweep().text(), trlab.check("motion\nnum r0, 0\ngo r0\n")
+        self.native_results = results_of_calls()
         for change in elsewhere():
             change.start()
             self.addCleanup(change.stop)
@@ -51,19 +59,20 @@ class Elsewhere(unittest.TestCase):
 class Results(Elsewhere):
     def test_the_script_is_found_and_gives_the_same(self):
         self.assertEqual(find_program(), str(PROGRAM.script))
-        found = JOB.run().text(), JOB.series(every=20).text(), SWEEP.sweep().text(), trlab.check("motion\nnum r0, 0\ngo r0\n")
-        self.assertEqual(found, self.wanted)
+        self.assertEqual(results_of_calls(), self.native_results)
         self.assertEqual(trlab.run_all([SWEEP, SWEEP], Sweep.sweep), [SWEEP.sweep()] * 2)
 
     def test_errors_are_the_same(self):
         with self.assertRaises(RejectedInputError) as caught:
             trlab.check("motion\nget r0, speed\ngo r0\n")
-        self.assertEqual((caught.exception.line, caught.exception.pc), (3, 1))
+        self.assertEqual(caught.exception.line, 3)
+        self.assertEqual(caught.exception.pc, 1)
         self.assertIn("valid job", trlab.explain(JOB))
 
     def test_a_cache_knows_the_program(self):
         version, digest = program_identity()
-        self.assertEqual((version, digest), (f"trlab {trlab.__version__}", hashlib.sha256(PROGRAM.module()).hexdigest()))
+        self.assertEqual(version, f"trlab {trlab.__version__}")
+        self.assertEqual(digest, hashlib.sha256(PROGRAM.module()).hexdigest())
         self.assertIn(digest, trlab.version())
         with tempfile.TemporaryDirectory() as folder:
             first = dict(trlab.results([JOB], cache=folder))
@@ -80,16 +89,16 @@ class Results(Elsewhere):
 
 def children_of_node():
     """The processes of Node that this process has started."""
-    found = []
+    numbers = []
     for folder in Path("/proc").glob("[0-9]*"):
         try:
-            words, status = (folder / "cmdline").read_bytes().split(b"\0"), (folder / "stat").read_text()
+            arguments, stat = (folder / "cmdline").read_bytes().split(b"\0"), (folder / "stat").read_text()
         except OSError:
             continue
-        is_child = int(status.rpartition(") ")[2].split()[1]) == os.getpid()
-        if is_child and any(word.endswith(b"trlab-node.mjs") for word in words):
-            found.append(folder.name)
-    return found
+        is_child = int(stat.rpartition(") ")[2].split()[1]) == os.getpid()
+        if is_child and any(word.endswith(b"trlab-node.mjs") for word in arguments):
+            numbers.append(folder.name)
+    return numbers
 
 
 class NotThere(Elsewhere):
@@ -116,10 +125,12 @@ class NotThere(Elsewhere):
         program = node.InWebAssembly(self.folder / "trlab-node.mjs", self.folder / "trlab-lab.html")
         packed = '<script type="text/plain" id="program">H4sIAAAAAAAC/0vKSczLTi0CAJsA0a4HAAAA</script>'
         (self.folder / "release.txt").write_text(f"wasm {64 * '0'}\n")
-        for page, said in ("<p>", "contains no program"), (packed[:50] + "</script>", "is damaged"), (packed, "is damaged"):
+        for page, message in (
+            ("<p>", "contains no program"), (packed[:50] + "</script>", "is damaged"), (packed, "is damaged"),
+        ):
             program.page.write_text(page)
             with self.subTest(page), mock.patch.object(location, "of_package", return_value=program):
-                self.assertRaisesRegex(ProgramNotFoundError, said, find_program)
+                self.assertRaisesRegex(ProgramNotFoundError, message, find_program)
 
 
 class Named(unittest.TestCase):
@@ -129,8 +140,11 @@ class Named(unittest.TestCase):
             self.assertEqual(find_program(), str(PROGRAM.script))
             self.assertEqual(SWEEP.sweep().text().count("\n"), 3)
             environment = {**os.environ, "PYTHONPATH": str(PYTHON)}
-            ran = subprocess.run([sys.executable, "-m", "trlab", "--version"], env=environment, capture_output=True, text=True)
-            self.assertEqual((ran.returncode, ran.stdout.split("\n")[0]), (0, f"trlab {trlab.__version__}"))
+            ran = subprocess.run(
+                [sys.executable, "-m", "trlab", "--version"], env=environment, capture_output=True, text=True
+            )
+            self.assertEqual(ran.returncode, 0)
+            self.assertEqual(ran.stdout.split("\n")[0], f"trlab {trlab.__version__}")
 
 
 OTHER_SYSTEM = """
@@ -151,16 +165,19 @@ class Systems(unittest.TestCase):
         for name in "macos", "windows":
             with self.subTest(name), tempfile.TemporaryDirectory() as folder:
                 environment = {**os.environ, "PYTHONPATH": str(PYTHON), "TRLAB": find_program()}
-                words = [sys.executable, "-c", OTHER_SYSTEM, name, folder]
-                ran = subprocess.run(words, env=environment, capture_output=True, text=True)
-                self.assertEqual((ran.returncode, ran.stdout), (0, "10\n"), ran.stderr)
+                command = [sys.executable, "-c", OTHER_SYSTEM, name, folder]
+                process = subprocess.run(command, env=environment, capture_output=True, text=True)
+                self.assertEqual(process.returncode, 0, process.stderr)
+                self.assertEqual(process.stdout, "10\n", process.stderr)
 
     def test_running_processes_are_known_without_proc(self):
-        ended = subprocess.Popen(["true"])
-        ended.wait()
+        process = subprocess.Popen(["true"])
+        process.wait()
         with mock.patch("os.path.isdir", return_value=False):
-            self.assertEqual([systems.is_running(it) for it in (os.getpid(), 1, ended.pid)], [True, True, False])
-        self.assertEqual([systems.is_running(it) for it in (os.getpid(), 1, ended.pid)], [True, True, False])
+            self.assertEqual(
+                [systems.is_running(number) for number in (os.getpid(), 1, process.pid)], [True, True, False]
+            )
+        self.assertEqual([systems.is_running(number) for number in (os.getpid(), 1, process.pid)], [True, True, False])
 
 
 if __name__ == "__main__":

@@ -1,5 +1,7 @@
-"""Parameters of every type: the input is that of Python's plain number, or there is an error that names the parameter."""
+"""Parameters of every type: the input is that of Python's plain number, or there is an error that names the
+parameter."""
 import enum
+import itertools
 import os
 import subprocess
 import sys
@@ -13,7 +15,9 @@ from functools import partial
 from pathlib import Path
 from unittest import mock
 
-from trlab import InitialState, Job, Nasch, ParameterError, Rickert, SlowToStart, Snapshot, Sweep, TrlabError, TrlabWarning
+from trlab import (
+    InitialState, Job, Nasch, ParameterError, Rickert, SlowToStart, Snapshot, Sweep, TrlabError, TrlabWarning,
+)
 from trlab import jammed, random_cells
 
 try:
@@ -54,36 +58,36 @@ class Indexed:
 
 
 WHOLE = {
-    "limit": lambda it: replace(JOB, limit=it),
-    "length": lambda it: replace(JOB, length=it),
-    "lanes": lambda it: replace(JOB, lanes=it),
-    "cars": lambda it: replace(JOB, cars=it),
-    "steps": lambda it: replace(JOB, steps=it),
-    "key": lambda it: replace(JOB, key=it),
-    "step of `at`": lambda it: replace(JOB, at={it: Nasch(1)}),
-    "seed": lambda it: replace(JOB, start=random_cells(it)),
-    "speed": lambda it: replace(JOB, start=random_cells(1, it)),
-    "speed ": lambda it: replace(JOB, start=InitialState("jammed", it)),
-    "speed of a car": lambda it: replace(ROADS, start=[None, it, 2], length=None),
-    "limit of a sweep": lambda it: replace(SWEEP, limit=it),
-    "length of a sweep": lambda it: replace(SWEEP, length=it),
-    "lanes of a sweep": lambda it: replace(SWEEP, lanes=it),
-    "cars of a sweep": lambda it: replace(SWEEP, cars=[it]),
-    "warm": lambda it: replace(SWEEP, warm=it),
-    "measure": lambda it: replace(SWEEP, measure=it),
-    "key of a sweep": lambda it: replace(SWEEP, key=it),
-    "steps of a continued job": lambda it: JOB.continued(Snapshot(0, ("0..",)), steps=it),
-    "key of a continued job": lambda it: JOB.continued(Snapshot(0, ("0..",)), key=it),
-    "step of a snapshot": lambda it: JOB.continued(Snapshot(it, ("0..",))),
+    "limit": lambda value: replace(JOB, limit=value),
+    "length": lambda value: replace(JOB, length=value),
+    "lanes": lambda value: replace(JOB, lanes=value),
+    "cars": lambda value: replace(JOB, cars=value),
+    "steps": lambda value: replace(JOB, steps=value),
+    "key": lambda value: replace(JOB, key=value),
+    "step of `at`": lambda value: replace(JOB, at={value: Nasch(1)}),
+    "seed": lambda value: replace(JOB, start=random_cells(value)),
+    "speed": lambda value: replace(JOB, start=random_cells(1, value)),
+    "speed ": lambda value: replace(JOB, start=InitialState("jammed", value)),
+    "speed of a car": lambda value: replace(ROADS, start=[None, value, 2], length=None),
+    "limit of a sweep": lambda value: replace(SWEEP, limit=value),
+    "length of a sweep": lambda value: replace(SWEEP, length=value),
+    "lanes of a sweep": lambda value: replace(SWEEP, lanes=value),
+    "cars of a sweep": lambda value: replace(SWEEP, cars=[value]),
+    "warm": lambda value: replace(SWEEP, warm=value),
+    "measure": lambda value: replace(SWEEP, measure=value),
+    "key of a sweep": lambda value: replace(SWEEP, key=value),
+    "steps of a continued job": lambda value: JOB.continued(Snapshot(0, ("0..",)), steps=value),
+    "key of a continued job": lambda value: JOB.continued(Snapshot(0, ("0..",)), key=value),
+    "step of a snapshot": lambda value: JOB.continued(Snapshot(value, ("0..",))),
 }
 SHARES = {
-    "brake": lambda it: replace(JOB, rule=Nasch(it)),
-    "brake ": lambda it: replace(JOB, rule=SlowToStart(it, 0)),
-    "stopped": lambda it: replace(JOB, rule=SlowToStart(0, it)),
-    "brake  ": lambda it: replace(JOB, rule=Rickert(it, 0)),
-    "change": lambda it: replace(JOB, rule=Rickert(0, it)),
-    "density": lambda it: replace(JOB, cars=None, density=it),
-    "densities": lambda it: replace(SWEEP, cars=None, densities=[it]),
+    "brake": lambda value: replace(JOB, rule=Nasch(value)),
+    "brake ": lambda value: replace(JOB, rule=SlowToStart(value, 0)),
+    "stopped": lambda value: replace(JOB, rule=SlowToStart(0, value)),
+    "brake  ": lambda value: replace(JOB, rule=Rickert(value, 0)),
+    "change": lambda value: replace(JOB, rule=Rickert(0, value)),
+    "density": lambda value: replace(JOB, cars=None, density=value),
+    "densities": lambda value: replace(SWEEP, cars=None, densities=[value]),
 }
 SIZES = [getattr(numpy, f"{sign}int{bits}") for sign in ("", "u") for bits in (8, 16, 32, 64)]
 FLOATS = [numpy.float16, numpy.float32, numpy.float64, numpy.longdouble]
@@ -103,8 +107,10 @@ EXACT = st.one_of(
     st.sampled_from(["1/0", "nan", "inf", "a", "", "1_0", "\u0663", "1e-99999999", "0x1", Decimal("1e-999999")]),
 )
 OTHERS = st.sampled_from([
-    None, True, False, numpy.bool_(True), numpy.bool_(False), Five.FIVE, Five.ONE, Kind.QUARTER, 1j, numpy.complex128(0.25), b"5",
-    [5], (1,), numpy.array([5]), numpy.array([0.25]), numpy.array(True), numpy.timedelta64(5), numpy.datetime64("2020"), object(),
+    None, True, False, numpy.bool_(True), numpy.bool_(False), Five.FIVE, Five.ONE, Kind.QUARTER, 1j,
+    numpy.complex128(0.25), b"5",
+    [5], (1,), numpy.array([5]), numpy.array([0.25]), numpy.array(True), numpy.timedelta64(5), numpy.datetime64("2020"),
+    object(),
     numpy.str_("1/4"), numpy.array(5), numpy.array(0.25), Odd(5), Odd(1), Indexed(), 5.0, 1.0,
 ])
 ANY = st.one_of(WHOLE_NUMBERS, REALS, EXACT, OTHERS)
@@ -138,7 +144,7 @@ def plain_share(value):
 
 
 def outcome(make, value):
-    """The file, or the kind of the error."""
+    """The file of an input with this value, and whether its copies are equal to it; or the kind of the error."""
     try:
         made = make(value)
         return made.text(), hash(made) == hash(replace(made)), made == replace(made)
@@ -175,43 +181,47 @@ class Parameters(unittest.TestCase):
 
     @SETTINGS
     @given(ANY)
-    def test_options(self, value):
-        number, asked = plain_whole(value), []
-        calls = [
-            *((call, name) for call in (ROADS.run, ROADS.snapshots, ROADS.series) for name in ("every", "first", "workers")),
-            *((partial(ROADS.time_until, bool), name) for name in ("every", "first")),
-            *((sweep.sweep, name) for sweep in (SWEEP, replace(SWEEP, start=jammed)) for name in ("runners", "workers")),
+    def test_options_of_runs(self, value):
+        number, calls = plain_whole(value), []
+        options = [
+            *itertools.product((ROADS.run, ROADS.snapshots, ROADS.series), ("every", "first", "workers")),
+            *itertools.product([partial(ROADS.time_until, bool)], ("every", "first")),
+            *itertools.product((SWEEP.sweep, replace(SWEEP, start=jammed).sweep), ("runners", "workers")),
         ]
 
-        def words(call, name, it):
-            asked.clear()
+        def arguments(call, name, option_value):
+            """The arguments of the program for an option with this value, or the error."""
+            calls.clear()
             try:
-                call(**{name: it})
+                call(**{name: option_value})
             except ParameterError:
-                self.assertEqual(asked, [])
+                self.assertEqual(calls, [])
                 return ParameterError
             except InterruptedError:
                 pass
-            return [*asked]
+            return [*calls]
 
-        def ask(words, text):
-            asked.append(words)
+        def ask(arguments, text):
+            calls.append(arguments)
             raise InterruptedError
 
         def run_all(jobs, call, at_once):
-            asked.append(at_once)
+            calls.append(at_once)
             return [call(job) for job in jobs]
 
         with ExitStack() as patched:
             for name in "jobs.ask", "jobs.ask_for_bytes", "jobs.ask_by_line", "sweeps.ask":
                 patched.enter_context(mock.patch(f"trlab._inputs.{name}", ask))
             patched.enter_context(mock.patch("trlab._runs.many.run_all", run_all))
-            for call, name in calls:
-                expected = ParameterError if number is None else words(call, name, number)
-                self.assertEqual(words(call, name, value), expected, (call, name, value))
+            for call, name in options:
+                expected = ParameterError if number is None else arguments(call, name, number)
+                self.assertEqual(arguments(call, name, value), expected, (call, name, value))
 
     @SETTINGS
-    @given(st.lists(st.one_of(st.none(), st.integers(0, 5)), min_size=1, max_size=9), st.sampled_from(SIZES + FLOATS + [object]))
+    @given(
+        st.lists(st.one_of(st.none(), st.integers(0, 5)), min_size=1, max_size=9),
+        st.sampled_from(SIZES + FLOATS + [object]),
+    )
     def test_roads_of_arrays(self, cells, kind):
         empty = numpy.nan if kind in FLOATS else None if kind is object else -1
         if kind in SIZES and numpy.iinfo(kind).min == 0 and None in cells:
@@ -223,12 +233,15 @@ class Parameters(unittest.TestCase):
             return
         job = replace(ROADS, start="".join("." if cell is None else str(cell) for cell in cells), length=None)
         for road in array, array[None, :], list(array), array.tolist(), cells, tuple(cells), job.road():
-            other = replace(ROADS, start=road, length=None)
-            self.assertEqual((other, hash(other), other.text(), other.road()), (job, hash(job), job.text(), [cells]))
+            job_of_array = replace(ROADS, start=road, length=None)
+            self.assertEqual(job_of_array, job)
+            self.assertEqual(hash(job_of_array), hash(job))
+            self.assertEqual(job_of_array.text(), job.text())
+            self.assertEqual(job_of_array.road(), [cells])
         for roads in array[None, :], [array, array], array[None, None, :]:
             sweep = Sweep(limit=5, length=len(cells), rule=Nasch(0), warm=1, measure=1, start=roads)
             self.assertEqual(sweep, replace(sweep, start=[cells] * len(roads)))
-            self.assertEqual({it.text().split("\n")[3] for it in sweep.jobs()}, {job.text().split("\n")[3]})
+            self.assertEqual({job.text().split("\n")[3] for job in sweep.jobs()}, {job.text().split("\n")[3]})
 
 
 class WeakPromotion(unittest.TestCase):
@@ -236,48 +249,63 @@ class WeakPromotion(unittest.TestCase):
     def test_the_same_with_the_rules_of_numpy_2(self):
         environment = {**os.environ, "NPY_PROMOTION_STATE": "weak", "PYTHONPATH": os.pathsep.join(sys.path)}
         command = [sys.executable, "-B", "-m", "unittest", "tests.test_parameters"]
-        done = subprocess.run(command, cwd=Path(__file__).parents[1], env=environment, stderr=subprocess.PIPE, text=True)
-        self.assertEqual(done.returncode, 0, done.stderr)
+        process = subprocess.run(
+            command, cwd=Path(__file__).parents[1], env=environment, stderr=subprocess.PIPE, text=True
+        )
+        self.assertEqual(process.returncode, 0, process.stderr)
 
 
-class Findings(unittest.TestCase):
+class KnownPitfalls(unittest.TestCase):
     def test_small_integers_of_numpy(self):
         warnings.simplefilter("ignore", TrlabWarning)
         shape = dict(limit=5, rule=Nasch(0.1), steps=100)
-        for length, cars in (numpy.int32(100000), 60000), (numpy.int8(100), 50), (numpy.uint16(40000), numpy.uint16(30000)):
+        for length, cars in (
+            (numpy.int32(100000), 60000), (numpy.int8(100), 50), (numpy.uint16(40000), numpy.uint16(30000)),
+        ):
             job, plain = Job(length=length, cars=cars, **shape), Job(length=int(length), cars=int(cars), **shape)
-            self.assertEqual((job, job.text(), job.cells()), (plain, plain.text(), int(length)))
-        sweep = Sweep(limit=5, rule=Nasch(0), length=numpy.uint16(40000), lanes=2, densities=[0.5001], warm=0, measure=1)
+            self.assertEqual(job, plain)
+            self.assertEqual(job.text(), plain.text())
+            self.assertEqual(job.cells(), int(length))
+        sweep = Sweep(
+            limit=5, rule=Nasch(0), length=numpy.uint16(40000), lanes=2, densities=[0.5001], warm=0, measure=1
+        )
         self.assertEqual(sweep.counts(), [40008])
         sweep = replace(SWEEP, warm=numpy.uint16(60000), measure=numpy.uint16(10000), start=random_cells(1))
         self.assertEqual([job.steps for job in sweep.jobs()], [70000])
 
     def test_stored_values_are_those_of_python(self):
         job = Job(
-            limit=numpy.int8(5), length=numpy.uint8(9), density=numpy.float32(0.5), steps=numpy.int64(5), lanes=numpy.int8(2),
+            limit=numpy.int8(5), length=numpy.uint8(9), density=numpy.float32(0.5), steps=numpy.int64(5),
+            lanes=numpy.int8(2),
             rule=Rickert(numpy.float16(0.5), Decimal("0.1")), key=numpy.uint64(2**63),
             start=random_cells(numpy.int8(1), numpy.int8(2)), at={numpy.int8(3): Nasch(numpy.int8(1))},
         )
         numbers = [job.limit, job.length, job.steps, job.lanes, job.key, job.start.speed, job.start.seed]
-        self.assertEqual({type(it) for it in [*numbers, *job.at, job.at[3].brake]}, {int})
-        self.assertEqual((type(job.density), type(job.rule.brake), job.rule.change), (float, float, Fraction(1, 10)))
+        self.assertEqual({type(number) for number in [*numbers, *job.at, job.at[3].brake]}, {int})
+        self.assertIs(type(job.density), float)
+        self.assertIs(type(job.rule.brake), float)
+        self.assertEqual(job.rule.change, Fraction(1, 10))
         sweep = replace(SWEEP, cars=None, densities=numpy.linspace(0, 1, 3, dtype="f"), warm=numpy.int8(3))
-        self.assertEqual(({type(it) for it in sweep.densities}, type(sweep.warm)), ({float}, int))
-        self.assertEqual({type(it) for it in replace(SWEEP, cars=numpy.array([3, 4])).cars}, {int})
+        self.assertEqual({type(number) for number in sweep.densities}, {float})
+        self.assertIs(type(sweep.warm), int)
+        self.assertEqual({type(number) for number in replace(SWEEP, cars=numpy.array([3, 4])).cars}, {int})
 
     def test_an_occupancy_is_not_a_road(self):
         lists = [0, 1, 0, 1], [0, 0, 0], [1, 1], [[0, 1], [1, 0]], (0, 1.0), [True, False], [None, True]
-        for road in *lists, [0, numpy.bool_(True), None], *map(numpy.array, lists), numpy.zeros(5), numpy.ones((2, 5), bool):
-            with self.assertRaises(ParameterError):
-                replace(ROADS, start=road, length=None)
+        for road in (
+            *lists, [0, numpy.bool_(True), None], *map(numpy.array, lists), numpy.zeros(5), numpy.ones((2, 5), bool),
+        ):
+            message = "0 is a stopped car|says whether a car is there|a speed must be a whole number"
+            self.assertRaisesRegex(ParameterError, message, replace, ROADS, start=road, length=None)
         for full in "000", ["01", "10"], "111":
             job = replace(ROADS, start=full, length=None)
-            self.assertEqual((job.count(), replace(job, steps=5).count()), (job.cells(), job.cells()))
+            self.assertEqual(job.count(), job.cells())
+            self.assertEqual(replace(job, steps=5).count(), job.cells())
             self.assertEqual(job.continued(job.run()[-1]).count(), job.cells())
 
     def test_speeds_of_snapshots_are_roads(self):
-        two = Job(limit=5, length=20, lanes=2, cars=9, start=random_cells(1), rule=Rickert(0.25, 1), steps=5)
-        for job in ROADS, two:
+        two_lanes = Job(limit=5, length=20, lanes=2, cars=9, start=random_cells(1), rule=Rickert(0.25, 1), steps=5)
+        for job in ROADS, two_lanes:
             snapshots = job.run()
             for array in snapshots.speeds(), snapshots.speeds("int16", empty=-1):
                 again = Job(limit=5, start=array[-1], rule=job.rule, steps=5)
@@ -287,32 +315,38 @@ class Findings(unittest.TestCase):
 
     def test_numbers_of_many_digits(self):
         for make in (*WHOLE.values(), *SHARES.values()):
-            for huge in 10**5000, -(10**5000), Odd(10**5000):
-                self.assertIs(outcome(make, huge), ParameterError)
+            for number in 10**5000, -(10**5000), Odd(10**5000):
+                self.assertIs(outcome(make, number), ParameterError)
         for written in "1e-99999999", Decimal("1e-999999"), Decimal("1e-99999999"), "0." + 9999 * "1":
-            self.assertRaises(ParameterError, Nasch, written)
+            self.assertRaisesRegex(ParameterError, "brake must be a number between 0 and 1", Nasch, written)
 
     def test_a_density_of_less_than_one_car(self):
-        words = "on 100 cells is less than one car: the lowest density above 0 is 0.01 there"
-        with self.assertRaisesRegex(ParameterError, words):
+        message = "on 100 cells is less than one car: the lowest density above 0 is 0.01 there"
+        with self.assertRaisesRegex(ParameterError, message):
             replace(ROADS, start=random_cells(1), length=100, density=0.004).text()
         sweep = replace(SWEEP, cars=None, length=100, lanes=1, densities=[0, 0.006])
         self.assertEqual(sweep.counts(), [0, 1])
-        self.assertRaisesRegex(ParameterError, words, replace, sweep, densities=[0, 1e-9])
+        self.assertRaisesRegex(ParameterError, message, replace, sweep, densities=[0, 1e-9])
 
     def test_a_wrong_option_runs_nothing(self):
-        for options in {"every": -1}, {"workers": 17}, {"every": None}, {"first": 31}, {"every": 500001}, {"workers": True}:
+        for options in (
+            {"every": -1}, {"workers": 17}, {"every": None}, {"first": 31}, {"every": 500001}, {"workers": True},
+        ):
             with mock.patch("trlab._runs.processes.Child", side_effect=AssertionError):
-                self.assertRaises(ParameterError, JOB.run, **options)
-                self.assertRaises(ParameterError, JOB.snapshots, **options)
-                self.assertRaises(ParameterError, JOB.series, **options)
+                self.assertRaisesRegex(ParameterError, "(every|first|workers) must be", JOB.run, **options)
+                self.assertRaisesRegex(ParameterError, "(every|first|workers) must be", JOB.snapshots, **options)
+                self.assertRaisesRegex(ParameterError, "(every|first|workers) must be", JOB.series, **options)
 
-    def test_a_road_of_two_lanes_says_so(self):
+    def test_a_road_of_two_lanes_sets_lanes_and_length(self):
         job = replace(ROADS, start=["0..", "..1"], length=None)
-        self.assertEqual((job.lanes, job.length, job.cells()), (2, 3, 6))
+        self.assertEqual(job.lanes, 2)
+        self.assertEqual(job.length, 3)
+        self.assertEqual(job.cells(), 6)
         self.assertEqual(replace(job, steps=7).lanes, 2)
-        for more in {"lanes": 2}, {"length": 4}, {"cars": 2}, {"density": 0.5}:
-            self.assertRaisesRegex(ParameterError, "leave", Job, limit=5, start="0..", rule=Nasch(0), steps=1, **more)
+        for parameters in {"lanes": 2}, {"length": 4}, {"cars": 2}, {"density": 0.5}:
+            self.assertRaisesRegex(
+                ParameterError, "leave", Job, limit=5, start="0..", rule=Nasch(0), steps=1, **parameters
+            )
 
 
 if __name__ == "__main__":

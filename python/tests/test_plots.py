@@ -16,8 +16,9 @@ def job(p, density, seed, key):
 class Plots(unittest.TestCase):
     @classmethod
     def setUpClass(cls):
-        cls.windows = Grid(job, p=[0.25, 0.5], density=[0.4, 0, 0.1, 0.2],
-                           seed=range(3)).run(call=lambda job: job.series(every=10))
+        cls.windows = Grid(job, p=[0.25, 0.5], density=[0.4, 0, 0.1, 0.2], seed=range(3)).run(
+            call=lambda job: job.series(every=10)
+        )
         cls.runs = trlab.per_run(cls.windows)
         cls.means = trlab.means(cls.runs, "seed")
 
@@ -28,7 +29,8 @@ class Plots(unittest.TestCase):
 class Diagrams(Plots):
     def test_points_bars_and_labels(self):
         axes = trlab.plot_means(self.means, hue="p")
-        self.assertEqual((axes.get_xlabel(), axes.get_ylabel()), ("density (cars per cell)", "flow (cars per step and lane)"))
+        self.assertEqual(axes.get_xlabel(), "density (cars per cell)")
+        self.assertEqual(axes.get_ylabel(), "flow (cars per step and lane)")
         self.assertEqual([text.get_text() for text in axes.get_legend().get_texts()], ["0.25", "0.5"])
         self.assertEqual(axes.get_legend().get_title().get_text(), "p")
         for p, container in zip([0.25, 0.5], axes.containers):
@@ -37,43 +39,54 @@ class Diagrams(Plots):
             numpy.testing.assert_array_equal(line.get_xdata(), curve.index)
             numpy.testing.assert_array_equal(line.get_ydata(), curve.flow)
             ends = numpy.array(bars.get_segments())[:, :, 1]
-            numpy.testing.assert_allclose(ends, numpy.transpose([curve.flow - curve.flow_sem, curve.flow + curve.flow_sem]),
-                                          atol=1e-12)
+            numpy.testing.assert_allclose(
+                ends, numpy.transpose([curve.flow - curve.flow_sem, curve.flow + curve.flow_sem]), atol=1e-12
+            )
         axes.figure.savefig(io.BytesIO())
 
     def test_units_of_roads(self):
         axes = trlab.plot_means(trlab.to_si(self.means), x="density_per_km", y="speed_km_per_h", hue="p")
-        self.assertEqual((axes.get_xlabel(), axes.get_ylabel()), ("density (vehicles per km and lane)", "speed (km/h)"))
+        self.assertEqual(axes.get_xlabel(), "density (vehicles per km and lane)")
+        self.assertEqual(axes.get_ylabel(), "speed (km/h)")
         axes = trlab.plot_means(trlab.to_si(self.means), x="density_per_km", y="flow_per_h", hue="p")
         self.assertEqual(axes.get_ylabel(), "flow (vehicles per h and lane)")
 
     def test_axes_and_style_of_the_user(self):
         figure, axes = pyplot.subplots()
-        one = self.means.xs(0.25, level="p")
-        found = trlab.plot_means(one, ax=axes, marker="s", color="red", label="mine", capsize=0)
-        self.assertIs(found, axes)
+        means = self.means.xs(0.25, level="p")
+        drawn = trlab.plot_means(means, ax=axes, marker="s", color="red", label="mine", capsize=0)
+        self.assertIs(drawn, axes)
         line = axes.containers[0][0]
-        self.assertEqual((line.get_marker(), line.get_color(), axes.containers[0].get_label()), ("s", "red", "mine"))
+        self.assertEqual(line.get_marker(), "s")
+        self.assertEqual(line.get_color(), "red")
+        self.assertEqual(axes.containers[0].get_label(), "mine")
         self.assertIs(trlab.plot_means(self.means.xs(0.5, level="p"), ax=axes), axes)
         self.assertEqual(len(axes.containers), 2)
-        self.assertIsNot(trlab.plot_means(one), trlab.plot_means(one))
+        self.assertIsNot(trlab.plot_means(means), trlab.plot_means(means))
 
     def test_one_axis_shows_one_thing(self):
-        one = self.means.xs(0.25, level="p")
-        axes = trlab.plot_means(one)
-        self.assertRaisesRegex(FrameError, "show flow", trlab.plot_means, one, y="speed", ax=axes)
-        self.assertRaisesRegex(FrameError, "show density", trlab.plot_means, trlab.to_si(one), x="density_per_km",
-                               y="flow_per_h", ax=axes)
+        means = self.means.xs(0.25, level="p")
+        axes = trlab.plot_means(means)
+        self.assertRaisesRegex(FrameError, "show flow", trlab.plot_means, means, y="speed", ax=axes)
+        self.assertRaisesRegex(
+            FrameError, "show density", trlab.plot_means, trlab.to_si(means), x="density_per_km", y="flow_per_h",
+            ax=axes,
+        )
         self.assertRaisesRegex(FrameError, "show density", trlab.plot_space_time, TWO, ax=axes)
 
     def test_frames_that_are_not_means(self):
-        for frame in (self.windows, self.runs, self.means[["flow"]], self.means.drop(columns="flow"),
-                      self.runs.groupby(["p", "density"]).mean(numeric_only=True)):
+        for frame in (
+            self.windows, self.runs, self.means[["flow"]], self.means.drop(columns="flow"),
+            self.runs.groupby(["p", "density"]).mean(numeric_only=True),
+        ):
             self.assertRaisesRegex(FrameError, r"trlab.means\(frame, over\)", trlab.plot_means, frame, hue="p")
-        self.assertRaisesRegex(FrameError, r"several means at one density: select one value of \['p'\]", trlab.plot_means,
-                               self.means)
+        self.assertRaisesRegex(
+            FrameError, r"several means at one density: select one value of \['p'\]", trlab.plot_means, self.means
+        )
         self.assertRaisesRegex(FrameError, "'q' is not a parameter", trlab.plot_means, self.means, hue="q")
-        self.assertRaisesRegex(FrameError, "'length' is not a parameter", trlab.plot_means, self.means, x="length", hue="p")
+        self.assertRaisesRegex(
+            FrameError, "'length' is not a parameter", trlab.plot_means, self.means, x="length", hue="p"
+        )
         single = trlab.means(self.runs.xs(0, level="seed", drop_level=False), "seed")
         self.assertRaisesRegex(FrameError, "a single run has no error", trlab.plot_means, single, hue="p")
 
@@ -84,10 +97,14 @@ class SpaceTimes(Plots):
         axes = trlab.plot_space_time(part, lane=1, limit=7)
         (image,) = axes.images
         speeds = [[-1 if cell == "." else int(cell) for cell in snapshot.lanes[1]] for snapshot in part]
-        numpy.testing.assert_array_equal(image.get_array().filled(-1) if numpy.ma.isMaskedArray(image.get_array()) else
-                                         numpy.nan_to_num(image.get_array(), nan=-1), speeds)
-        self.assertEqual((axes.get_xlabel(), axes.get_ylabel()), ("position (cells)", "time (steps)"))
-        self.assertEqual((axes.get_xlim(), axes.get_ylim()), ((-0.5, 29.5), (61.5, 19.5)))
+        drawn = image.get_array()
+        # The image masks empty cells, or has NaN there.
+        drawn = drawn.filled(-1) if numpy.ma.isMaskedArray(drawn) else numpy.nan_to_num(drawn, nan=-1)
+        numpy.testing.assert_array_equal(drawn, speeds)
+        self.assertEqual(axes.get_xlabel(), "position (cells)")
+        self.assertEqual(axes.get_ylabel(), "time (steps)")
+        self.assertEqual(axes.get_xlim(), (-0.5, 29.5))
+        self.assertEqual(axes.get_ylim(), (61.5, 19.5))
         self.assertEqual(image.colorbar.ax.get_ylabel(), "speed (cells per step)")
         self.assertEqual(image.get_clim(), (-0.5, 7.5))
         self.assertEqual(len({image.cmap(image.norm(speed)) for speed in range(8)}), 8)
@@ -103,10 +120,10 @@ class SpaceTimes(Plots):
             trlab.plot_space_time(snapshots).figure.savefig(io.BytesIO())
 
     def test_results_without_a_diagram(self):
-        for wrong in Snapshots(), Snapshots([TWO[0], TWO[1], TWO[3]]), TWO[::-1]:
-            self.assertRaisesRegex(ParameterError, "equal intervals", trlab.plot_space_time, wrong)
-        for words in {"lane": 2}, {"lane": -1}, {"limit": 1}, {"limit": 36}:
-            self.assertRaises(ValueError, trlab.plot_space_time, TWO, **words)
+        for snapshots in Snapshots(), Snapshots([TWO[0], TWO[1], TWO[3]]), TWO[::-1]:
+            self.assertRaisesRegex(ParameterError, "equal intervals", trlab.plot_space_time, snapshots)
+        for options in {"lane": 2}, {"lane": -1}, {"limit": 1}, {"limit": 36}:
+            self.assertRaisesRegex(ValueError, "(lane|limit) must be between", trlab.plot_space_time, TWO, **options)
 
 
 if __name__ == "__main__":

@@ -1,8 +1,9 @@
-"""The published rules of examples/published_rules.py: each is compared with its built-in form, a program, or a formula."""
+"""The published rules of examples/published_rules.py: each is compared with its built-in form, a program, or a
+formula."""
 import os
 import unittest
 
-from tests.random_functions import answer, random_view
+from tests.random_functions import random_view, run_program
 from random import Random
 from trlab import Grid, Job, Nasch, Own, Rickert, SlowToStart, check, jammed, moving, random_cells
 from trlab._rules.functions import rules_in
@@ -20,8 +21,24 @@ RULES = rules_in(example("published_rules.py"))
 
 
 def snapshots(rule, lanes=1, density=0.3, limit=5, seed=3):
-    job = Job(limit=limit, length=80, lanes=lanes, density=density, start=random_cells(seed), rule=rule, steps=30, key=seed)
+    job = Job(
+        limit=limit, length=80, lanes=lanes, density=density, start=random_cells(seed), rule=rule, steps=30, key=seed
+    )
     return job.run().text()
+
+
+def late_starts(limit, road, steps):
+    """The cells of the cars by step, if a car that had no gap in a step waits once more. Whether it had one is
+    remembered."""
+    cells = [cell for cell, sign in enumerate(road) if sign != "."]
+    speeds, was_blocked, found = [0] * len(cells), [False] * len(cells), [sorted(cells)]
+    for _ in range(steps):
+        gaps = [(ahead - cell - 1) % len(road) for cell, ahead in zip(cells, cells[1:] + cells[:1])]
+        speeds = [0 if late else min(speed + 1, limit, gap) for speed, gap, late in zip(speeds, gaps, was_blocked)]
+        was_blocked = [gap == 0 for gap in gaps]
+        cells = [(cell + speed) % len(road) for cell, speed in zip(cells, speeds)]
+        found.append(sorted(cells))
+    return found
 
 
 class PublishedRules(unittest.TestCase):
@@ -37,6 +54,26 @@ class PublishedRules(unittest.TestCase):
     def test_slow_to_start(self):
         self.assert_alike(Own(RULES["slow_to_start"](p="1/64", p0=0.75)), SlowToStart("1/64", 0.75))
 
+    def test_takayasu_by_its_definition(self):
+        program, dice, waits = RULES["takayasu"](ps=1), Random(3), 0
+        for _ in range(2000):
+            view = random_view(dice)
+            is_late = view["speed"] == 0 and view["gap"] == 1
+            waits += is_late
+            expected = 0 if is_late else min(view["speed"] + 1, view["limit"], view["gap"])
+            self.assertEqual(run_program(program, view), expected)
+        self.assertGreater(waits, 10)
+        self.assert_alike(Own(RULES["takayasu"](ps=0)), Nasch(0))
+
+    def test_benjamin_needs_no_memory(self):
+        for limit in 1, 5:
+            for seed in range(20):
+                rule = Own(RULES["benjamin"](ps=1))
+                job = Job(limit=limit, length=60, cars=25, start=random_cells(seed), rule=rule, steps=60)
+                found = [[cell for cell, sign in enumerate(shown.lanes[0]) if sign != "."] for shown in job.run()]
+                self.assertEqual(found, late_starts(limit, job.run()[0].lanes[0], 60))
+        self.assert_alike(Own(RULES["benjamin"](ps=0, p=0.5)), Own(RULES["takayasu"](ps=0, p=0.5)))
+
     def test_symmetric_lane_changes(self):
         self.assert_alike(Own(RULES["nasch"](p=0.25), RULES["symmetric"](p="2/3")), Rickert(0.25, "2/3"), lanes=2)
 
@@ -46,7 +83,9 @@ class PublishedRules(unittest.TestCase):
     def test_cruise_control_keeps_free_traffic_free(self):
         # Up to density 1 / (limit + 1) all cars drive at the limit for ever if they do so at first.
         for cars, is_free in (16, True), (17, False):
-            job = Job(limit=5, length=96, cars=cars, start=moving, rule=Own(RULES["cruise_control"](p=0.5)), steps=300, key=1)
+            job = Job(
+                limit=5, length=96, cars=cars, start=moving, rule=Own(RULES["cruise_control"](p=0.5)), steps=300, key=1
+            )
             (window,) = job.series(every=100, first=200)
             self.assertEqual(window.distance == 100 * cars * 5, is_free)
         # Without random braking it is the model of Nagel and Schreckenberg.
@@ -56,25 +95,29 @@ class PublishedRules(unittest.TestCase):
         self.assert_alike(Own(RULES["comfortable"](p=0.1, p0=0.5, h=0)), SlowToStart(0.1, 0.5))
 
     def test_comfortable_driving_by_its_definition(self):
-        program, dice, near = RULES["comfortable"](p=0, p0=0, pb=1, h=6), Random(1), 0
+        program, dice, followers = RULES["comfortable"](p=0, p0=0, pb=1, h=6), Random(1), 0
         for _ in range(2000):
             view = random_view(dice)
             v, gap = view["speed"], view["gap"]
             follows = view["headspeed"] < v and gap / v < min(v, 6)
-            near += follows
-            self.assertEqual(answer(program, view), max(min(v, view["limit"], gap) - 1, 0) if follows else min(v + 1, view["limit"], gap))
-        self.assertGreater(near, 100)
+            followers += follows
+            expected = max(min(v, view["limit"], gap) - 1, 0) if follows else min(v + 1, view["limit"], gap)
+            self.assertEqual(run_program(program, view), expected)
+        self.assertGreater(followers, 100)
 
     def test_asymmetric_lane_changes(self):
         program, symmetric, dice = RULES["asymmetric"](p=1), RULES["symmetric"](p=1), Random(2)
         for _ in range(2000):
             view = random_view(dice)
-            changes = answer(program, {**view, "lane": 0})
-            self.assertEqual(changes, answer(symmetric, view))
+            changes = run_program(program, {**view, "lane": 0})
+            self.assertEqual(changes, run_program(symmetric, view))
             has_room = view["side"] and view["sidegap"] > view["speed"] + 1 and view["sideback"] > view["limit"]
-            self.assertEqual(answer(program, {**view, "lane": 1}), has_room)
+            self.assertEqual(run_program(program, {**view, "lane": 1}), has_room)
         # A few cars are soon all on lane 0.
-        job = Job(limit=5, length=200, lanes=2, cars=4, rule=Own(RULES["nasch"](p=0), RULES["asymmetric"]()), start=random_cells(1), steps=200)
+        job = Job(
+            limit=5, length=200, lanes=2, cars=4, rule=Own(RULES["nasch"](p=0), RULES["asymmetric"]()),
+            start=random_cells(1), steps=200,
+        )
         self.assertTrue(all(cell == "." for cell in job.run()[-1].lanes[1]))
 
     def test_keep_distance(self):

@@ -4,9 +4,11 @@ import tempfile
 import unittest
 
 from tests.test_arrays import needs
-from tests.test_runs import stand_in
-from trlab import Job, Nasch, OutputFormatError, Snapshot, Snapshots, SnapshotsError, Point, Rickert, Sweep, Table, Window
-from trlab import TrlabError, random_cells
+from tests.test_runs import replaced_program
+from trlab import (
+    Job, Nasch, OutputFormatError, Snapshot, Snapshots, SnapshotsError, Point, Rickert, Sweep, Table, Window,
+)
+from trlab import ParameterError, TrlabError, random_cells
 from trlab._results.written import snapshots_in
 
 ONE = Job(limit=12, length=30, cars=9, start=random_cells(3, None), rule=Nasch("1/4"), steps=120)
@@ -19,14 +21,23 @@ RUN = "step 9\n0.1\nstep 10\n0.0\n"
 class Tables(unittest.TestCase):
     def setUp(self):
         self.table = Table.read(Point, POINTS)
-        self.rows = [Point(1, 10, 1, 5, 0, 0, 500000), Point(2, 10, 1, 3, 1, 0, 300000)]
+        self.rows = [
+            Point(cars=1, cells=10, steps=1, distance=5, stopped=0, changes=0, flow_millionths=500000),
+            Point(cars=2, cells=10, steps=1, distance=3, stopped=1, changes=0, flow_millionths=300000),
+        ]
 
-    def test_rows(self):
-        self.assertEqual((len(self.table), repr(self.table)), (2, "<table of 2 Points>"))
-        self.assertEqual((self.table, self.table[-1], list(self.table)), (self.rows, self.rows[1], self.rows))
-        self.assertEqual((self.rows, [*reversed(self.table)]), (self.table, self.rows[::-1]))
-        self.assertEqual((self.table.index(self.rows[1]), self.rows[0] in self.table), (1, True))
-        self.assertEqual((self.table.text(), Table.read(Point, POINTS.encode())), (POINTS, self.table))
+    def test_a_table_is_like_a_list(self):
+        self.assertEqual(len(self.table), 2)
+        self.assertEqual(repr(self.table), "<table of 2 Points>")
+        self.assertEqual(self.table, self.rows)
+        self.assertEqual(self.table[-1], self.rows[1])
+        self.assertEqual(list(self.table), self.rows)
+        self.assertEqual(self.rows, self.table)
+        self.assertEqual([*reversed(self.table)], self.rows[::-1])
+        self.assertEqual(self.table.index(self.rows[1]), 1)
+        self.assertIn(self.rows[0], self.table)
+        self.assertEqual(self.table.text(), POINTS)
+        self.assertEqual(Table.read(Point, POINTS.encode()), self.table)
         self.assertEqual(Table.read(Point, HEADING), [])
         self.assertNotEqual(self.table, self.rows[:1])
         self.assertNotEqual(self.table, tuple(self.rows))
@@ -43,16 +54,21 @@ class Tables(unittest.TestCase):
         self.table += self.rows[:1]
         self.assertEqual(self.table, [new, self.rows[1], self.rows[0]])
         self.assertEqual(Table.read(Point, self.table.text()), self.table)
-        self.assertEqual((same, [new] + same), (self.rows, [new, *self.rows]))
+        self.assertEqual(same, self.rows)
+        self.assertEqual([new] + same, [new, *self.rows])
         copy = self.table.copy()
         copy.clear()
-        self.assertEqual((len(self.table), len(copy), copy.kind), (3, 0, Point))
+        self.assertEqual(len(self.table), 3)
+        self.assertEqual(len(copy), 0)
+        self.assertEqual(copy.kind, Point)
 
     def test_texts_that_are_not_tables(self):
         heading, first, second = POINTS.splitlines(True)
-        for wrong in "1,10,1,5,0,0\n", "1,10,1,5,0,0,0,0\n", "1,10,,5,0,0,0\n", ",10,1,5,0,0,0\n", "1,10,1,5,0,0,\n", \
-                "1,10,1,5,0,0,-1\n", "1,10,1,5,0,0,1.5\n", "1,10,1,5,0,0, 1\n", "fault\n", "\n", "1,10,1,5,0\n0,1\n":
-            for place, text in (2, wrong + second), (3, first + wrong + second), (3, first + wrong):
+        for row in (
+            "1,10,1,5,0,0\n", "1,10,1,5,0,0,0,0\n", "1,10,,5,0,0,0\n", ",10,1,5,0,0,0\n", "1,10,1,5,0,0,\n",
+            "1,10,1,5,0,0,-1\n", "1,10,1,5,0,0,1.5\n", "1,10,1,5,0,0, 1\n", "fault\n", "\n", "1,10,1,5,0\n0,1\n",
+        ):
+            for place, text in (2, row + second), (3, first + row + second), (3, first + row):
                 with self.assertRaisesRegex(ValueError, f"line {place} of the table is not a row of Points: '"):
                     Table.read(Point, heading + text)
         for text in "cars\n", POINTS[1:], "a" + POINTS:
@@ -68,17 +84,19 @@ class Tables(unittest.TestCase):
                 self.assertRaisesRegex(ValueError, "cut off", Table.read, Point, text)
 
     def test_more_than_a_block(self):
-        many = POINTS + 20000 * POINTS.partition("\n")[2]
+        many = POINTS + 20000 * POINTS.removeprefix(HEADING)
         table = Table.read(Point, many.replace("\n", "\r\n"))
-        self.assertEqual((table, table.text()), (20001 * self.rows, many))
+        self.assertEqual(table, 20001 * self.rows)
+        self.assertEqual(table.text(), many)
         self.assertRaisesRegex(ValueError, "line 40004 of the table is not a row", Table.read, Point, many + "1,2\n")
         self.assertRaisesRegex(ValueError, "line 40004 of the table is cut off: '1,2'", Table.read, Point, many + "1,2")
 
     @needs("numpy")
-    def test_arrays(self):
+    def test_the_array_of_a_table(self):
         made, table = Table(Point, self.rows), self.table
         self.assertEqual(table.to_numpy().tolist(), [tuple(row) for row in self.rows])
-        self.assertEqual((made.to_numpy().dtype, made.to_numpy().tolist()), (table.to_numpy().dtype, table.to_numpy().tolist()))
+        self.assertEqual(made.to_numpy().dtype, table.to_numpy().dtype)
+        self.assertEqual(made.to_numpy().tolist(), table.to_numpy().tolist())
         table.to_numpy()["cars"] += 1
         table.append(self.rows[0])
         self.assertEqual(table.to_numpy()["cars"].tolist(), [1, 2, 1])
@@ -86,7 +104,7 @@ class Tables(unittest.TestCase):
             self.assertEqual(empty.to_numpy().shape, (0,))
 
     @needs("pandas")
-    def test_frames(self):
+    def test_the_frame_of_a_table(self):
         import numpy
 
         sweep = Sweep(limit=5, length=20, rule=Nasch("1/4"), warm=5, measure=9, cars=[0, 1, 7, 20]).sweep()
@@ -102,13 +120,17 @@ class Runs(unittest.TestCase):
     def test_the_snapshots_are_those_of_the_output(self):
         for job in ONE, TWO:
             snapshots, streamed = job.run(), list(job.snapshots())
-            self.assertEqual((snapshots, [snapshots[place] for place in range(len(snapshots))]), (streamed, streamed))
-            self.assertEqual((Snapshots.read(snapshots.text()), Snapshots.read(snapshots.text().encode())), (streamed, streamed))
+            self.assertEqual(snapshots, streamed)
+            self.assertEqual([snapshots[place] for place in range(len(snapshots))], streamed)
+            self.assertEqual(Snapshots.read(snapshots.text()), streamed)
+            self.assertEqual(Snapshots.read(snapshots.text().encode()), streamed)
             for part in slice(5, None), slice(None, -3), slice(1, 12, 4), slice(None, None, -1), slice(3, 3):
-                self.assertEqual((snapshots[part], type(snapshots[part])), (streamed[part], Snapshots))
+                self.assertEqual(snapshots[part], streamed[part])
+                self.assertIs(type(snapshots[part]), Snapshots)
                 self.assertEqual(pickle.loads(pickle.dumps(snapshots[part])), streamed[part])
                 self.assertEqual(Snapshots.read(snapshots[part].text()), streamed[part])
-            self.assertEqual((snapshots[-1], snapshots[9:12][1]), (streamed[-1], streamed[10]))
+            self.assertEqual(snapshots[-1], streamed[-1])
+            self.assertEqual(snapshots[9:12][1], streamed[10])
             for place in len(snapshots), -len(snapshots) - 1:
                 self.assertRaises(IndexError, snapshots.__getitem__, place)
 
@@ -117,7 +139,8 @@ class Runs(unittest.TestCase):
         kept.append(snapshots[1])
         kept.extend(snapshots)
         snapshots.reverse()
-        self.assertEqual((kept, snapshots), ([snapshots[0], *snapshots[::-1]], [Snapshot(10, ("0.0",)), Snapshot(9, ("0.1",))]))
+        self.assertEqual(kept, [snapshots[0], *snapshots[::-1]])
+        self.assertEqual(snapshots, [Snapshot(10, ("0.0",)), Snapshot(9, ("0.1",))])
         self.assertEqual(Snapshots.read(RUN), snapshots[::-1])
 
     def test_steps_at_any_distance(self):
@@ -127,7 +150,7 @@ class Runs(unittest.TestCase):
         self.assertEqual(Snapshots.read(""), [])
 
     def test_texts_that_are_not_runs(self):
-        for text, wrong in {
+        for text, message in {
             "fault line 1 cause 1\n": "not the heading of a snapshot of a run: 'fault",
             "step x\n0.1\n": "not the heading of a snapshot of a run: 'step x'",
             "step 1\n0.1\nstep 2\n0.1.\n": "a lane of step 2 is not as long as the first lane of the run: '0.1.'",
@@ -136,93 +159,121 @@ class Runs(unittest.TestCase):
             "step 1\n0.1\n\nstep 2\n0.1\n": "a lane of step 1 is not .*: ''",
             "step 1\n0.1\n0.1\n0.1\n": "the first snapshot of the run has 3 lanes",
         }.items():
-            self.assertRaisesRegex(ValueError, wrong, Snapshots.read, text)
-            self.assertRaisesRegex(ValueError, wrong, list, snapshots_in(text.splitlines(True)))
+            self.assertRaisesRegex(ValueError, message, Snapshots.read, text)
+            self.assertRaisesRegex(ValueError, message, list, snapshots_in(text.splitlines(True)))
 
-    def test_cells_that_no_run_has(self):
-        for wrong in "?", "A", "\xe9", " ", "-":
+    def test_characters_that_are_not_cells(self):
+        for character in "?", "A", "\xe9", " ", "-":
             for place in RUN.index(".") + 0, len(RUN) - 3:
-                text = RUN[:place] + wrong + RUN[place + 1:]
+                text = RUN[:place] + character + RUN[place + 1:]
                 line = RUN[:place].count("\n") + 1
                 for run in text, text.encode("latin-1"), text.replace("\n", "\r\n"):
-                    with self.assertRaisesRegex(OutputFormatError, f"^line {line} of the run has a character that is neither"):
+                    with self.assertRaisesRegex(
+                        OutputFormatError, f"^line {line} of the run has a character that is neither"
+                    ):
                         Snapshots.read(run)
-        for wrong in "step 0\n0.....\nstep 1\nstep 3\n", "step 0\nstep 3\nstep 1\n0.....\n", RUN + "step 11\n0\ud8001\n", \
-                RUN + "step 99\n0\xe91\n":
-            self.assertRaisesRegex(OutputFormatError, "^line [246] of the run has a character", Snapshots.read, wrong)
+        for run in (
+            "step 0\n0.....\nstep 1\nstep 3\n", "step 0\nstep 3\nstep 1\n0.....\n", RUN + "step 11\n0\ud8001\n",
+            RUN + "step 99\n0\xe91\n",
+        ):
+            self.assertRaisesRegex(OutputFormatError, "^line [246] of the run has a character", Snapshots.read, run)
 
     def test_a_run_that_is_cut_off(self):
-        whole = TWO.run().text()
-        begins = [place for place in range(len(whole) + 1) if whole.startswith("step ", place)]
-        for end in range(begins[1], len(whole)):
-            if end in begins:
+        text = TWO.run().text()
+        headings = [place for place in range(len(text) + 1) if text.startswith("step ", place)]
+        for end in range(headings[1], len(text)):
+            if end in headings:
                 # Only the number of snapshots shows that a run lacks whole ones.
-                self.assertEqual(len(Snapshots.read(whole[:end])), begins.index(end))
+                self.assertEqual(len(Snapshots.read(text[:end])), headings.index(end))
             else:
-                self.assertRaisesRegex(ValueError, "cut off in the snapshot of 's", Snapshots.read, whole[:end])
+                self.assertRaisesRegex(ValueError, "cut off in the snapshot of 's", Snapshots.read, text[:end])
 
     def test_a_program_that_cuts_its_output_off(self):
         job = Job(limit=5, length=3, cars=0, rule=Nasch(0), steps=1)
         for status in 0, 4:
             with tempfile.TemporaryDirectory() as folder:
-                with stand_in(folder, f"printf 'step 0\\n...\\nstep 1\\n..'; exit {status}\n"):
-                    self.assertRaises(TrlabError, job.run)
-                    self.assertRaises(TrlabError, list, job.snapshots())
+                with replaced_program(folder, f"printf 'step 0\\n...\\nstep 1\\n..'; exit {status}\n"):
+                    self.assertRaisesRegex(TrlabError, "wrote 3 of the 4 lines|ended with status 4", job.run)
+                    self.assertRaisesRegex(
+                        TrlabError, "wrote 3 of the 4 lines|ended with status 4", list, job.snapshots()
+                    )
 
     @needs("numpy")
-    def test_arrays(self):
+    def test_arrays_of_snapshots(self):
         import numpy
 
         for job in ONE, TWO:
             snapshots = job.run()
             made = Snapshots([*snapshots])
-            wanted = [[[-1 if v is None else v for v in lane] for lane in it.speeds()] for it in snapshots]
-            for of in snapshots, made:
-                array = of.speeds("int16", empty=-1)
-                self.assertEqual((array.tolist(), array.dtype, array.flags.writeable), (wanted, "int16", True))
-                self.assertEqual((of.speeds().dtype, of.occupied().dtype), ("float64", "bool"))
-                numpy.testing.assert_array_equal(of.speeds(), numpy.where(array < 0, numpy.nan, array))
-                numpy.testing.assert_array_equal(of.occupied(), array >= 0)
+            expected = [
+                [[-1 if speed is None else speed for speed in lane] for lane in snapshot.speeds()]
+                for snapshot in snapshots
+            ]
+            for result in snapshots, made:
+                array = result.speeds("int16", empty=-1)
+                self.assertEqual(array.tolist(), expected)
+                self.assertEqual(array.dtype, "int16")
+                self.assertIs(array.flags.writeable, True)
+                self.assertEqual(result.speeds().dtype, "float64")
+                self.assertEqual(result.occupied().dtype, "bool")
+                numpy.testing.assert_array_equal(result.speeds(), numpy.where(array < 0, numpy.nan, array))
+                numpy.testing.assert_array_equal(result.occupied(), array >= 0)
             self.assertEqual(snapshots[2:99:3].speeds(int, empty=-9).tolist(), [
-                [[-9 if v < 0 else v for v in lane] for lane in road] for road in wanted[2:99:3]
+                [[-9 if v < 0 else v for v in lane] for lane in road] for road in expected[2:99:3]
             ])
-        self.assertEqual((Snapshots().speeds().shape, Snapshots().occupied().shape), ((0, 0, 0), (0, 0, 0)))
+        self.assertEqual(Snapshots().speeds().shape, (0, 0, 0))
+        self.assertEqual(Snapshots().occupied().shape, (0, 0, 0))
         long = Job(limit=5, length=1000, cars=100, rule=Nasch("1/4"), steps=700).run()
         numpy.testing.assert_array_equal(long.speeds(), Snapshots([*long]).speeds())
-        for wrong in "?", "A", "\xe9", "\n":
-            self.assertRaisesRegex(OutputFormatError, "neither a speed nor a dot", Snapshots([Snapshot(0, (wrong,))]).speeds)
-        self.assertRaisesRegex(SnapshotsError, "step 2 has another size", (Snapshots.read(RUN) + [Snapshot(2, ("0",))]).speeds)
+        for character in "?", "A", "\xe9", "\n":
+            self.assertRaisesRegex(
+                OutputFormatError, "neither a speed nor a dot", Snapshots([Snapshot(0, (character,))]).speeds
+            )
+        self.assertRaisesRegex(
+            SnapshotsError, "step 2 has another size", (Snapshots.read(RUN) + [Snapshot(2, ("0",))]).speeds
+        )
 
     @needs("numpy")
     def test_arithmetic_with_speeds_does_not_overflow(self):
         import numpy
 
         snapshots = Job(limit=35, length=400, cars=10, start=random_cells(1, None), rule=Nasch("1/4"), steps=99).run()
-        wanted = [v for it in snapshots for lane in it.speeds() for v in lane if v is not None]
-        self.assertEqual(max(wanted), 35)
-        for dtype, empty in ("float64", None), ("float32", None), ("int16", -1), ("int32", -2), ("int64", -1), (int, -1):
-            speeds, on = snapshots.speeds(dtype, empty=empty), snapshots.occupied()
-            v = speeds[on]
-            self.assertAlmostEqual(float((v * v).mean()), sum(it * it for it in wanted) / len(wanted), places=3)
-            self.assertEqual((float((v * 27).max()), float((v - v[0]).min())), (27 * 35, min(wanted) - wanted[0]))
+        on_road = [speed for snapshot in snapshots for lane in snapshot.speeds() for speed in lane]
+        all_speeds = [speed for speed in on_road if speed is not None]
+        self.assertEqual(max(all_speeds), 35)
+        for dtype, empty in (
+            ("float64", None), ("float32", None), ("int16", -1), ("int32", -2), ("int64", -1), (int, -1),
+        ):
+            speeds, is_occupied = snapshots.speeds(dtype, empty=empty), snapshots.occupied()
+            v = speeds[is_occupied]
+            self.assertAlmostEqual(
+                float((v * v).mean()), sum(speed * speed for speed in all_speeds) / len(all_speeds), places=3
+            )
+            self.assertEqual(float((v * 27).max()), 27 * 35)
+            self.assertEqual(float((v - v[0]).min()), min(all_speeds) - all_speeds[0])
         self.assertTrue(numpy.isnan(snapshots.speeds().mean()))
-        self.assertAlmostEqual(numpy.nanmean(snapshots.speeds()), sum(wanted) / len(wanted))
+        self.assertAlmostEqual(numpy.nanmean(snapshots.speeds()), sum(all_speeds) / len(all_speeds))
         for dtype, empty in (
             ("int8", -1), ("uint8", 255), ("uint16", -1), ("float16", None), (bool, -1), (complex, None), (object, -1),
             ("U1", -1),
             ("int64", None), ("int64", 0), ("int64", 35), ("int16", -32769), ("int64", True), ("float64", -1),
         ):
             with self.subTest(dtype=dtype, empty=empty):
-                self.assertRaises((ValueError, TypeError), snapshots.speeds, dtype, empty=empty)
+                self.assertRaisesRegex(
+                    ParameterError, "speeds need|need `empty`|empty must be", snapshots.speeds, dtype, empty=empty
+                )
 
     @needs("pandas")
-    def test_frames(self):
+    def test_frames_of_snapshots(self):
         for snapshots in ONE.run(), TWO.run(), TWO.run()[::-2], TWO.run() + ONE.run(), Snapshots():
-            wanted = [
-                [it.step, lane, cell, speed]
-                for it in snapshots for lane, cells in enumerate(it.speeds()) for cell, speed in enumerate(cells)
+            expected = [
+                [snapshot.step, lane, cell, speed]
+                for snapshot in snapshots
+                for lane, cells in enumerate(snapshot.speeds())
+                for cell, speed in enumerate(cells)
                 if speed is not None
             ]
             for frame in snapshots.to_pandas(), Snapshots([*snapshots]).to_pandas():
-                self.assertEqual((frame.values.tolist(), [*frame.columns]), (wanted, ["step", "lane", "cell", "speed"]))
+                self.assertEqual(frame.values.tolist(), expected)
+                self.assertEqual([*frame.columns], ["step", "lane", "cell", "speed"])
                 self.assertEqual({str(kind) for kind in frame.dtypes}, {"int64"})

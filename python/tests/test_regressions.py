@@ -1,10 +1,12 @@
 """Numbers that version 0.5.6 got wrong without an error, one test for each.
 
-The calls use the names of either version, so that you can also run the tests with the older package. There each of them fails:
+The calls use the names of either version, so that you can also run the tests with the older package. There each of them
+fails:
 
     TRLAB=$(OLD/trlab --where) PYTHONPATH=OLD/python python3 python/tests/test_regressions.py
 
-OLD is a checkout of version 0.5.6. Results are right if they have the right value, or if there is an error of the package."""
+OLD is a checkout of version 0.5.6. Results are right if they have the right value, or if there is an error of the
+package."""
 import contextlib
 import io
 import os
@@ -68,58 +70,58 @@ def job(density=0.2, seed=0, key=0, **changes):
     return Job(**{**shape, **changes})
 
 
-def frame(call=lambda it: it.series(every=40), make=job, seed=range(4), **options):
+def frame(call=lambda job: job.series(every=40), make=job, seed=range(4), **options):
     return Grid(make, seed=seed).run(call=call, **options)
 
 
-def python(script, *words, before=(), **environment):
+def python(script, *arguments, before=(), **environment):
     """The output of a script that uses the package under test."""
-    line = [*before, sys.executable, "-c", script, *words]
-    place = {**os.environ, "PYTHONPATH": str(PACKAGE), "TRLAB": trlab.find_program(), **environment}
-    return subprocess.run(line, env=place, cwd="/", capture_output=True, text=True).stdout
+    command = [*before, sys.executable, "-c", script, *arguments]
+    environment_of_script = {**os.environ, "PYTHONPATH": str(PACKAGE), "TRLAB": trlab.find_program(), **environment}
+    return subprocess.run(command, env=environment_of_script, cwd="/", capture_output=True, text=True).stdout
 
 
 class Frames(unittest.TestCase):
     def test_means_of_means(self):
-        of_windows = frame(lambda it: it.series(every=10))
+        of_windows = frame(lambda job: job.series(every=10))
         if is_error(lambda: means(means(of_windows, "step"), "seed")):
             return
-        found = means(means(of_windows, "step"), "seed")
+        result = means(means(of_windows, "step"), "seed")
         flows = [statistics.fmean(row.flow for row in of_windows if row.seed == seed) for seed in range(4)]
-        self.assertAlmostEqual(column(found, f"flow_{SEM}")[0], statistics.stdev(flows) / 2)
-        self.assertEqual(column(found, "count"), [4])
+        self.assertAlmostEqual(column(result, f"flow_{SEM}")[0], statistics.stdev(flows) / 2)
+        self.assertEqual(column(result, "count"), [4])
 
     def test_the_number_of_runs_is_not_a_mean_of_counts(self):
-        found = means(frame(lambda it: {"count": 7}), "seed")
-        self.assertEqual(column(found, "n" if IS_NEW else "count"), [4])
+        result = means(frame(lambda job: {"count": 7}), "seed")
+        self.assertEqual(column(result, "n" if IS_NEW else "count"), [4])
 
     def test_an_error_is_not_replaced_by_a_column(self):
-        measured = frame(lambda it: {"x": it.key % 10, f"x_{SEM}": 0.001})
+        measured = frame(lambda job: {"x": job.key % 10, f"x_{SEM}": 0.001})
         self.assertTrue(is_error(means, measured, "seed") or column(means(measured, "seed"), f"x_{SEM}") != [0.001])
 
     def test_a_parameter_does_not_replace_a_result(self):
         def run():
-            return Grid(job, density=[0.1, 0.2], seed=[0]).run(call=lambda it: {"density": 0.9999})
+            return Grid(job, density=[0.1, 0.2], seed=[0]).run(call=lambda job: {"density": 0.9999})
 
         self.assertTrue(is_error(run) or column(run(), "density") == [0.9999, 0.9999])
 
     def test_requested_densities_of_one_car(self):
         def run():
-            return Grid(job, density=[0.011, 0.02, 0.029], seed=[0]).run(call=lambda it: it.series(every=40))
+            return Grid(job, density=[0.011, 0.02, 0.029], seed=[0]).run(call=lambda job: job.series(every=40))
 
         self.assertTrue(is_error(run) or column(run(), "density") == 3 * [0.02])
 
     def test_numbers_of_numpy(self):
-        measured = frame(lambda it: {"x": numpy.int64(it.count())})
+        measured = frame(lambda job: {"x": numpy.int64(job.count())})
         self.assertEqual(column(means(measured, "seed"), "x"), [10])
 
     def test_one_missing_value_does_not_remove_a_column(self):
-        measured = frame(lambda it: {"x": 1.0 if it.key % 3 else None, "y": 1.0}, seed=range(9))
+        measured = frame(lambda job: {"x": 1.0 if job.key % 3 else None, "y": 1.0}, seed=range(9))
         self.assertTrue(is_error(means, measured, "seed") or column(means(measured, "seed"), "x") is not None)
 
     def test_a_choice_without_rows_does_not_vanish(self):
         def run():
-            return frame(lambda it: it.series(every=10)[:0 if it.key % 2 else 4], seed=range(9))
+            return frame(lambda job: job.series(every=10)[:0 if job.key % 2 else 4], seed=range(9))
 
         self.assertTrue(is_error(run) or len(set(column(run(), "seed"))) == 9)
 
@@ -133,7 +135,7 @@ class Frames(unittest.TestCase):
         def long(seed, key):
             return job(key=key, length=100, density=0.12, steps=9000)
 
-        of_windows = frame(lambda it: it.series(every=5, first=1000), make=long, seed=range(12))
+        of_windows = frame(lambda job: job.series(every=5, first=1000), make=long, seed=range(12))
         if is_error(means, of_windows, "step"):
             return
         runs = means(of_windows, "step")
@@ -142,7 +144,7 @@ class Frames(unittest.TestCase):
 
     def test_a_row_and_its_fields_have_one_flow(self):
         def run():
-            return frame(lambda it: it.series(every=40)[0]._asdict())
+            return frame(lambda job: job.series(every=40)[0]._asdict())
 
         self.assertTrue(is_error(run) or max(column(run(), "flow")) < 1)
 
@@ -153,15 +155,15 @@ class Values(unittest.TestCase):
         self.assertEqual(numpy.nanmax(speeds(snapshots).reshape(-1) * speeds(snapshots).reshape(-1)), 400)
 
     def test_a_mean_of_speeds_has_no_empty_cells(self):
-        found = speeds(Job(limit=5, length=50, cars=5, rule=Nasch(0), steps=50).run())
-        self.assertFalse(found.mean() < 0)
+        array = speeds(Job(limit=5, length=50, cars=5, rule=Nasch(0), steps=50).run())
+        self.assertFalse(array.mean() < 0)
 
     def test_flow_has_one_unit(self):
         table = job().series(every=40)
-        found = [table.to_pandas().flow[0], table[0].flow]
+        flows = [table.to_pandas().flow[0], table[0].flow]
         with contextlib.suppress(ERRORS, AttributeError):
-            found.append(table[0].passing)
-        self.assertEqual(len(set(found)), 1)
+            flows.append(table[0].passing)
+        self.assertEqual(len(set(flows)), 1)
 
     def test_headways_are_not_gaps(self):
         cars = job(density=0.1, length=100, steps=20).run().trajectories()
@@ -187,7 +189,9 @@ class Values(unittest.TestCase):
     def test_impossible_rows(self):
         heading = "cars,cells,steps,distance,stopped,changes,flow\n"
         for row in "0,0,0,0,0,0,0", "1,10,100,999,0,0,999000", "1,10,010,0,0,0,0":
-            self.assertTrue(is_error(lambda: [it.density for it in trlab.Table.read(trlab.Point, f"{heading}{row}\n")]), row)
+            self.assertTrue(
+                is_error(lambda: [row.density for row in trlab.Table.read(trlab.Point, f"{heading}{row}\n")]), row
+            )
 
 
 class Inputs(unittest.TestCase):
@@ -201,9 +205,11 @@ class Inputs(unittest.TestCase):
 
     def test_products_of_small_integers(self):
         warnings.simplefilter("ignore")
-        sweep = Sweep(limit=5, rule=Nasch(0), length=10, cars=[5], warm=numpy.uint16(60000), measure=numpy.uint16(10000),
-                      start=random_cells(1))
-        self.assertEqual([it.steps for it in sweep.jobs()], [70000])
+        sweep = Sweep(
+            limit=5, rule=Nasch(0), length=10, cars=[5], warm=numpy.uint16(60000), measure=numpy.uint16(10000),
+            start=random_cells(1),
+        )
+        self.assertEqual([job.steps for job in sweep.jobs()], [70000])
 
     def test_a_boolean_is_not_a_number(self):
         self.assertTrue(is_error(lambda: Job(limit=True, rule=Nasch(0), steps=2, length=9, cars=1)))
@@ -266,8 +272,8 @@ class Runs(unittest.TestCase):
         sweep = Sweep(limit=5, length=10, cars=[1], rule=Nasch(0), warm=0, measure=1)
         full = self.program('[ "$1" = sweep ] || exec "$real" "$@"\n"$real" "$@" > /dev/full')
         script = write_inputs(self.place / "study", {"a": sweep}, program=full)
-        said = subprocess.run(["sh", str(script)], capture_output=True, text=True).stderr
-        self.assertRegex(said, "status 4: .*[a-z]")
+        message = subprocess.run(["sh", str(script)], capture_output=True, text=True).stderr
+        self.assertRegex(message, "status 4: .*[a-z]")
 
     def test_a_study_that_is_terminated_leaves_no_program(self):
         script = (
@@ -276,7 +282,9 @@ class Runs(unittest.TestCase):
             "trlab.Sweep(limit=5, length=100000, lanes=2, cars=[99999], rule=rule, warm=0, measure=500000).sweep()"
         )
         mark = f"mark-{os.getpid()}-{id(self)}"
-        program = self.program(f'[ "$1" = sweep ] || exec "$real" "$@"\necho $$ > "{self.place}/{mark}"\nexec "$real" "$@"')
+        program = self.program(
+            f'[ "$1" = sweep ] || exec "$real" "$@"\necho $$ > "{self.place}/{mark}"\nexec "$real" "$@"'
+        )
         place = {**os.environ, "PYTHONPATH": str(PACKAGE), "TRLAB": program}
         study = subprocess.Popen([sys.executable, "-c", script], env=place, stdout=subprocess.PIPE, text=True)
         self.addCleanup(study.stdout.close)
@@ -294,8 +302,8 @@ class Runs(unittest.TestCase):
             "import trlab\ntry:\n    trlab.check('motion\\ng\\u00e9t r0, speed\\n')\n"
             "except Exception as error:\n    print(type(error).__name__)"
         )
-        found = python(script, LC_ALL="C", PYTHONUTF8="0", PYTHONCOERCECLOCALE="0")
-        self.assertIn(found, ("Refused\n", "RejectedInputError\n"))
+        output = python(script, LC_ALL="C", PYTHONUTF8="0", PYTHONCOERCECLOCALE="0")
+        self.assertIn(output, ("Refused\n", "RejectedInputError\n"))
 
     def test_an_entry_of_the_cache_that_is_not_a_file(self):
         script = (
@@ -324,9 +332,10 @@ class Runs(unittest.TestCase):
 
     def test_a_figure_of_a_run(self):
         """diagram.awk rejects a text that is not a table."""
-        line = ["timeout", str(LIMIT), "awk", "-f", str(PACKAGE.parent / "docs/diagram.awk")]
-        drawn = subprocess.run(line, input=job().run().text().encode(), capture_output=True)
-        self.assertEqual((drawn.returncode, drawn.stdout), (1, b""))
+        command = ["timeout", str(LIMIT), "awk", "-f", str(PACKAGE.parent / "docs/diagram.awk")]
+        drawn = subprocess.run(command, input=job().run().text().encode(), capture_output=True)
+        self.assertEqual(drawn.returncode, 1)
+        self.assertEqual(drawn.stdout, b"")
 
 
 if __name__ == "__main__":

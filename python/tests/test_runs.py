@@ -10,10 +10,14 @@ from pathlib import Path
 from unittest import mock
 
 from tests.by_pictures import windows
+from tests.expected import DEVICE_FAILED, MORE_THAN_THE_GAP, NEEDS_TWO_LANES, QUARTER, WRONG_ARGUMENTS
 from tests.waiting import holds
-from trlab import Job, Nasch, Own, ParameterError, Point, ProgramError, RejectedInputError, RenamedError, Rickert, SlowToStart
+from trlab import (
+    Job, Nasch, Own, ParameterError, Point, ProgramError, RejectedInputError, RenamedError, Rickert, SlowToStart,
+)
 from trlab import Snapshots, Sweep, Table, Window
 from trlab import check, even, find_program, jammed, moving, random_cells, read_tables, run_all, write_inputs
+from trlab._results.tables import point_of
 from trlab._runs.calls import ask
 from trlab._runs.systems import is_running
 
@@ -25,7 +29,7 @@ def example(name):
     return (EXAMPLES / name).read_text()
 
 
-def stand_in(folder, lines):
+def replaced_program(folder, lines):
     """A program of a few lines of the shell."""
     path = Path(folder) / "trlab"
     path.write_text('#!/bin/sh\n[ "$1" != --version ] || exec echo trlab 0\n' + lines)
@@ -44,10 +48,15 @@ class Sweeps(unittest.TestCase):
 
     def test_the_values_of_a_point(self):
         point = Point(cars=4, cells=20, steps=10, distance=60, stopped=8, changes=0, flow_millionths=300000)
-        self.assertEqual((point.density, point.flow, point.speed, point.stopped_share), (0.2, 0.3, 1.5, 0.2))
+        self.assertEqual(point.density, 0.2)
+        self.assertEqual(point.flow, 0.3)
+        self.assertEqual(point.speed, 1.5)
+        self.assertEqual(point.stopped_share, 0.2)
 
     def test_no_other_table_is_read(self):
-        self.assertRaises(ValueError, Table.read, Window, example("fundamental_diagram.csv"))
+        self.assertRaisesRegex(
+            ValueError, "not the heading of Windows", Table.read, Window, example("fundamental_diagram.csv")
+        )
 
 
 class Runs(unittest.TestCase):
@@ -55,8 +64,10 @@ class Runs(unittest.TestCase):
         job = Job(limit=5, start=[0, None, 0] + 7 * [None], rule=Nasch(0), steps=4)
         self.assertEqual(job.text(), example("two_cars.job"))
         snapshots = job.run(workers=3)
-        told = "".join(f"step {it.step}\n" + "".join(lane + "\n" for lane in it.lanes) for it in snapshots)
-        self.assertEqual(told, example("two_cars.job.out"))
+        text = "".join(
+            f"step {snapshot.step}\n" + "".join(lane + "\n" for lane in snapshot.lanes) for snapshot in snapshots
+        )
+        self.assertEqual(text, example("two_cars.job.out"))
         self.assertEqual(snapshots[4].speeds(), [[None, None, 4, None, None, None, None, 3, None, None]])
         self.assertEqual(list(job.snapshots()), snapshots)
 
@@ -66,9 +77,12 @@ class Runs(unittest.TestCase):
         snapshots.close()
 
     def test_every_nth_snapshot(self):
-        one = Job(limit=5, length=60, density=0.3, start=random_cells(1), rule=Nasch(0.25), steps=50, key=7)
-        two = Job(limit=3, length=40, lanes=2, cars=20, start=random_cells(2), rule=Rickert(0.25, 1), steps=50, at={35: Nasch(0.5)})
-        for job in one, two:
+        one_lane = Job(limit=5, length=60, density=0.3, start=random_cells(1), rule=Nasch(0.25), steps=50, key=7)
+        two_lanes = Job(
+            limit=3, length=40, lanes=2, cars=20, start=random_cells(2), rule=Rickert(0.25, 1), steps=50,
+            at={35: Nasch(0.5)},
+        )
+        for job in one_lane, two_lanes:
             each = job.run()
             for every, first in (1, 0), (1, 20), (7, 0), (7, 3), (50, 0), (20, 10), (3, 50), (60, 50):
                 with self.subTest(every=every, first=first):
@@ -80,21 +94,28 @@ class Runs(unittest.TestCase):
     def test_options_of_a_run(self):
         job = Job(limit=5, start=[0, None], rule=Nasch(0), steps=5)
         with tempfile.TemporaryDirectory() as folder:
-            with stand_in(folder, f'echo $@ >>{folder}/words\nexec "{find_program()}" "$@"\n'):
-                told = [job.run(workers=3), job.run(every=10, first=5, workers=3), list(job.snapshots(workers=2, every=4, first=1))]
-            words = (Path(folder) / "words").read_text().splitlines()
-        self.assertEqual([[it.step for it in snapshots] for snapshots in told], [[0, 1, 2, 3, 4, 5], [5], [1, 5]])
-        self.assertEqual(words, ["run --workers 3", "run --every 10 --from 5 --workers 3", "run --every 4 --from 1 --workers 2"])
+            with replaced_program(folder, f'echo $@ >>{folder}/words\nexec "{find_program()}" "$@"\n'):
+                results = [
+                    job.run(workers=3), job.run(every=10, first=5, workers=3),
+                    list(job.snapshots(workers=2, every=4, first=1)),
+                ]
+            calls = (Path(folder) / "words").read_text().splitlines()
+        self.assertEqual(
+            [[snapshot.step for snapshot in snapshots] for snapshots in results], [[0, 1, 2, 3, 4, 5], [5], [1, 5]]
+        )
+        self.assertEqual(
+            calls, ["run --workers 3", "run --every 10 --from 5 --workers 3", "run --every 4 --from 1 --workers 2"]
+        )
 
-    def test_numbers_of_steps_are_checked_by_the_program(self):
+    def test_numbers_of_steps_are_checked(self):
         job = Job(limit=5, start=[0, None], rule=Nasch(0), steps=5)
         for options in {"every": 0}, {"every": 500001}, {"first": -1}, {"first": 500001}:
             for call in job.run, job.series, lambda **options: list(job.snapshots(**options)):
-                self.assertRaises((ParameterError, ProgramError), call, **options)
+                self.assertRaisesRegex(ParameterError, "(every|first) must be between", call, **options)
 
     def test_more_than_a_pipe_can_hold(self):
         job = Job(limit=5, length=100000, density=1, lanes=2, rule=Rickert(0, 1), steps=1)
-        self.assertEqual([it.lanes for it in job.run()], 2 * [2 * (100000 * "0",)])
+        self.assertEqual([snapshot.lanes for snapshot in job.run()], 2 * [2 * (100000 * "0",)])
 
 
 class Series(unittest.TestCase):
@@ -115,77 +136,93 @@ class Series(unittest.TestCase):
                 sweep = Sweep(limit=5, length=60, lanes=lanes, rule=rule, warm=20, measure=100, cars=[cars])
                 job = Job(limit=5, length=60, lanes=lanes, rule=rule, steps=120, cars=cars, start=even)
                 (point,) = sweep.sweep()
-                (told,) = windows(job.snapshots(), every=100, first=20)
-            self.assertEqual(told[1:8], point)
-            self.assertEqual(told.changes > 0, lanes == 2)
+                (window,) = windows(job.snapshots(), every=100, first=20)
+            self.assertEqual(point_of(window), point)
+            self.assertEqual(window.changes > 0, lanes == 2)
 
     def test_the_table_is_that_of_the_snapshots(self):
         for job in self.JOBS:
-            widths = [(every, first) for every in range(1, job.steps + 1, 3) for first in (0, 1, 5) if first < job.steps]
-            for every, first in [it for it in widths if (job.steps - it[1]) % it[0] == 0]:
-                told = job.series(every=every, first=first, workers=2)
-                self.assertEqual(told, list(windows(job.snapshots(), every, first)))
+            widths = [
+                (every, first) for every in range(1, job.steps + 1, 3) for first in (0, 1, 5) if first < job.steps
+            ]
+            for every, first in [(every, first) for every, first in widths if (job.steps - first) % every == 0]:
+                table = job.series(every=every, first=first, workers=2)
+                self.assertEqual(table, list(windows(job.snapshots(), every, first)))
 
     def test_options_of_a_series(self):
         job = self.JOBS[0]
         with tempfile.TemporaryDirectory() as folder:
-            with stand_in(folder, f'echo $@ >{folder}/words\ntee {folder}/text | "{find_program()}" "$@"\n'):
-                told = job.series(every=15, first=5, workers=3)
+            with replaced_program(folder, f'echo $@ >{folder}/words\ntee {folder}/text | "{find_program()}" "$@"\n'):
+                table = job.series(every=15, first=5, workers=3)
             self.assertEqual((Path(folder) / "words").read_text(), "series --every 15 --from 5 --workers 3\n")
             self.assertEqual((Path(folder) / "text").read_text(), job.text())
-        self.assertEqual(told, job.series(every=15, first=5))
+        self.assertEqual(table, job.series(every=15, first=5))
 
 
-class Refusals(unittest.TestCase):
-    def test_a_text_with_a_fault(self):
+class Rejections(unittest.TestCase):
+    def test_a_rejected_job(self):
         with self.assertRaises(RejectedInputError) as caught:
             Job(limit=5, length=10, cars=2, rule=Rickert(0, 1), steps=1).run()
-        refused = caught.exception
-        self.assertEqual((refused.line, refused.cause, refused.reason, refused.pc), (5, 4, None, None))
-        self.assertEqual(refused.answer, "fault line 5 cause 4")
-        self.assertIn(f"Cause 4: {refused.meaning}\n", refused.explanation)
-        self.assertTrue(refused.explanation.startswith("fault line 5 cause 4\n"))
-        self.assertEqual(str(refused), refused.explanation)
+        rejected = caught.exception
+        self.assertEqual(rejected.line, 5)
+        self.assertEqual(rejected.cause, NEEDS_TWO_LANES)
+        self.assertIsNone(rejected.reason)
+        self.assertIsNone(rejected.pc)
+        self.assertEqual(rejected.answer, "fault line 5 cause 4")
+        self.assertIn(f"Cause 4: {rejected.meaning}\n", rejected.explanation)
+        self.assertTrue(rejected.explanation.startswith("fault line 5 cause 4\n"))
+        self.assertEqual(str(rejected), rejected.explanation)
 
-    def test_a_sweep_with_a_fault(self):
+    def test_a_rejected_sweep(self):
         with self.assertRaises(RejectedInputError) as caught:
             Sweep(limit=5, length=10, rule=Rickert(0, 1), warm=1, measure=1, cars=[1]).sweep()
-        self.assertEqual((caught.exception.line, caught.exception.cause), (6, 4))
+        self.assertEqual(caught.exception.line, 6)
+        self.assertEqual(caught.exception.cause, NEEDS_TWO_LANES)
 
-    def test_a_program(self):
-        self.assertEqual(check(HALF), (5, HALF.partition("\n")[2]))
+    def test_an_accepted_and_a_rejected_program(self):
+        accepted = check(HALF)
+        self.assertEqual(accepted.budget, 5)
+        self.assertEqual(accepted.program, HALF.removeprefix("motion\n"))
         with self.assertRaises(RejectedInputError) as caught:
             check("motion\nget r0, speed\ngo r0\n")
-        refused = caught.exception
-        self.assertEqual((refused.pc, refused.reason, refused.cause, refused.line), (1, 10, None, 3))
-        for words in (refused.meaning, refused.advice, *refused.facts):
-            self.assertIn(words, str(refused))
-        self.assertEqual(len(refused.facts), 2)
+        rejected = caught.exception
+        self.assertEqual(rejected.pc, 1)
+        self.assertEqual(rejected.reason, MORE_THAN_THE_GAP)
+        self.assertIsNone(rejected.cause)
+        self.assertEqual(rejected.line, 3)
+        for part in (rejected.meaning, rejected.advice, *rejected.facts):
+            self.assertIn(part, str(rejected))
+        self.assertEqual(len(rejected.facts), 2)
 
-    def test_a_repair(self):
+    def test_the_repair_of_a_rejected_job(self):
         text = Job(limit=5, length=10, cars=2, rule=Nasch(0), steps=1).text()
-        wrong = text.replace("nasch 0", "nasch 0.25")
+        rejected_text = text.replace("nasch 0", "nasch 0.25")
         with self.assertRaises(RejectedInputError) as caught:
-            ask(["run"], wrong)
-        refused = caught.exception
-        self.assertEqual((refused.line, refused.first, refused.last), (5, 12, 15))
-        self.assertIn("0.25", refused.found)
-        [repair] = refused.repairs
-        self.assertEqual(repair["edits"], [{"line": 5, "first": 12, "last": 15, "replacement": "536870912"}])
+            ask(["run"], rejected_text)
+        rejected = caught.exception
+        self.assertEqual(rejected.line, 5)
+        self.assertEqual(rejected.first, 12)
+        self.assertEqual(rejected.last, 15)
+        self.assertIn("0.25", rejected.found)
+        [repair] = rejected.repairs
+        self.assertEqual(repair["edits"], [{"line": 5, "first": 12, "last": 15, "replacement": str(QUARTER)}])
 
-    def test_words_that_are_rejected(self):
+    def test_arguments_that_are_rejected(self):
         with self.assertRaises(ProgramError) as caught:
             ask(["run", "--workers", "17"], Job(limit=5, length=10, cars=2, rule=Nasch(0), steps=1).text())
-        self.assertEqual(caught.exception.status, 2)
+        self.assertEqual(caught.exception.status, WRONG_ARGUMENTS)
         self.assertIn("--workers", caught.exception.message)
         with self.assertRaisesRegex(RenamedError, "`message`"):
             caught.exception.said
 
     def test_a_run_that_ends_early_is_not_a_result(self):
-        with tempfile.TemporaryDirectory() as folder, stand_in(folder, "echo step 0; echo .; echo full >&2; exit 4\n"):
+        with tempfile.TemporaryDirectory() as folder, replaced_program(
+            folder, "echo step 0; echo .; echo full >&2; exit 4\n"
+        ):
             with self.assertRaises(ProgramError) as caught:
                 Job(limit=5, length=1, cars=0, rule=Nasch(0), steps=1).run()
-        self.assertEqual((caught.exception.status, str(caught.exception)), (4, "trlab ended with status 4: full"))
+        self.assertEqual(caught.exception.status, DEVICE_FAILED)
+        self.assertEqual(str(caught.exception), "trlab ended with status 4: full")
 
     def test_a_stopped_run_leaves_no_process(self):
         """The program interrupts the reader, as Ctrl-C does, when a file says that it has read the first snapshot."""
@@ -195,8 +232,11 @@ class Refusals(unittest.TestCase):
         self.addCleanup(signal.signal, signal.SIGALRM, signal.signal(signal.SIGALRM, interrupt))
         with tempfile.TemporaryDirectory() as folder:
             number, is_read = Path(folder) / "number", Path(folder) / "is_read"
-            lines = f"echo $$ > {number}; echo step 0; echo .; echo step 1; until [ -e {is_read} ]; do sleep 0.1; done; kill -ALRM $PPID; exec sleep 1000\n"
-            with stand_in(folder, f'trap "" PIPE; {lines}'):
+            lines = (
+                f"echo $$ > {number}; echo step 0; echo .; echo step 1; until [ -e {is_read} ]; do sleep 0.1; done; "
+                "kill -ALRM $PPID; exec sleep 1000\n"
+            )
+            with replaced_program(folder, f'trap "" PIPE; {lines}'):
                 snapshots = Job(limit=5, length=1, cars=0, rule=Nasch(0), steps=1).snapshots()
                 next(snapshots)
                 with self.assertRaises(KeyboardInterrupt):
@@ -210,16 +250,16 @@ class Many(unittest.TestCase):
         shape = Sweep(limit=5, length=100, rule=Nasch(0.25), warm=10, measure=20, cars=[10, 20])
         self.sweeps = [replace(shape, key=key) for key in range(5)]
 
-    def test_in_order(self):
-        self.assertEqual(run_all(self.sweeps, Sweep.sweep, at_once=3), [it.sweep() for it in self.sweeps])
+    def test_results_are_in_the_order_of_the_inputs(self):
+        self.assertEqual(run_all(self.sweeps, Sweep.sweep, at_once=3), [sweep.sweep() for sweep in self.sweeps])
 
     def test_the_first_that_fails(self):
-        with self.assertRaises(RejectedInputError):
+        with self.assertRaisesRegex(RejectedInputError, "fault line 5 cause 4"):
             run_all([Job(limit=5, length=5, cars=1, rule=rule, steps=1) for rule in (Nasch(0), Rickert(0, 0))], Job.run)
 
     def test_by_files(self):
         with tempfile.TemporaryDirectory(prefix="a blank ") as folder:
-            script = write_inputs(folder, {f"key_{it.key}": it for it in self.sweeps}, program=find_program())
+            script = write_inputs(folder, {f"key_{sweep.key}": sweep for sweep in self.sweeps}, program=find_program())
             self.assertEqual((Path(folder) / "key_3.sweep").read_text(), self.sweeps[3].text())
             for task in 1, 4:
                 self.assertEqual(os.system(f"SLURM_ARRAY_TASK_ID={task} sh '{script}'"), 0)

@@ -25,7 +25,8 @@ from trlab import Nasch, Point, Sweep, random_cells
 TOP = Path(__file__).resolve().parents[2]
 STUDIES = TOP / "studies"
 NAMES = "1992", "1996", "1998", "exact", "triangle"
-QUICK = ["detectors", "hysteresis", "own_rule", "study_file", "trajectories"]  # of the short scripts: seconds, not minutes
+# The short scripts, which take seconds or minutes.
+QUICK = ["detectors", "hysteresis", "own_rule", "study_file", "trajectories"]
 SLOW = ["diagram", "ring_size", "two_lanes"]
 PRINTED = re.compile(r"```sh\npython3 studies/paper/(\w+)\.py\n```\n\n```text\n(.*?)```", re.S)
 HEADING = "text,cars,cells,steps,distance,stopped,changes,flow"
@@ -47,9 +48,9 @@ def inputs(name):
         return module.inputs(False)
     if name == "1998":
         jobs = {**module.branches(False), **module.lives(False)}
-        return {f"{asked}.job": job for asked, job in jobs.items() if job.key == 1}
+        return {f"{input_name}.job": job for input_name, job in jobs.items() if job.key == 1}
     sweeps = {**module.inputs(False), **(module.dots() if name == "1992" else {})}
-    return {f"{asked}.sweep": sweep for asked, sweep in sweeps.items()}
+    return {f"{input_name}.sweep": sweep for input_name, sweep in sweeps.items()}
 
 
 def lines(table):
@@ -64,39 +65,46 @@ class Drawn(NamedTuple):
     printed: list
 
 
-def ran(folder, *words):
-    """The output of Python in a folder with a copy of the studies without figures, and the figures that it draws there."""
+def run_python(folder, *arguments):
+    """The output of Python in a folder with a copy of the studies without figures, and the figures that it draws
+    there."""
     copytree(STUDIES, Path(folder) / "studies", ignore=ignore_patterns("*.svg", "cache"))
     environment = {**os.environ, "PYTHONPATH": str(TOP / "python"), "PYTHONIOENCODING": "utf-8", "MPLBACKEND": "agg"}
-    words = [sys.executable, "-B", *words]
-    printed = subprocess.run(words, cwd=folder, env=environment, check=True, stdout=subprocess.PIPE, encoding="utf-8").stdout
-    return Drawn({file.name: file.read_text(encoding="utf-8") for file in Path(folder).rglob("*.svg")}, printed.splitlines())
+    command = [sys.executable, "-B", *arguments]
+    options = {"cwd": folder, "env": environment, "check": True, "stdout": subprocess.PIPE, "encoding": "utf-8"}
+    printed = subprocess.run(command, **options).stdout
+    figures = {file.name: file.read_text(encoding="utf-8") for file in Path(folder).rglob("*.svg")}
+    return Drawn(figures, printed.splitlines())
 
 
 @lru_cache(maxsize=None)
-def drawn(name):
+def drawn_by_study(name):
     with tempfile.TemporaryDirectory() as folder:
-        return ran(folder, "-m", f"studies.{name}.reproduce", "--draw")
+        return run_python(folder, "-m", f"studies.{name}.reproduce", "--draw")
 
 
-def is_rounded_alike(one, other):
+def is_rounded_alike(first, second):
     """Whether two words are the same, or numbers that differ by one in the last digit: sums depend on the library."""
-    if one == other:
+    if first == second:
         return True
-    places = len(one.partition(".")[2])
-    return "." in one and places == len(other.partition(".")[2]) and abs(float(one) - float(other)) < 1.5 * 10**-places
+    places = len(first.partition(".")[2])
+    have_same_places = "." in first and places == len(second.partition(".")[2])
+    return have_same_places and abs(float(first) - float(second)) < 1.5 * 10**-places
 
 
 def words_of(figure):
     """The texts of a figure that have letters: titles and legends, not the marks of its axes."""
-    texts = ("".join(it.itertext()).strip() for it in ElementTree.fromstring(figure).iter("{http://www.w3.org/2000/svg}text"))
+    texts = (
+        "".join(element.itertext()).strip()
+        for element in ElementTree.fromstring(figure).iter("{http://www.w3.org/2000/svg}text")
+    )
     return sorted(text for text in texts if any(letter.isalpha() for letter in text))
 
 
 def rows(file):
     """The lines of a table after its heading, by the names of their inputs."""
-    found = (line.split(",", 1) for line in file.read_text().splitlines()[1:])
-    return {name: [row for _, row in group] for name, group in itertools.groupby(found, lambda line: line[0])}
+    lines_of_table = (line.split(",", 1) for line in file.read_text().splitlines()[1:])
+    return {name: [row for _, row in group] for name, group in itertools.groupby(lines_of_table, lambda line: line[0])}
 
 
 @unittest.skipIf(MISSING, f"{', '.join(MISSING)} not installed")
@@ -104,24 +112,24 @@ class Studies(unittest.TestCase):
     def test_inputs_are_those_of_the_scripts(self):
         for name in NAMES:
             with self.subTest(study=name):
-                there = {file.name: file.read_text() for file in (STUDIES / name / "texts").iterdir()}
-                self.assertEqual(there, {file: asked.text() for file, asked in inputs(name).items()})
+                files = {file.name: file.read_text() for file in (STUDIES / name / "texts").iterdir()}
+                self.assertEqual(files, {file: input.text() for file, input in inputs(name).items()})
 
     def test_figures_are_of_the_tables_and_scripts(self):
         # The drawing of a curve depends on the version of matplotlib, but its texts do not.
         for name in NAMES:
             figures = {file.name: file.read_text(encoding="utf-8") for file in (STUDIES / name).glob("*.svg")}
-            self.assertEqual(set(figures), set(drawn(name).figures))
+            self.assertEqual(set(figures), set(drawn_by_study(name).figures))
             for file, figure in figures.items():
                 with self.subTest(study=name, figure=file):
                     self.assertIn(shared.digest_of_tables(STUDIES / name), figure)
                     self.assertGreater(len(words_of(figure)), 3)
-                    self.assertEqual(words_of(figure), words_of(drawn(name).figures[file]))
+                    self.assertEqual(words_of(figure), words_of(drawn_by_study(name).figures[file]))
 
     def test_pages_have_the_rows_that_their_scripts_print(self):
         for name in NAMES:
             page = (STUDIES / name / "README.md").read_text(encoding="utf-8").splitlines()
-            rows_printed = [line for line in drawn(name).printed if line.startswith(("| ", "- "))]
+            rows_printed = [line for line in drawn_by_study(name).printed if line.startswith(("| ", "- "))]
             self.assertGreater(len(rows_printed), 10)
             for line in rows_printed:
                 with self.subTest(study=name):
@@ -134,35 +142,35 @@ class Studies(unittest.TestCase):
             "full_table.csv": (module.inputs(True), "| {} | {:.6f} ± {:.6f} |"),
             "full_random.csv": (module.random_inputs(True), "| {1:.6f} ± {2:.6f} |"),
         }
-        for file, (asked, form) in full.items():
+        for file, (full_inputs, form) in full.items():
             tables = shared.read_tables(STUDIES / "1992" / file, Point)
-            frame = shared.frame_of({name: asked[name] for name in tables}, tables)
-            found = shared.means(frame, "density")
-            self.assertEqual(set(found.n), {80})
+            frame = shared.frame_of({name: full_inputs[name] for name in tables}, tables)
+            means = shared.means(frame, "density")
+            self.assertEqual(set(means.n), {80})
             if file == "full_table.csv":
                 self.assertIn(module.maximum("even, 1,600,000 steps", frame), page)
-            for density, its in found.iterrows():
+            for density, row in means.iterrows():
                 with self.subTest(file=file, density=density):
-                    self.assertIn(form.format(density, its.flow, its.flow_sem), page)
+                    self.assertIn(form.format(density, row.flow, row.flow_sem), page)
 
     def test_first_points_come_out_again(self):
         # A point does not depend on the points after it.
         for name in "1992", "1996", "triangle":
             table = rows(STUDIES / name / "table.csv")
             self.assertEqual(list(table), list(script(name).inputs(False)))
-            for asked, sweep in itertools.islice(script(name).inputs(False).items(), 2):
+            for input_name, sweep in itertools.islice(script(name).inputs(False).items(), 2):
                 first = replace(sweep, cars=sweep.counts()[:2], densities=None)
-                with self.subTest(study=name, input=asked):
-                    self.assertEqual(lines(Sweep.sweep(first)), table[asked][:2])
+                with self.subTest(study=name, input=input_name):
+                    self.assertEqual(lines(Sweep.sweep(first)), table[input_name][:2])
 
     def test_first_points_of_random_initial_states_come_out_again(self):
         for name in "1992", "1996", "triangle":
             module, table = script(name), rows(STUDIES / name / "random.csv")
             jobs = module.random_inputs(False)
             self.assertEqual(list(table), list(jobs))
-            for asked, job in itertools.islice(jobs.items(), 2):
-                with self.subTest(study=name, input=asked):
-                    self.assertEqual(lines(random_starts.last_steps(module.MEASURE)(job)), table[asked])
+            for input_name, job in itertools.islice(jobs.items(), 2):
+                with self.subTest(study=name, input=input_name):
+                    self.assertEqual(lines(random_starts.last_steps(module.MEASURE)(job)), table[input_name])
 
     def test_random_initial_states_are_those_of_a_sweep(self):
         sweep = Sweep(limit=5, length=30, rule=Nasch("1/4"), warm=10, measure=20, cars=[4, 4, 7], key=5)
@@ -194,31 +202,33 @@ class Studies(unittest.TestCase):
             with mock.patch.dict("os.environ", TRLAB=str(logging_program(beside))):
                 study = shared.Study(Path(folder), is_full=False, is_drawn_only=False)
                 with contextlib.redirect_stderr(io.StringIO()):
-                    self.assertRaises(OSError, study.frame, "table.csv", Point, sweeps, is_cut_off)
+                    self.assertRaisesRegex(OSError, "cut off", study.frame, "table.csv", Point, sweeps, is_cut_off)
                     done = len(list((Path(folder) / "outputs.parts").iterdir()))
                     for call, new_calls in (Sweep.sweep, 3 - done), (Sweep.sweep, 0), (other_call, 3):
                         before = calls(beside, "sweep")
-                        found = study.frame("table.csv", Point, sweeps, call)
+                        frame = study.frame("table.csv", Point, sweeps, call)
                         self.assertEqual(calls(beside, "sweep") - before, new_calls)
-            self.assertEqual(list(found.cars), [1, 2, 3])
+            self.assertEqual(list(frame.cars), [1, 2, 3])
             self.assertLessEqual(done, 2)
             self.assertEqual((Path(folder) / "table.csv").read_text().splitlines()[0], HEADING)
             study.save(shared.plt.subplots()[1])
             self.assertEqual({file.name for file in Path(folder).iterdir()}, {"table.csv", "texts", "figure.svg"})
 
     def test_short_scripts_print_their_page(self):
-        wanted = dict(PRINTED.findall((STUDIES / "paper" / "README.md").read_text(encoding="utf-8")))
-        self.assertEqual(set(wanted), {file.stem for file in (STUDIES / "paper").glob("*.py")})
-        self.assertEqual(set(wanted), {*QUICK, *SLOW})
+        pages = dict(PRINTED.findall((STUDIES / "paper" / "README.md").read_text(encoding="utf-8")))
+        self.assertEqual(set(pages), {file.stem for file in (STUDIES / "paper").glob("*.py")})
+        self.assertEqual(set(pages), {*QUICK, *SLOW})
         names = [*QUICK, *(SLOW if os.environ.get("TRLAB_SLOW_STUDIES") else [])]
         with tempfile.TemporaryDirectory() as folder, ThreadPoolExecutor() as pool:
-            found = pool.map(lambda name: ran(Path(folder) / name, f"studies/paper/{name}.py"), names)
-            for name, (figures, printed) in zip(names, found):
+            results = pool.map(lambda name: run_python(Path(folder) / name, f"studies/paper/{name}.py"), names)
+            for name, (figures, printed) in zip(names, results):
                 with self.subTest(script=name):
                     self.assertEqual(set(figures), {f"{name}.svg"})
-                    words, others = "\n".join(printed).split(), wanted[name].split()
-                    self.assertEqual(len(words), len(others))
-                    self.assertEqual([pair for pair in zip(words, others) if not is_rounded_alike(*pair)], [])
+                    printed_words, expected_words = "\n".join(printed).split(), pages[name].split()
+                    self.assertEqual(len(printed_words), len(expected_words))
+                    self.assertEqual(
+                        [pair for pair in zip(printed_words, expected_words) if not is_rounded_alike(*pair)], []
+                    )
 
     def test_parts_are_not_in_git(self):
         if not (TOP / ".git").exists() or not which("git"):

@@ -15,7 +15,9 @@ from pathlib import Path
 import trlab
 from tests.processes import PYTHON
 from tests.test_arrays import needs
-from trlab import Grid, Job, Nasch, ParameterError, StudyFileError, Sweep, Table, Window, find_program, moving, random_cells
+from trlab import (
+    Grid, Job, Nasch, ParameterError, StudyFileError, Sweep, Table, Window, find_program, moving, random_cells,
+)
 from trlab import read_study
 
 WORDS = ["series", "--every", "15", "--from", "5"]
@@ -28,14 +30,16 @@ def job(p, seed, key):
 def sweep_from(start):
     def sweep(p, seed, key):
         cars = [number % 40 + 1 for number in range(250)] if start == "many" else [5, 10, 15]
-        return Sweep(limit=5, length=50, rule=Nasch(p), warm=5, measure=10, cars=cars, key=key,
-                     start={"random": random_cells(key), "moving": moving}.get(start, trlab.even))
+        return Sweep(
+            limit=5, length=50, rule=Nasch(p), warm=5, measure=10, cars=cars, key=key,
+            start={"random": random_cells(key), "moving": moving}.get(start, trlab.even),
+        )
 
     return sweep
 
 
-WHOLE = []
-P = {"p": [0.25, Fraction(1, 3), "1/2"], "seed": [0, 1]}
+SAVED = []
+PARAMETERS = {"p": [0.25, Fraction(1, 3), "1/2"], "seed": [0, 1]}
 
 
 class Folder(unittest.TestCase):
@@ -46,11 +50,11 @@ class Folder(unittest.TestCase):
 
     def saved(self):
         """The bytes of a study, which is in the file then."""
-        if not WHOLE:
-            Grid(job, **P).save(self.path, WORDS)
-            WHOLE.append(self.path.read_bytes())
-        self.path.write_bytes(WHOLE[0])
-        return WHOLE[0]
+        if not SAVED:
+            Grid(job, **PARAMETERS).save(self.path, WORDS)
+            SAVED.append(self.path.read_bytes())
+        self.path.write_bytes(SAVED[0])
+        return SAVED[0]
 
 
 class Studies(Folder):
@@ -58,14 +62,14 @@ class Studies(Folder):
     def test_the_frame_is_the_same_to_the_last_bit(self):
         from pandas.testing import assert_frame_equal
 
-        grids = {name: (Grid(sweep_from(name), **P), []) for name in ("even", "random", "moving", "many")}
-        for name, (grid, words) in {**grids, "jobs": (Grid(job, **P), WORDS)}.items():
+        grids = {name: (Grid(sweep_from(name), **PARAMETERS), []) for name in ("even", "random", "moving", "many")}
+        for name, (grid, words) in {**grids, "jobs": (Grid(job, **PARAMETERS), WORDS)}.items():
             with self.subTest(name):
                 grid.save(self.path, words)
-                wanted = grid.run(call=(lambda it: it.series(every=15, first=5)) if words else None)
-                found = read_study(self.path).run()
-                assert_frame_equal(found, wanted, check_exact=True, check_flags=True)
-                self.assertEqual(found.attrs, wanted.attrs)
+                expected = grid.run(call=(lambda job: job.series(every=15, first=5)) if words else None)
+                frame = read_study(self.path).run()
+                assert_frame_equal(frame, expected, check_exact=True, check_flags=True)
+                self.assertEqual(frame.attrs, expected.attrs)
 
     @needs("pandas")
     def test_options_are_those_of_results(self):
@@ -74,37 +78,44 @@ class Studies(Folder):
             frames = [read_study(self.path).run(cache=cache, at_once=2) for _ in range(2)]
             self.assertEqual(len(os.listdir(cache)), 6)
         self.assertTrue(frames[0].equals(frames[1]))
-        self.assertRaises(ParameterError, read_study(self.path).run, call=Job.series)
+        self.assertRaisesRegex(ParameterError, "leave out `call`", read_study(self.path).run, call=Job.series)
 
     def test_tables_need_no_package(self):
         self.saved()
         script = "import sys\nfor name in 'numpy', 'pandas':\n    sys.modules[name] = None\n" \
             "import trlab\nfor place, table in trlab.read_study(sys.argv[1]).results():\n    print(place.p, len(table))"
         environment = {**os.environ, "PYTHONPATH": str(PYTHON)}
-        line = [sys.executable, "-B", "-c", script, str(self.path)]
-        ran = subprocess.run(line, env=environment, stdout=subprocess.PIPE, text=True)
-        self.assertEqual(sorted(ran.stdout.splitlines()), sorted(f"{p} 2" for p in ("0.25", "1/3", "1/2") for _ in range(2)))
+        command = [sys.executable, "-B", "-c", script, str(self.path)]
+        process = subprocess.run(command, env=environment, stdout=subprocess.PIPE, text=True)
+        self.assertEqual(
+            sorted(process.stdout.splitlines()), sorted(f"{p} 2" for p in ("0.25", "1/3", "1/2") for _ in range(2))
+        )
 
     def test_the_contents_of_a_study(self):
-        grid = Grid(job, **P)
+        grid = Grid(job, **PARAMETERS)
         self.saved()
         study = read_study(self.path)
-        self.assertEqual((study.names, list(study.inputs)), (("p", "seed"), list(grid.inputs)))
+        self.assertEqual(study.names, ("p", "seed"))
+        self.assertEqual(list(study.inputs), list(grid.inputs))
         self.assertEqual([type(place.p) for place in study.inputs], [float, float, Fraction, Fraction, str, str])
-        for place, given in study.inputs.items():
-            self.assertEqual((given.words, given.texts), (tuple(WORDS), (grid.inputs[place].text(),)))
-        self.assertEqual(dict(study.results()), {place: it.series(every=15, first=5) for place, it in grid.inputs.items()})
+        for place, input in study.inputs.items():
+            self.assertEqual(input.words, tuple(WORDS))
+            self.assertEqual(input.texts, (grid.inputs[place].text(),))
+        self.assertEqual(
+            dict(study.results()), {place: job.series(every=15, first=5) for place, job in grid.inputs.items()}
+        )
         program = hashlib.sha256(Path(find_program()).read_bytes()).hexdigest()
-        self.assertEqual((study.version, study.program), (trlab.__version__, program))
+        self.assertEqual(study.version, trlab.__version__)
+        self.assertEqual(study.program, program)
 
     def test_the_same_study_is_the_same_bytes(self):
         content = self.saved()
-        Grid(job, **P).save(self.path, WORDS)
+        Grid(job, **PARAMETERS).save(self.path, WORDS)
         self.assertEqual(self.path.read_bytes(), content)
         self.assertEqual([file.name for file in self.path.parent.iterdir()], [self.path.name])
         # Nothing is compressed, because not all libraries compress alike.
-        for given in Grid(job, **P).inputs.values():
-            self.assertIn(given.text().encode(), content)
+        for input in Grid(job, **PARAMETERS).inputs.values():
+            self.assertIn(input.text().encode(), content)
 
     def test_anyone_can_run_a_line_of_a_study(self):
         self.saved()
@@ -112,14 +123,21 @@ class Studies(Folder):
             about = json.loads(file.read("study.json"))
             choice = about["choices"][3]
             text = file.read(*choice["files"])
-        ran = subprocess.run([find_program(), *choice["words"]], input=text, stdout=subprocess.PIPE, check=True)
-        self.assertEqual(Table.read(Window, ran.stdout), Grid(job, **P).inputs[(Fraction(1, 3), 1)].series(every=15, first=5))
+        process = subprocess.run([find_program(), *choice["words"]], input=text, stdout=subprocess.PIPE, check=True)
+        self.assertEqual(
+            Table.read(Window, process.stdout),
+            Grid(job, **PARAMETERS).inputs[(Fraction(1, 3), 1)].series(every=15, first=5),
+        )
 
     def test_results_that_cannot_be_saved(self):
-        grid = Grid(job, **P)
+        grid = Grid(job, **PARAMETERS)
         for words in [], ["run"], ["sweep"], ["series", "--every", "16"], ["series; id"]:
-            self.assertRaises(ParameterError, grid.save, self.path, words)
-        self.assertRaises(ParameterError, Grid(sweep_from("even"), **P).save, self.path, WORDS)
+            self.assertRaisesRegex(
+                ParameterError, "say what to measure|are not whole windows", grid.save, self.path, words
+            )
+        self.assertRaisesRegex(
+            ParameterError, "leave out `words`", Grid(sweep_from("even"), **PARAMETERS).save, self.path, WORDS
+        )
         self.assertFalse(self.path.exists())
 
     def test_another_program(self):
@@ -131,21 +149,23 @@ class Studies(Folder):
             "except trlab.StudyFileError as error:\n    print(error)\n" \
             "print(len(dict(trlab.read_study(sys.argv[1], any_program=True).results())))"
         environment = {**os.environ, "PYTHONPATH": str(PYTHON), "TRLAB": str(other)}
-        line = [sys.executable, "-B", "-c", script, str(self.path)]
-        ran = subprocess.run(line, env=environment, stdout=subprocess.PIPE, text=True)
-        said, count = ran.stdout.splitlines()
-        self.assertRegex(said, "was made with trlab .*, program [0-9a-f]{12}, and yours is trlab 9, program .* any_program=True$")
+        command = [sys.executable, "-B", "-c", script, str(self.path)]
+        process = subprocess.run(command, env=environment, stdout=subprocess.PIPE, text=True)
+        message, count = process.stdout.splitlines()
+        self.assertRegex(
+            message, "was made with trlab .*, program [0-9a-f]{12}, and yours is trlab 9, program .* any_program=True$"
+        )
         self.assertEqual(count, "6")
 
 
 class OtherFiles(Folder):
     """Damaged, foreign and hostile files."""
 
-    def refused(self, content, said="."):
+    def reject(self, content, message="."):
         self.path.write_bytes(content)
         with self.assertRaises(StudyFileError) as caught:
             read_study(self.path)
-        self.assertRegex(str(caught.exception), said)
+        self.assertRegex(str(caught.exception), message)
 
     def rewritten(self, change=lambda about: None, members=lambda texts: None, compression=zipfile.ZIP_STORED):
         """The bytes of a study whose study.json or members were changed."""
@@ -155,11 +175,11 @@ class OtherFiles(Folder):
         about = change(about) or about
         texts["study.json"] = json.dumps(about).encode()
         members(texts)
-        found = io.BytesIO()
-        with zipfile.ZipFile(found, "w", compression) as file:
+        archive = io.BytesIO()
+        with zipfile.ZipFile(archive, "w", compression) as file:
             for name, text in texts.items():
                 file.writestr(name, text)
-        return found.getvalue()
+        return archive.getvalue()
 
     def test_a_changed_study_is_a_study(self):
         """The helper of these tests makes valid studies, so that each rejection below has its own reason."""
@@ -167,73 +187,74 @@ class OtherFiles(Folder):
         self.assertEqual(len(read_study(self.path).inputs), 6)
 
     def test_every_cut_and_changed_byte(self):
-        whole = self.saved()
-        for length in range(0, len(whole), 97):
+        content = self.saved()
+        for length in range(0, len(content), 97):
             with self.subTest(length=length):
-                self.refused(whole[:length])
-        middle = whole.index(b"lane ") + 20
-        self.refused(whole[:middle] + bytes([whole[middle] ^ 1]) + whole[middle + 1:], "CRC")
-        self.refused(b"no archive")
-        self.refused(b"")
+                self.reject(content[:length])
+        middle = content.index(b"lane ") + 20
+        self.reject(content[:middle] + bytes([content[middle] ^ 1]) + content[middle + 1:], "CRC")
+        self.reject(b"no archive")
+        self.reject(b"")
 
     def test_paths_that_are_not_files(self):
         self.assertRaises(FileNotFoundError, read_study, self.path)
-        self.assertRaises(StudyFileError, read_study, self.path.parent)
+        self.assertRaisesRegex(StudyFileError, "is not a file", read_study, self.path.parent)
         os.mkfifo(self.path)
-        self.assertRaises(StudyFileError, read_study, self.path)
+        self.assertRaisesRegex(StudyFileError, "is not a file", read_study, self.path)
 
     def test_members_of_study_json(self):
         """Each member is missing once, and has each of these values once."""
         values = None, True, 1, "x", [], {}, [1], [None], [True], 1.5
         for name in "format", "trlab", "program", "program_version", "parameters", "choices":
-            self.refused(self.rewritten(lambda about: about.pop(name) and None))
+            self.reject(self.rewritten(lambda about: about.pop(name) and None))
             for value in values:
                 if (name, value) not in (("trlab", "x"), ("program_version", "x")):
                     with self.subTest(name=name, value=value):
-                        self.refused(self.rewritten(lambda about: about.update({name: value})))
+                        self.reject(self.rewritten(lambda about: about.update({name: value})))
         for name in "values", "roads", "words", "files", "is_sweep":
-            self.refused(self.rewritten(lambda about: about["choices"][0].pop(name) and None))
+            self.reject(self.rewritten(lambda about: about["choices"][0].pop(name) and None))
             for value in values:
                 if (name, value) != ("is_sweep", True):
                     with self.subTest(name=name, value=value):
-                        self.refused(self.rewritten(lambda about: about["choices"][0].update({name: value})))
+                        self.reject(self.rewritten(lambda about: about["choices"][0].update({name: value})))
         for name in "key", "cells", "cars", "ensembles":
             for value in None, True, "x", [], {}, [None], [True], 1.5:
                 with self.subTest(name=name, value=value):
-                    self.refused(self.rewritten(lambda about: about["choices"][0]["roads"].update({name: value})))
+                    self.reject(self.rewritten(lambda about: about["choices"][0]["roads"].update({name: value})))
 
-    def test_parameters(self):
+    def test_parameters_that_no_study_has(self):
         for names in ["p"], ["p", "p"], ["p", "class"], ["p", "_x"], ["p", "import os"], ["p", "q", "seed"]:
-            self.refused(self.rewritten(lambda about: about.update(parameters=names)))
+            self.reject(self.rewritten(lambda about: about.update(parameters=names)))
         fractions = {"fraction": "1/0"}, {"fraction": 1}, {"fraction": "x"}, {"a": "1"}
         for value in None, True, [], {}, *fractions, float("inf"), float("nan"):
             with self.subTest(value=value):
-                self.refused(self.rewritten(lambda about: about["choices"][0].update(values=[value, 0])))
+                self.reject(self.rewritten(lambda about: about["choices"][0].update(values=[value, 0])))
 
-    def test_words(self):
+    def test_words_that_give_no_table(self):
         """Only tables, and no steps that the windows leave out."""
         options = ["--every", "16"], ["--every", "x"], ["--from", "35"], ["; id"]
-        for words in ["run"], ["check"], ["sweep"], ["--version"], *(["series", *it] for it in options):
-            self.refused(self.rewritten(lambda about: about["choices"][0].update(words=words)))
+        for words in ["run"], ["check"], ["sweep"], ["--version"], *(["series", *option] for option in options):
+            self.reject(self.rewritten(lambda about: about["choices"][0].update(words=words)))
 
-    def test_choices(self):
+    def test_choices_that_contradict_each_other(self):
         for change in (
             lambda choices: choices.pop(), lambda choices: choices.clear(), lambda choices: choices.append(choices[0]),
-            lambda choices: choices[0].update(choices[1]), lambda choices: choices[0].update(values=choices[1]["values"]),
+            lambda choices: choices[0].update(choices[1]),
+            lambda choices: choices[0].update(values=choices[1]["values"]),
         ):
-            self.refused(self.rewritten(lambda about: change(about["choices"]) and None))
+            self.reject(self.rewritten(lambda about: change(about["choices"]) and None))
         for name in "../../etc/passwd", "/etc/passwd", "study.json":
-            self.refused(self.rewritten(lambda about: about["choices"][0].update(files=[name])))
+            self.reject(self.rewritten(lambda about: about["choices"][0].update(files=[name])))
 
     def test_other_json(self):
         for change in lambda about: [about], lambda about: 1, lambda about: {"format": about["format"]}:
-            self.refused(self.rewritten(change))
+            self.reject(self.rewritten(change))
         for text in b"[" * 10**6, b'{"a": ' + b"9" * 10**5 + b"}", b"\xff", b"":
-            self.refused(self.rewritten(members=lambda texts: texts.update({"study.json": text})))
-        self.refused(self.rewritten(members=lambda texts: texts.pop("study.json") and None))
-        self.refused(self.rewritten(lambda about: about.update(format="trlab study 2")), "another version")
+            self.reject(self.rewritten(members=lambda texts: texts.update({"study.json": text})))
+        self.reject(self.rewritten(members=lambda texts: texts.pop("study.json") and None))
+        self.reject(self.rewritten(lambda about: about.update(format="trlab study 2")), "another version")
 
-    def test_members(self):
+    def test_members_of_the_archive(self):
         first = "inputs/000000.job"
         for change in (
             lambda texts: texts.pop(first) and None, lambda texts: texts.update({"more": b""}),
@@ -241,37 +262,39 @@ class OtherFiles(Folder):
             lambda texts: texts.update({"/evil": b""}), lambda texts: texts.update({first: b"\xff\xfe"}),
             lambda texts: texts.update({first: b"0" * (4 * 1024 * 1024 + 1)}), lambda texts: texts.update({first: b""}),
         ):
-            self.refused(self.rewritten(members=change))
+            self.reject(self.rewritten(members=change))
 
     def test_names_that_lead_elsewhere(self):
         name = "inputs/../../evil.job"
-        content = self.rewritten(lambda about: about["choices"][0].update(files=[name]),
-                                 lambda texts: texts.update({name: texts.pop("inputs/000000.job")}))
-        self.refused(content, "another name")
+        content = self.rewritten(
+            lambda about: about["choices"][0].update(files=[name]),
+            lambda texts: texts.update({name: texts.pop("inputs/000000.job")}),
+        )
+        self.reject(content, "another name")
 
     def test_huge_members(self):
-        self.refused(self.rewritten(compression=zipfile.ZIP_DEFLATED), "compressed")
+        self.reject(self.rewritten(compression=zipfile.ZIP_DEFLATED), "compressed")
         # All entries of the directory are of one long member.
-        whole = self.saved()
-        begin = whole.index(b"PK\1\2")
-        entry = bytearray(whole[begin:whole.index(b"PK\1\2", begin + 4)])
-        many, end = bytes(entry) * 60000, whole[whole.rindex(b"PK\5\6"):]
-        tail = end[:8] + struct.pack("<HHII", 60000, 60000, len(many), begin) + end[20:]
-        self.refused(whole[:begin] + many + tail)
+        content = self.saved()
+        begin = content.index(b"PK\1\2")
+        entry = bytearray(content[begin:content.index(b"PK\1\2", begin + 4)])
+        entries, end = bytes(entry) * 60000, content[content.rindex(b"PK\5\6"):]
+        tail = end[:8] + struct.pack("<HHII", 60000, 60000, len(entries), begin) + end[20:]
+        self.reject(content[:begin] + entries + tail)
 
     def test_two_members_of_one_name(self):
         self.path.write_bytes(self.saved())
         with zipfile.ZipFile(self.path, "a") as file, self.assertWarns(UserWarning):
             file.writestr("inputs/000000.job", "")
-        self.refused(self.path.read_bytes(), "two members")
+        self.reject(self.path.read_bytes(), "two members")
 
     def test_locked_members(self):
-        whole = bytearray(self.saved())
-        at = whole.index(b"PK\1\2")
-        while at >= 0:
-            whole[at + 8] |= 1
-            at = whole.find(b"PK\1\2", at + 4)
-        self.refused(bytes(whole))
+        content = bytearray(self.saved())
+        place = content.index(b"PK\1\2")
+        while place >= 0:
+            content[place + 8] |= 1
+            place = content.find(b"PK\1\2", place + 4)
+        self.reject(bytes(content))
 
 
 if __name__ == "__main__":

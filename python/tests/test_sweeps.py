@@ -4,6 +4,7 @@ import unittest
 from dataclasses import replace
 from statistics import fmean, stdev
 
+from tests.expected import NEEDS_TWO_LANES
 from tests.test_arrays import needs
 from trlab import Nasch, Point, RejectedInputError, Rickert, Sweep, Table, even, jammed, moving, random_cells
 
@@ -27,21 +28,32 @@ class InitialStates(unittest.TestCase):
         for number, job in enumerate(sweep.jobs()):
             self.assertEqual(job.key, digest("point", f"{7:064x}", number))
             self.assertEqual(job.start, random_cells(int(digest("seed", f"{3:064x}", number), 16), speed=1))
-            self.assertEqual((job.steps, job.cars, job.rule), (120, sweep.cars[number], sweep.rule))
+            self.assertEqual(job.steps, 120)
+            self.assertEqual(job.cars, sweep.cars[number])
+            self.assertEqual(job.rule, sweep.rule)
         upper = replace(sweep, key=64 * "A").jobs()
         self.assertEqual(upper, replace(sweep, key=64 * "a").jobs())
         self.assertEqual(upper[1].key, digest("point", 64 * "a", 1))
 
     def test_the_table_is_that_of_the_jobs(self):
-        for sweep in replace(SWEEP, start=random_cells(3)), replace(SWEEP, start=jammed), replace(SWEEP, start=moving), ROADS, PAIRS:
+        for sweep in (
+            replace(SWEEP, start=random_cells(3)), replace(SWEEP, start=jammed), replace(SWEEP, start=moving), ROADS,
+            PAIRS,
+        ):
             table = sweep.sweep()
-            self.assertEqual((type(table), table.kind, len(table)), (Table, Point, len(sweep.counts())))
+            self.assertIs(type(table), Table)
+            self.assertEqual(table.kind, Point)
+            self.assertEqual(len(table), len(sweep.counts()))
             self.assertEqual([type(point) for point in table], len(table) * [Point])
             for point, job in zip(table, sweep.jobs()):
                 snapshots = job.run()[sweep.warm + 1 :]
-                speeds = [speed for it in snapshots for lane in it.speeds() for speed in lane if speed is not None]
-                self.assertEqual((point.steps, point.cells), (sweep.measure, sweep.length * sweep.lanes))
-                self.assertEqual((point.distance, point.stopped), (sum(speeds), speeds.count(0)))
+                speeds = [
+                    speed for snapshot in snapshots for lane in snapshot.speeds() for speed in lane if speed is not None
+                ]
+                self.assertEqual(point.steps, sweep.measure)
+                self.assertEqual(point.cells, sweep.length * sweep.lanes)
+                self.assertEqual(point.distance, sum(speeds))
+                self.assertEqual(point.stopped, speeds.count(0))
                 self.assertEqual(point.cars * point.steps, len(speeds))
             self.assertEqual(sweep.sweep(runners=3, workers=2), table)
 
@@ -49,7 +61,7 @@ class InitialStates(unittest.TestCase):
         sweep = replace(SWEEP, cars=4 * [20], start=random_cells(3))
         self.assertEqual(len({job.key for job in sweep.jobs()}), 4)
         self.assertEqual(len(set(lanes_of_points(sweep))), 4)
-        self.assertEqual(len({point[3:5] for point in sweep.sweep()}), 4)
+        self.assertEqual(len({(point.distance, point.stopped) for point in sweep.sweep()}), 4)
 
     def test_the_cells_of_the_cars(self):
         small = replace(SWEEP, length=6, cars=[2, 3])
@@ -57,30 +69,36 @@ class InitialStates(unittest.TestCase):
         self.assertEqual(lanes_of_points(replace(small, start=moving)), ["5..5..", "5.5.5."])
         self.assertEqual(lanes_of_points(small), ["0..0..", "0.0.0."])
         self.assertEqual(lanes_of_points(ROADS), ["0.3..", ".2.10"])
-        self.assertEqual((ROADS.counts(), PAIRS.counts()), ([2, 3], [1, 1, 1]))
+        self.assertEqual(ROADS.counts(), [2, 3])
+        self.assertEqual(PAIRS.counts(), [1, 1, 1])
 
     def test_an_even_sweep_is_that_of_the_program(self):
         self.assertEqual(replace(SWEEP, start=even), SWEEP)
         self.assertNotEqual(replace(SWEEP, start=jammed), SWEEP)
         self.assertEqual([part.text() for part in SWEEP.parts()], [SWEEP.text()])
 
-    def test_it_has_no_sweep_file(self):
+    def test_a_sweep_from_another_state_has_no_file(self):
         for sweep in replace(SWEEP, start=random_cells(1)), replace(SWEEP, start=moving), ROADS:
             self.assertRaisesRegex(ValueError, r"this sweep does not: use `jobs\(\)`", sweep.text)
             self.assertRaisesRegex(ValueError, r"use `jobs\(\)`", sweep.parts)
 
     def test_sweeps_compare_and_hash_by_value(self):
-        for one, other in (replace(SWEEP, start=random_cells(1)), replace(SWEEP, start=random_cells(1))), (ROADS, replace(ROADS)):
-            self.assertEqual((one, hash(one)), (other, hash(other)))
+        for first, second in (
+            (replace(SWEEP, start=random_cells(1)), replace(SWEEP, start=random_cells(1))), (ROADS, replace(ROADS)),
+        ):
+            self.assertEqual(first, second)
+            self.assertEqual(hash(first), hash(second))
         self.assertNotEqual(replace(SWEEP, start=random_cells(1)), replace(SWEEP, start=random_cells(2)))
 
     def test_runners_are_one_or_more(self):
-        self.assertRaisesRegex(ValueError, "runners must be between 1 and 16, not 0", replace(SWEEP, start=jammed).sweep, runners=0)
+        self.assertRaisesRegex(
+            ValueError, "runners must be between 1 and 16, not 0", replace(SWEEP, start=jammed).sweep, runners=0
+        )
 
     def test_the_first_job_that_is_rejected(self):
         with self.assertRaises(RejectedInputError) as caught:
             replace(SWEEP, rule=Rickert(0, 0), start=jammed).sweep(runners=2)
-        self.assertEqual(caught.exception.cause, 4)
+        self.assertEqual(caught.exception.cause, NEEDS_TWO_LANES)
 
 
 class Roads(unittest.TestCase):
@@ -98,7 +116,9 @@ class Roads(unittest.TestCase):
         self.rejects([5 * [6]], "road 0 of `start`: a car has the speed 6, and the limit is 5")
         self.rejects([ROAD], "leave `cars` and `densities` out", cars=[2])
         self.rejects("even", "for one road write")
-        self.assertRaisesRegex(ValueError, "has 1 x 2 cells, and the sweep has 2 x 2", replace, PAIRS, start=[[0, None], [0, None]])
+        self.assertRaisesRegex(
+            ValueError, "has 1 x 2 cells, and the sweep has 2 x 2", replace, PAIRS, start=[[0, None], [0, None]]
+        )
 
     @needs("numpy")
     def test_roads_of_numpy(self):
@@ -116,9 +136,12 @@ class Sizes(unittest.TestCase):
         sweep = replace(SWEEP, length=10, warm=0, measure=5, cars=401 * [5])
         first, second, third = sweep.parts()
         self.assertEqual([len(part.cars) for part in (first, second, third)], [200, 200, 1])
-        self.assertEqual([first.key, second.key, third.key], [7, *(digest("part", f"{7:064x}", it) for it in (1, 2))])
+        self.assertEqual(
+            [first.key, second.key, third.key], [7, *(digest("part", f"{7:064x}", number) for number in (1, 2))]
+        )
         table = sweep.sweep(runners=2)
-        self.assertEqual((type(table), len(table)), (Table, 401))
+        self.assertIs(type(table), Table)
+        self.assertEqual(len(table), 401)
         self.assertEqual(table[:200], first.sweep())
         self.assertEqual(table[200:], second.sweep() + third.sweep())
         self.assertNotEqual(table[200:400], table[:200])
@@ -140,7 +163,11 @@ class Sizes(unittest.TestCase):
         sweep = Sweep(limit=1, length=2, rule=Nasch(0), warm=500000, measure=1, cars=[1, 2])
         self.assertRaisesRegex(ValueError, r"500001: use `jobs\(\)`", sweep.text)
         self.assertEqual([job.steps for job in sweep.jobs()], [500001, 500001])
-        self.assertEqual([point[:5] for point in sweep.sweep()], [(1, 2, 1, 1, 0), (2, 2, 1, 0, 2)])
+        moving, stopped = sweep.sweep()
+        self.assertEqual(
+            moving, Point(cars=1, cells=2, steps=1, distance=1, stopped=0, changes=0, flow_millionths=500000)
+        )
+        self.assertEqual(stopped, Point(cars=2, cells=2, steps=1, distance=0, stopped=2, changes=0, flow_millionths=0))
 
 
 class Means(unittest.TestCase):
@@ -151,5 +178,5 @@ class Means(unittest.TestCase):
             flows = [point.flow for point in Sweep(**shape, cars=200 * [3], start=start).sweep(runners=2)]
             self.assertLess(abs(fmean(flows) - exact), 3 * stdev(flows) / 200**0.5)
             # Neighbours in the table have nothing to do with each other: their correlation is within 3 / sqrt(200).
-            pairs = [(one - exact) * (other - exact) for one, other in zip(flows, flows[1:])]
+            pairs = [(flow - exact) * (next_flow - exact) for flow, next_flow in zip(flows, flows[1:])]
             self.assertLess(abs(fmean(pairs)) / stdev(flows) ** 2, 3 / 200**0.5)

@@ -6,11 +6,11 @@ from fractions import Fraction
 
 import trlab
 from tests.libraries import numpy, pandas
-from tests.studies_for_tests import known
+from tests.studies_for_tests import NO_CARS, known
 from trlab import FrameError, Grid, Job, Nasch, Point, Rickert, Sweep, Table, Window, random_cells
 from trlab._analysis.frames import tidy
 
-WINDOW = Window(10, 2, 10, 10, 5, 1, 0, 50000, *[0] * 6)
+WINDOW = Window(step=10, cars=2, cells=10, steps=10, distance=5, stopped=1, changes=0, flow_millionths=50000, **NO_CARS)
 
 
 def frame_of(result, names=("seed",), place=(0,), roads=None, keep=False):
@@ -19,8 +19,10 @@ def frame_of(result, names=("seed",), place=(0,), roads=None, keep=False):
 
 
 def frame_by_seed(results):
-    return tidy({(seed,): result for seed, result in enumerate(results)}, ["seed"],
-                {(seed,): known(seed, 2) for seed in range(len(results))})
+    return tidy(
+        {(seed,): result for seed, result in enumerate(results)}, ["seed"],
+        {(seed,): known(seed, 2) for seed in range(len(results))},
+    )
 
 
 def job(density, seed, key):
@@ -33,16 +35,20 @@ def windows(job):
 
 class Results(unittest.TestCase):
     def test_a_row_in_any_form_is_the_same_row(self):
-        wanted = frame_of(Table(Window, [WINDOW]))
-        self.assertEqual((wanted.flow[0, 10], wanted.density[0, 10]), (0.05, 0.2))
-        for same in WINDOW, [WINDOW], WINDOW._asdict(), [WINDOW._asdict()], Table(Window, [WINDOW]).to_pandas():
-            pandas.testing.assert_frame_equal(frame_of(same), wanted)
+        expected = frame_of(Table(Window, [WINDOW]))
+        self.assertEqual(expected.flow[0, 10], 0.05)
+        self.assertEqual(expected.density[0, 10], 0.2)
+        for form in WINDOW, [WINDOW], WINDOW._asdict(), [WINDOW._asdict()], Table(Window, [WINDOW]).to_pandas():
+            pandas.testing.assert_frame_equal(frame_of(form), expected)
 
     def test_counts_and_a_value_of_the_user(self):
         frame = frame_of({**WINDOW._asdict(), "gap": 4.5})
-        self.assertEqual((frame.flow[0, 10], frame.gap[0, 10]), (0.05, 4.5))
+        self.assertEqual(frame.flow[0, 10], 0.05)
+        self.assertEqual(frame.gap[0, 10], 4.5)
         self.assertNotIn("flow_millionths", frame)
-        self.assertRaisesRegex(FrameError, "`flow` of the result contradicts", frame_of, {**WINDOW._asdict(), "flow": 0.06})
+        self.assertRaisesRegex(
+            FrameError, "`flow` of the result contradicts", frame_of, {**WINDOW._asdict(), "flow": 0.06}
+        )
 
     def test_numbers_flags_and_rows_with_names(self):
         Measured = namedtuple("Measured", "mean note")
@@ -56,17 +62,24 @@ class Results(unittest.TestCase):
             self.assertEqual(frame_of(result)[column].iloc[0], value)
 
     def test_numbers_of_numpy_have_means(self):
-        results = [{"x": numpy.int64(seed), "y": numpy.float32(seed), "is_jammed": numpy.bool_(seed > 1),
-                    "flag": seed > 0} for seed in range(4)]
+        results = [
+            {"x": numpy.int64(seed), "y": numpy.float32(seed), "is_jammed": numpy.bool_(seed > 1), "flag": seed > 0}
+            for seed in range(4)
+        ]
         (row,) = trlab.means(frame_by_seed(results), "seed").itertuples()
-        self.assertEqual((row.n, row.x, row.y, row.is_jammed, row.flag), (4, 1.5, 1.5, 0.5, 0.75))
+        self.assertEqual(row.n, 4)
+        self.assertEqual(row.x, 1.5)
+        self.assertEqual(row.y, 1.5)
+        self.assertEqual(row.is_jammed, 0.5)
+        self.assertEqual(row.flag, 0.75)
 
     def test_a_small_type_does_not_overflow(self):
         frame = frame_by_seed([{"x": numpy.int8(100)}, {"x": numpy.int8(120)}])
         self.assertEqual(trlab.means(frame.astype({"x": "int8"}), "seed").x[0], 110)
         counts = frame_of(WINDOW._replace(distance=100, steps=100))
         small = counts.astype({name: "int8" for name in ("cars", "cells", "steps", "distance")})
-        self.assertEqual((small.dtypes["cells"], trlab.per_run(small).flow[0]), ("int8", 0.1))
+        self.assertEqual(small.dtypes["cells"], "int8")
+        self.assertEqual(trlab.per_run(small).flow[0], 0.1)
 
     def test_one_missing_value_does_not_remove_a_column(self):
         for rows in [{"x": None}, {"x": 1}], [{}, {"x": 1}], [{"x": numpy.nan}, {"x": 1}], [{"y": 1}, {"x": 1}]:
@@ -74,33 +87,45 @@ class Results(unittest.TestCase):
         self.assertRaisesRegex(FrameError, "not numbers", trlab.means, frame_by_seed([{"x": "1"}, {"x": 1}]), "seed")
 
     def test_texts_are_not_averaged(self):
-        self.assertEqual(list(trlab.means(frame_by_seed([{"x": 1, "note": "a"}, {"x": 3, "note": "b"}]), "seed")),
-                         ["n", "x", "x_sem"])
+        self.assertEqual(
+            list(trlab.means(frame_by_seed([{"x": 1, "note": "a"}, {"x": 3, "note": "b"}]), "seed")),
+            ["n", "x", "x_sem"],
+        )
 
     def test_names_that_are_taken(self):
         for name in "seed", "key", "road", "ensemble", "error", "requested_density":
             self.assertRaisesRegex(FrameError, f"`{name}`, which is a parameter or reserved", frame_of, {name: 0.2})
             self.assertRaisesRegex(FrameError, f"`{name}`", frame_of, pandas.DataFrame({name: [1]}))
-            self.assertRaisesRegex(FrameError, f"`{name}`", frame_of, pandas.DataFrame({name: [1], "x": 1}).set_index(name))
+            self.assertRaisesRegex(
+                FrameError, f"`{name}`", frame_of, pandas.DataFrame({name: [1], "x": 1}).set_index(name)
+            )
 
     def test_a_density_is_that_of_the_road(self):
         for names, place in (["density"], (0.2,)), (["seed"], (0,)):
-            two = pandas.DataFrame({"density": [0.2, 0.3], "step": [1, 2]})
-            for wrong in {"density": 0.9}, {"cars": 7}, {"cells": 50}, {"density": None}, two:
-                self.assertRaises(FrameError, frame_of, wrong, names, place)
+            two_densities = pandas.DataFrame({"density": [0.2, 0.3], "step": [1, 2]})
+            for result in {"density": 0.9}, {"cars": 7}, {"cells": 50}, {"density": None}, two_densities:
+                self.assertRaisesRegex(FrameError, "return results of this input", frame_of, result, names, place)
             frame = frame_of({"density": 0.2, "cars": 2, "x": 1}, names, place)
             self.assertEqual(frame.reset_index().density[0], 0.2)
         self.assertRaisesRegex(FrameError, "results of this input", frame_of, Table(Window, [WINDOW._replace(cars=3)]))
 
     def test_numbers_in_other_units(self):
-        for wrong in {"flow": 463700}, {"flow": -0.1}, {"speed": 36.0}, {"stopped_share": 50}, {"flow": "0.4"}:
-            self.assertRaises(FrameError, frame_of, wrong)
+        for result, maximum in ({"flow": 463700}, 1), ({"speed": 36.0}, 35), ({"stopped_share": 50}, 1):
+            self.assertRaisesRegex(FrameError, f"is between 0 and {maximum} in the units of trlab", frame_of, result)
         self.assertRaisesRegex(FrameError, "row.flow", frame_of, {"flow_millionths": 463700})
 
+    def test_a_flow_that_is_negative_or_a_text(self):
+        self.assertRaisesRegex(FrameError, "`flow` is between 0 and 1 .* not -0.1", frame_of, {"flow": -0.1})
+        self.assertRaisesRegex(FrameError, "flow has values that are not numbers", frame_of, {"flow": "0.4"})
+
     def test_rows_that_nothing_distinguishes(self):
-        for rows in [{"x": 0}, {"x": 1}], [{"x": 0, "step": 5}, {"x": 1, "step": 5}], pandas.DataFrame({"x": [0, 1]}), [1, 2], \
-                Table(Window, [WINDOW, WINDOW]), pandas.DataFrame({"x": [0, 1]}, index=pandas.Index([3, 3], name="cell")):
-            self.assertRaises(FrameError, frame_of, rows)
+        for rows in (
+            [{"x": 0}, {"x": 1}], [{"x": 0, "step": 5}, {"x": 1, "step": 5}], pandas.DataFrame({"x": [0, 1]}), [1, 2],
+            Table(Window, [WINDOW, WINDOW]), pandas.DataFrame({"x": [0, 1]}, index=pandas.Index([3, 3], name="cell")),
+        ):
+            self.assertRaisesRegex(
+                FrameError, "nothing distinguishes|is not a row with names|several rows with the same", frame_of, rows
+            )
         for rows in [{"x": 0, "step": 5}, {"x": 1, "step": 6}], pandas.DataFrame({"x": [0, 1], "step": [5, 6]}):
             self.assertEqual(list(frame_of(rows).index.names), ["seed", "step"])
         frame = frame_of(pandas.DataFrame({"x": [0, 1]}).rename_axis("passing"))
@@ -109,8 +134,8 @@ class Results(unittest.TestCase):
 
     def test_results_that_are_not_rows(self):
         road = Job(limit=5, length=9, cars=1, rule=Nasch(0), steps=1).run()
-        for wrong in "text", None, ["text"], [[1, 2]], 1j, object(), {1: 2}:
-            self.assertRaises(FrameError, frame_of, wrong)
+        for result in "text", None, ["text"], [[1, 2]], 1j, object(), {1: 2}:
+            self.assertRaisesRegex(FrameError, "a result must be|is not a string", frame_of, result)
         for snapshots in road, road[0], list(road):
             self.assertRaisesRegex(FrameError, "job.series", frame_of, snapshots)
 
@@ -122,12 +147,14 @@ class Results(unittest.TestCase):
 
     def test_some_points_of_a_sweep(self):
         roads = {"key": "0" * 64, "cells": 10, "cars": [1, 2], "ensembles": ["a", "b"]}
-        points = [Point(1, 10, 5, 5, 0, 0, 0), Point(2, 10, 5, 5, 0, 0, 0)]
+        points = [
+            Point(cars=cars, cells=10, steps=5, distance=5, stopped=0, changes=0, flow_millionths=0) for cars in (1, 2)
+        ]
         frame = frame_of(points, roads=roads)
         self.assertEqual(list(frame.index), [(0, 0.1), (0, 0.2)])
         self.assertEqual([*frame.road, *frame.ensemble], [0, 1, "a", "b"])
-        for wrong in points[:1], points[::-1], [*points, points[0]]:
-            self.assertRaises(FrameError, frame_of, wrong, roads=roads)
+        for part in points[:1], points[::-1], [*points, points[0]]:
+            self.assertRaisesRegex(FrameError, "of 2 points|return results of this input", frame_of, part, roads=roads)
 
 
 class Errors(unittest.TestCase):
@@ -150,7 +177,9 @@ class Density(unittest.TestCase):
     def test_speeds_without_cars_are_not_numbers_and_no_defect(self):
         grid = Grid(job, density=[0, 0.1], seed=range(3))
         means = trlab.means(trlab.per_run(grid.run(call=windows)), "seed")
-        self.assertEqual((list(means.n), means.flow[0.0], means.flow_sem[0.0]), ([3, 3], 0, 0))
+        self.assertEqual(list(means.n), [3, 3])
+        self.assertEqual(means.flow[0.0], 0)
+        self.assertEqual(means.flow_sem[0.0], 0)
         for name in "speed", "stopped_share", "change_rate":
             self.assertTrue(numpy.isnan(means[name][0.0]) and numpy.isnan(means[f"{name}_sem"][0.0]))
             self.assertFalse(numpy.isnan(means[name][0.1]))
@@ -162,8 +191,8 @@ class Density(unittest.TestCase):
         self.assertNotIn("requested_density", Grid(job, density=[0.1, 0.5], seed=range(2)).run(call=windows))
 
 
-class Survival(unittest.TestCase):
-    """Operations on a frame, and its identity."""
+class Operations(unittest.TestCase):
+    """Operations of pandas on a frame, which keep or lose the identity of its rows."""
 
     def setUp(self):
         self.frame = trlab.per_run(Grid(job, density=[0.1, 0.2], seed=range(3)).run(call=windows))
@@ -182,7 +211,7 @@ class Survival(unittest.TestCase):
         self.same(self.frame.swaplevel().swaplevel())
         self.same(self.frame.astype({"road": "int8", "ensemble": "category"}).astype({"ensemble": str}))
 
-    def test_csv(self):
+    def test_a_file_that_is_read_again(self):
         text = io.StringIO(self.frame.to_csv())
         self.same(pandas.read_csv(text, dtype={"key": str, "ensemble": str}).set_index(["density", "seed"]))
         numbers = self.frame.assign(key=[f"{seed:064x}" for seed in range(6)])
@@ -194,16 +223,18 @@ class Survival(unittest.TestCase):
             self.frame.groupby("density").mean(numeric_only=True), self.frame[["flow"]], self.frame.describe(),
             self.frame.reset_index().pivot_table(index="density", values="flow"), self.means, self.means.reset_index(),
         ):
-            self.assertRaises(FrameError, trlab.means, lost, "density")
+            self.assertRaisesRegex(FrameError, "has no columns `key`", trlab.means, lost, "density")
 
-    def test_two_studies(self):
-        other = Grid(lambda density, seed, key: Job(limit=3, length=50, density=density, rule=Nasch(0.25),
-                                                    start=random_cells(key), steps=30, key=key + 1),
-                     density=[0.1, 0.2], seed=range(3))
-        slow = trlab.per_run(other.run(call=windows))
-        for both in pandas.concat([self.frame, slow]), pandas.concat([self.frame,
-                                                                      slow.rename(index=lambda seed: seed + 3, level="seed")]):
-            self.assertRaises(FrameError, trlab.means, both, "seed")
+    def test_frames_of_two_studies_are_not_averaged(self):
+        def slow_job(density, seed, key):
+            start = random_cells(key)
+            return Job(limit=3, length=50, density=density, rule=Nasch(0.25), start=start, steps=30, key=key + 1)
+
+        slow = trlab.per_run(Grid(slow_job, density=[0.1, 0.2], seed=range(3)).run(call=windows))
+        of_other_seeds = slow.rename(index=lambda seed: seed + 3, level="seed")
+        for other, message in (slow, "two rows are"), (of_other_seeds, "different `ensemble`"):
+            both = pandas.concat([self.frame, other])
+            self.assertRaisesRegex(FrameError, message, trlab.means, both, "seed")
         named = pandas.concat({5: self.frame, 3: slow}, names=["limit"])
         self.assertEqual(list(trlab.means(named, "seed").index.names), ["limit", "density"])
         self.assertRaisesRegex(FrameError, "different `ensemble`", trlab.means, named, ["limit", "seed"])
@@ -217,18 +248,24 @@ class Ensembles(unittest.TestCase):
         self.assertEqual(len(self.ensembles(job, density=[0.1], seed=range(5))), 1)
 
     def test_any_other_difference_is_another_one(self):
-        usual = {"limit": 5, "length": 20, "cars": 4, "rule": Rickert(0.25, 0), "steps": 9, "start": trlab.even, "lanes": 2,
-                 "at": {}}
-        others = [{}, {"limit": 4}, {"length": 21}, {"cars": 5}, {"rule": Rickert(0.25, 1)}, {"steps": 10},
-                  {"start": trlab.moving},
-                  {"start": trlab.jammed}, {"start": random_cells(3)}, {"at": {3: Rickert(0, 0)}},
-                  {"length": 40, "lanes": 1, "rule": Nasch(0.25)}]
-        made = self.ensembles(lambda at, seed, key: Job(**{**usual, **others[at]}, key=key), at=range(len(others)), seed=[0, 1])
+        usual = {
+            "limit": 5, "length": 20, "cars": 4, "rule": Rickert(0.25, 0), "steps": 9, "start": trlab.even, "lanes": 2,
+            "at": {},
+        }
+        others = [
+            {}, {"limit": 4}, {"length": 21}, {"cars": 5}, {"rule": Rickert(0.25, 1)}, {"steps": 10},
+            {"start": trlab.moving}, {"start": trlab.jammed}, {"start": random_cells(3)}, {"at": {3: Rickert(0, 0)}},
+            {"length": 40, "lanes": 1, "rule": Nasch(0.25)},
+        ]
+        made = self.ensembles(
+            lambda at, seed, key: Job(**{**usual, **others[at]}, key=key), at=range(len(others)), seed=[0, 1]
+        )
         self.assertEqual(len(made), len(others))
         sweep = {"limit": 5, "length": 20, "rule": Nasch(0.25), "warm": 3, "measure": 6, "cars": [4]}
         changed = [{}, {"warm": 4}, {"measure": 7}, {"cars": [5]}, {"start": random_cells(1)}]
-        swept = self.ensembles(lambda at, seed, key: Sweep(**{**sweep, **changed[at]}, key=key), at=range(len(changed)),
-                               seed=[0, 1])
+        swept = self.ensembles(
+            lambda at, seed, key: Sweep(**{**sweep, **changed[at]}, key=key), at=range(len(changed)), seed=[0, 1]
+        )
         self.assertEqual(len(swept | made), len(changed) + len(others))
 
 

@@ -2,11 +2,13 @@
 import math
 import unittest
 from dataclasses import replace
+from typing import NamedTuple
 
 from tests.by_pictures import windows
 from tests.random_jobs import needs_hypothesis
 from tests.test_arrays import needs
-from trlab import Job, Nasch, Own, ParameterError, Snapshot, Snapshots, SnapshotsError, Rickert, SlowToStart, jammed, random_cells
+from trlab import Job, Nasch, Own, ParameterError, Rickert, SlowToStart, Snapshot, Snapshots, SnapshotsError, jammed
+from trlab import random_cells
 from trlab._inputs.states import SPEEDS
 import trlab
 
@@ -31,16 +33,16 @@ TWO_LANES = [
 
 def speeds_at(snapshot, lane):
     """The speed of the car in each taken cell."""
-    return {cell: SPEEDS.index(sign) for cell, sign in enumerate(snapshot.lanes[lane]) if sign != "."}
+    return {cell: SPEEDS.index(character) for cell, character in enumerate(snapshot.lanes[lane]) if character != "."}
 
 
 def turned_cells(snapshots):
     """The cells of the cars of one lane by step, only from their order: sorted, and rotated by the laps begun since."""
     laps, rows = 0, []
     for snapshot in snapshots:
-        on = speeds_at(snapshot, 0)
-        laps += sum(cell < speed for cell, speed in on.items()) if rows else 0
-        cells = sorted(on)
+        speeds = speeds_at(snapshot, 0)
+        laps += sum(cell < speed for cell, speed in speeds.items()) if rows else 0
+        cells = sorted(speeds)
         rows.append([cells[(car + laps) % len(cells)] for car in range(len(cells))])
     return rows
 
@@ -64,21 +66,21 @@ def components(snapshots):
         (row, lane, cell)
         for row, snapshot in enumerate(snapshots)
         for lane, cells in enumerate(snapshot.lanes)
-        for cell, sign in enumerate(cells)
-        if sign == "0"
+        for cell, character in enumerate(cells)
+        if character == "0"
     }
-    links = {it: set() for it in stopped}
-    for it in stopped:
-        for other in set(stopped_neighbours(snapshots, *it)) & stopped:
-            links[it].add(other)
-            links[other].add(it)
+    links = {place: set() for place in stopped}
+    for place in stopped:
+        for neighbour in set(stopped_neighbours(snapshots, *place)) & stopped:
+            links[place].add(neighbour)
+            links[neighbour].add(place)
     while stopped:
-        found, border = set(), {stopped.pop()}
+        component, border = set(), {stopped.pop()}
         while border:
-            found |= border
-            border = {other for it in border for other in links[it]} - found
-        stopped -= found
-        yield found
+            component |= border
+            border = {neighbour for place in border for neighbour in links[place]} - component
+        stopped -= component
+        yield component
 
 
 def trips(snapshots, start, end):
@@ -87,13 +89,13 @@ def trips(snapshots, start, end):
     cells = turned_cells(snapshots)
     length = len(snapshots[0].lanes[0])
     for row in range(1, len(snapshots)):
-        on = speeds_at(snapshots[row], 0)
+        speeds = speeds_at(snapshots[row], 0)
         for car, cell in enumerate(cells[row]):
-            for back in range(on[cell], 0, -1):
+            for back in range(speeds[cell], 0, -1):
                 passed.setdefault(car, []).append((row, (cell - back) % length))
     for car, marks in passed.items():
         for place, (row, cell) in enumerate(marks):
-            later = [then for then, there in marks[place + 1:] if there == end]
+            later = [other_row for other_row, other_cell in marks[place + 1:] if other_cell == end]
             if cell == start and later:
                 yield car, snapshots[0].step + row, later[0] - row
 
@@ -109,7 +111,6 @@ def passed(paths, cell, lane=0):
 
 @needs("numpy")
 class Paths(unittest.TestCase):
-
     def test_two_cars(self):
         job = Job(limit=5, start=[0, None, 0] + 7 * [None], rule=Nasch(0), steps=4)
         paths = job.run().trajectories()
@@ -117,15 +118,21 @@ class Paths(unittest.TestCase):
         self.assertEqual([list(row) for row in paths.distance], [[0, 2], [1, 3], [2, 5], [4, 8], [7, 12]])
         self.assertEqual([list(row) for row in paths.speed], [[0, 0], [1, 1], [1, 2], [2, 3], [3, 4]])
         self.assertEqual([list(row) for row in paths.gaps()], [[1, 7], [1, 7], [2, 6], [3, 5], [4, 4]])
-        self.assertEqual((passed(paths, 4), passed(paths, 9)), ([0, 1, 0, 1], [0, 0, 0, 1]))
-        self.assertEqual(paths.travel_times(1, 3), [(0, 2, 1)])
-        self.assertEqual(paths.jams(), [(0, 1, 1, 1, True, False), (0, 1, 1, 1, True, False)])
-        self.assertEqual((repr(paths), len(paths), paths.cars), ("<trajectories of 2 cars, steps 0 to 4>", 5, 2))
+        self.assertEqual(passed(paths, 4), [0, 1, 0, 1])
+        self.assertEqual(passed(paths, 9), [0, 0, 0, 1])
+        self.assertEqual(paths.travel_times(1, 3), [trlab.Trip(car=0, start=2, time=1)])
+        # Both cars are stopped in the first snapshot only.
+        jam = trlab.Jam(first=0, lifetime=1, cars=1, size=1, is_older=True, is_censored=False)
+        self.assertEqual(paths.jams(), [jam, jam])
+        self.assertEqual(repr(paths), "<trajectories of 2 cars, steps 0 to 4>")
+        self.assertEqual(len(paths), 5)
+        self.assertEqual(paths.cars, 2)
 
     def test_a_jam_dissolves(self):
         # Three cars start one after the other, each two steps after the car ahead of it.
         paths = Job(limit=5, start=[0, 0, 0] + 20 * [None], rule=Nasch(0), steps=9).run().trajectories()
-        self.assertEqual(paths.jams(), [(0, 3, 2 + 1, 3 + 2 + 1, True, False)])
+        jam = trlab.Jam(first=0, lifetime=3, cars=3, size=3 + 2 + 1, is_older=True, is_censored=False)
+        self.assertEqual(paths.jams(), [jam])
         self.assertEqual(Job(limit=5, start=[5] + 9 * [None], rule=Nasch(0), steps=9).run().trajectories().jams(), [])
 
     def test_paths_are_those_of_the_snapshots(self):
@@ -133,9 +140,12 @@ class Paths(unittest.TestCase):
             snapshots = job.run()
             paths = snapshots.trajectories()
             for row, snapshot in enumerate(snapshots):
-                found = sorted(zip(paths.lane[row], paths.cell[row], paths.speed[row]))
-                there = [(lane, *it) for lane in range(len(snapshot.lanes)) for it in sorted(speeds_at(snapshot, lane).items())]
-                self.assertEqual(found, there)
+                places_of_paths = sorted(zip(paths.lane[row], paths.cell[row], paths.speed[row]))
+                places_of_snapshot = [
+                    (lane, cell, speed)
+                    for lane in range(len(snapshot.lanes)) for cell, speed in sorted(speeds_at(snapshot, lane).items())
+                ]
+                self.assertEqual(places_of_paths, places_of_snapshot)
                 self.assertEqual([way % paths.length for way in paths.distance[row]], list(paths.cell[row]))
                 if row:
                     driven = [now - then for now, then in zip(paths.distance[row], paths.distance[row - 1])]
@@ -172,13 +182,18 @@ class Paths(unittest.TestCase):
     def test_totals_are_those_of_the_series(self):
         for job in ONE_LANE + TWO_LANES:
             paths = job.run().trajectories()
-            moved = [(lane, v) for lanes, row in list(zip(paths.lane, paths.speed))[1:] for lane, v in zip(lanes, row)]
-            changes = sum(int(one != two) for rows in zip(paths.lane, paths.lane[1:]) for one, two in zip(*rows))
+            moved = [
+                (lane, speed) for row in range(1, len(paths)) for lane, speed in zip(paths.lane[row], paths.speed[row])
+            ]
+            changes = sum(int((before != after).sum()) for before, after in zip(paths.lane, paths.lane[1:]))
             (window,) = job.series(every=job.steps)
-            self.assertEqual((window.distance, window.changes), (sum(v for _, v in moved), changes))
-            for lane, counts in (0, window[8:11]), (1, window[11:14]):
-                on = [v for its, v in moved if its == lane]
-                self.assertEqual((len(on), sum(on), on.count(0)), counts)
+            self.assertEqual(window.distance, sum(speed for _, speed in moved))
+            self.assertEqual(window.changes, changes)
+            for lane in 0, 1:
+                speeds = [speed for lane_of_car, speed in moved if lane_of_car == lane]
+                self.assertEqual(len(speeds), getattr(window, f"cars{lane}"))
+                self.assertEqual(sum(speeds), getattr(window, f"distance{lane}"))
+                self.assertEqual(speeds.count(0), getattr(window, f"stopped{lane}"))
 
     def test_all_detectors_count_the_distance(self):
         for job in ONE_LANE[:4] + TWO_LANES:
@@ -186,15 +201,17 @@ class Paths(unittest.TestCase):
             for lane in range(job.lanes):
                 counts = [passed(paths, cell, lane) for cell in range(job.length)]
                 self.assertLessEqual({number for row in counts for number in row}, {0, 1})
-                found = [sum(step) for step in zip(*counts)]
-                self.assertEqual(found, [row[8 + 3 * lane + 1] for row in job.series()])
+                distances = [sum(step) for step in zip(*counts)]
+                self.assertEqual(distances, [getattr(row, f"distance{lane}") for row in job.series()])
 
     def test_continuity_between_two_detectors(self):
         for job in [*ONE_LANE[:3], TWO_LANES[3]]:
             paths = job.run().trajectories()
             for lane in range(job.lanes):
                 for first, second in (0, 7), (job.length - 2, 5):
-                    between = {cell % job.length for cell in range(first + 1, second + 1 + job.length * (second < first))}
+                    between = {
+                        cell % job.length for cell in range(first + 1, second + 1 + job.length * (second < first))
+                    }
                     cars = [
                         sum(cell in between and on == lane for cell, on in zip(cells, lanes))
                         for cells, lanes in zip(paths.cell, paths.lane)
@@ -210,41 +227,46 @@ class Paths(unittest.TestCase):
                 for area in components(snapshots):
                     rows = [row for row, _, _ in area]
                     is_older, is_censored = min(rows) == 0, max(rows) == len(snapshots) - 1
-                    areas.append((snapshots[min(rows)].step, max(rows) - min(rows) + 1, len(area), is_older, is_censored))
-                found = snapshots.trajectories().jams()
-                self.assertEqual(sorted((it.first, it.lifetime, it.size, it.is_older, it.is_censored) for it in found), sorted(areas))
-                self.assertEqual([it.first for it in found], sorted(it.first for it in found))
+                    areas.append(
+                        (snapshots[min(rows)].step, max(rows) - min(rows) + 1, len(area), is_older, is_censored)
+                    )
+                jams = snapshots.trajectories().jams()
+                areas_of_jams = [(jam.first, jam.lifetime, jam.size, jam.is_older, jam.is_censored) for jam in jams]
+                self.assertEqual(sorted(areas_of_jams), sorted(areas))
+                self.assertEqual([jam.first for jam in jams], sorted(jam.first for jam in jams))
 
     def test_cars_of_jams(self):
         for job in ONE_LANE[:3]:
             snapshots = job.run()
-            cars = {(row, cell): car for row, cells in enumerate(turned_cells(snapshots)) for car, cell in enumerate(cells)}
+            cars = {
+                (row, cell): car for row, cells in enumerate(turned_cells(snapshots)) for car, cell in enumerate(cells)
+            }
             areas = [len({cars[row, cell] for row, _, cell in area}) for area in components(snapshots)]
-            self.assertEqual(sorted(it.cars for it in snapshots.trajectories().jams()), sorted(areas))
+            self.assertEqual(sorted(jam.cars for jam in snapshots.trajectories().jams()), sorted(areas))
 
     def test_travel_times_are_those_of_single_cells(self):
-        found = 0
+        count = 0
         for job in ONE_LANE[:4]:
             snapshots = job.run()[3:]
             paths = snapshots.trajectories()
             for start, end in (0, job.length - 1), (job.length - 1, 0), (3, 3), (6, 2):
                 expected = sorted(trips(snapshots, start, end))
                 self.assertEqual(sorted(paths.travel_times(start, end)), expected)
-                found += len(expected)
-        self.assertGreater(found, 100)
+                count += len(expected)
+        self.assertGreater(count, 100)
 
     def test_travel_times_agree_with_detectors_on_two_lanes(self):
         for job in TWO_LANES:
             paths = job.run().trajectories()
-            begun = [sum(both) for both in zip(*(passed(paths, 4, lane) for lane in range(2)))]
-            ended = [sum(both) for both in zip(*(passed(paths, 9, lane) for lane in range(2)))]
-            found = paths.travel_times(4, 9)
+            starts = [sum(both) for both in zip(*(passed(paths, 4, lane) for lane in range(2)))]
+            ends = [sum(both) for both in zip(*(passed(paths, 9, lane) for lane in range(2)))]
+            trips = paths.travel_times(4, 9)
             for row in range(1, len(paths)):
-                self.assertLessEqual(sum(trip.start == row for trip in found), begun[row - 1])
-                self.assertLessEqual(sum(trip.start + trip.time == row for trip in found), ended[row - 1])
+                self.assertLessEqual(sum(trip.start == row for trip in trips), starts[row - 1])
+                self.assertLessEqual(sum(trip.start + trip.time == row for trip in trips), ends[row - 1])
             # A car is between the detectors at the end if its trip is not over.
             inside = sum(4 < cell <= 9 for cell in paths.cell[-1])
-            self.assertEqual(sum(begun) - len(found), inside)
+            self.assertEqual(sum(starts) - len(trips), inside)
 
     def test_speed_correlations(self):
         paths = ONE_LANE[0].run().trajectories()
@@ -258,11 +280,13 @@ class Paths(unittest.TestCase):
             moments = [
                 sum((pair[a] - means[a]) * (pair[b] - means[b]) for pair in pairs) for a, b in ((0, 1), (0, 0), (1, 1))
             ]
-            self.assertAlmostEqual(paths.speed_correlation(places, later), moments[0] / math.sqrt(moments[1] * moments[2]))
+            self.assertAlmostEqual(
+                paths.speed_correlation(places, later), moments[0] / math.sqrt(moments[1] * moments[2])
+            )
         self.assertEqual(paths.speed_correlation(), 1)
         # The speeds of the initial state are not a result.
-        other = Snapshots([Snapshot(0, (ONE_LANE[0].run()[0].lanes[0].replace("0", "5"),)), *ONE_LANE[0].run()[1:]])
-        self.assertEqual(other.trajectories().speed_correlation(1, 1), paths.speed_correlation(1, 1))
+        with_other_start = Snapshots([Snapshot(0, (ONE_LANE[0].run()[0].lanes[0].replace("0", "5"),)), *ONE_LANE[0].run()[1:]])
+        self.assertEqual(with_other_start.trajectories().speed_correlation(1, 1), paths.speed_correlation(1, 1))
         self.assertTrue(math.isnan(ONE_LANE[0].run()[:1].trajectories().speed_correlation()))
         self.assertTrue(math.isnan(ONE_LANE[6].run().trajectories().speed_correlation()))
 
@@ -271,17 +295,20 @@ class Paths(unittest.TestCase):
         for call in (
             lambda: paths.time_headways(40), lambda: paths.time_headways(-1), lambda: paths.time_headways(0, 1),
             lambda: paths.ahead(-1),
-            lambda: paths.travel_times(0, 40), lambda: paths.speed_correlation(0, 60), lambda: paths.speed_correlation(0, -1),
+            lambda: paths.travel_times(0, 40), lambda: paths.speed_correlation(0, 60),
+            lambda: paths.speed_correlation(0, -1),
             lambda: paths.speed_correlation(-1), lambda: paths.time_headways(1.5),
         ):
-            self.assertRaises((ValueError, TypeError), call)
+            self.assertRaisesRegex(ParameterError, "(cell|lane|places|end|later) must be", call)
 
     def test_other_snapshots_are_rejected(self):
         snapshots = ONE_LANE[0].run()
-        for wrong in Snapshots([*snapshots[:2], snapshots[3]]), snapshots[:2] + snapshots[3:], snapshots[1::2], snapshots[::-1]:
+        for wrong_snapshots in (
+            Snapshots([*snapshots[:2], snapshots[3]]), snapshots[:2] + snapshots[3:], snapshots[1::2], snapshots[::-1],
+        ):
             with self.assertRaisesRegex(SnapshotsError, "step [0-9]+ follows step [0-9]+, and "):
-                wrong.trajectories()
-        for wrong, said in (
+                wrong_snapshots.trajectories()
+        for wrong_snapshots, message in (
             (Snapshots(), "no snapshots"),
             (Snapshots([Snapshot(0, ("0..",)), Snapshot(1, ("0...",))]), "step 1 has another size"),
             (Snapshots([Snapshot(0, ("0..",)), Snapshot(1, ("0..", "..."))]), "step 1 has another size"),
@@ -291,13 +318,14 @@ class Paths(unittest.TestCase):
             (Snapshots([Snapshot(0, ("0..",)), Snapshot(1, ("0.0",))]), "the cars of step 1 do not come"),
             (Snapshots([Snapshot(0, ("0..",)), Snapshot(1, ("...",))]), "the cars of step 1 do not come"),
             (Snapshots([Snapshot(0, ("...",)), Snapshot(1, ("0..",))]), "the cars of step 1 do not come"),
-            (Snapshots([Snapshot(7, ("0..",)), Snapshot(8, (".1.",)), Snapshot(9, ("..0",))]), "the cars of step 9 do not"),
+            (Snapshots([Snapshot(7, ("0..",)), Snapshot(8, (".1.",)), Snapshot(9, ("..0",))]),
+             "the cars of step 9 do not come"),
             (Snapshots([Snapshot(0, ("0.0",)), Snapshot(1, (".12",))]), "the cars of step 1 do not come"),
             (Snapshots([Snapshot(0, ("0..", "...")), Snapshot(1, ("..0", "..."))]), "the cars of step 1 do not come"),
             (Snapshots([Snapshot(0, ("0.0", "...")), Snapshot(1, (".1.", ".1."))]), "the cars of step 1 do not come"),
         ):
-            with self.assertRaisesRegex(SnapshotsError, said):
-                wrong.trajectories()
+            with self.assertRaisesRegex(SnapshotsError, message):
+                wrong_snapshots.trajectories()
 
     def test_cars_that_drive_further_than_their_gaps_are_rejected(self):
         for before, after in (
@@ -308,18 +336,21 @@ class Paths(unittest.TestCase):
             (".0..0", "11..."),
         ):
             snapshots = Snapshots([Snapshot(0, (before, 5 * ".")), Snapshot(1, (after, 5 * "."))])
-            for wrong in snapshots, Snapshots([Snapshot(it.step, it.lanes[:1]) for it in snapshots]):
+            for wrong in snapshots, Snapshots([Snapshot(snapshot.step, snapshot.lanes[:1]) for snapshot in snapshots]):
                 with self.assertRaisesRegex(SnapshotsError, "do not come from|another size"):
                     wrong.trajectories()
         good = Snapshots([Snapshot(0, ("0..",)), Snapshot(1, ("..2",)), Snapshot(2, (".2.",))])
         self.assertEqual(good.trajectories().distance.tolist(), [[0], [2], [4]])
 
     def test_a_car_that_changes_lanes(self):
-        snapshots = Snapshots([Snapshot(0, ("1...", "0.0.")), Snapshot(1, ("..2.", ".1.1")), Snapshot(2, ("1...", "20.."))])
+        snapshots = Snapshots(
+            [Snapshot(0, ("1...", "0.0.")), Snapshot(1, ("..2.", ".1.1")), Snapshot(2, ("1...", "20.."))]
+        )
         paths = snapshots.trajectories()
         self.assertEqual([list(row) for row in paths.lane], [[0, 1, 1], [0, 1, 1], [1, 1, 0]])
         self.assertEqual([list(row) for row in paths.cell], [[0, 0, 2], [2, 1, 3], [0, 1, 0]])
-        self.assertEqual((paths.changes().tolist(), paths.change_rate()), ([0, 2], 2 / 6))
+        self.assertEqual(paths.changes().tolist(), [0, 2])
+        self.assertEqual(paths.change_rate(), 2 / 6)
 
     def test_space_headways_are_one_more_than_gaps(self):
         for job in ONE_LANE[:6]:
@@ -329,7 +360,7 @@ class Paths(unittest.TestCase):
             self.assertEqual({*paths.space_headways().sum(axis=1).tolist()}, {job.length})
 
     def test_time_headways_are_the_steps_between_cars(self):
-        found = 0
+        number = 0
         for job in ONE_LANE[:5] + TWO_LANES:
             paths = job.run().trajectories()
             for lane in range(job.lanes):
@@ -337,8 +368,8 @@ class Paths(unittest.TestCase):
                     steps = [step for step, count in enumerate(passed(paths, cell, lane)) if count]
                     headways = paths.time_headways(cell, lane).tolist()
                     self.assertEqual(headways, [after - before for before, after in zip(steps, steps[1:])])
-                    found += len(headways)
-        self.assertGreater(found, 200)
+                    number += len(headways)
+        self.assertGreater(number, 200)
 
     def test_changes_are_those_of_the_series(self):
         for job in ONE_LANE[:3] + TWO_LANES:
@@ -355,40 +386,57 @@ class Paths(unittest.TestCase):
         for name, new in ("headways", "gaps.*space_headways.*time_headways"), ("detector", "trlab.detectors"):
             with self.assertRaisesRegex(trlab.RenamedError, new):
                 getattr(paths, name)
-        self.assertRaises(AttributeError, getattr, paths, "head")
+        self.assertRaisesRegex(AttributeError, "'head'", getattr, paths, "head")
 
-    def test_types(self):
+    def test_types_of_arrays_and_types_that_are_too_small(self):
         snapshots = replace(ONE_LANE[0], steps=200).run()
         wide = snapshots.trajectories()
         for name in "lane", "cell", "distance", "speed":
-            self.assertEqual((getattr(wide, name).shape, getattr(wide, name).dtype.name), ((201, 15), "int64"))
+            self.assertEqual(getattr(wide, name).shape, (201, 15))
+            self.assertEqual(getattr(wide, name).dtype.name, "int64")
         narrow = snapshots.trajectories(dtype="int16")
         for name in "lane", "cell", "distance", "speed":
             self.assertEqual(getattr(narrow, name).dtype.name, "int16")
             self.assertEqual(getattr(narrow, name).tolist(), getattr(wide, name).tolist())
-        self.assertEqual((narrow.jams(), narrow.travel_times(3, 2)), (wide.jams(), wide.travel_times(3, 2)))
-        self.assertEqual((narrow.speed_correlation(1, 2), narrow.gaps().dtype.name), (wide.speed_correlation(1, 2), "int64"))
+        self.assertEqual(narrow.jams(), wide.jams())
+        self.assertEqual(narrow.travel_times(3, 2), wide.travel_times(3, 2))
+        self.assertEqual(narrow.speed_correlation(1, 2), wide.speed_correlation(1, 2))
+        self.assertEqual(narrow.gaps().dtype.name, "int64")
         self.assertEqual(narrow.gaps().tolist(), wide.gaps().tolist())
         self.assertEqual(narrow.time_headways(7).tolist(), wide.time_headways(7).tolist())
         for small in "int8", "uint64", float, bool:
-            self.assertRaises(ParameterError, snapshots.trajectories, dtype=small)
+            self.assertRaisesRegex(
+                ParameterError, "is too small|signed whole numbers", snapshots.trajectories, dtype=small
+            )
+
+
+class CarInStep(NamedTuple):
+    """A car after a step, with the columns of `trlab.Cars`."""
+
+    lane: int
+    cell: int
+    distance: int
+    speed: int
 
 
 def followed_by_dictionaries(snapshots):
-    """The rows of lanes, cells, distances and speeds, from one dictionary of cells for each step."""
-    places, rows = {}, []
+    """The cars of each snapshot, from one dictionary of cells for each step."""
+    cars, rows = {}, []
     for snapshot in snapshots:
-        on = {(lane, cell): speed for lane in range(len(snapshot.lanes)) for cell, speed in speeds_at(snapshot, lane).items()}
+        lanes, length = len(snapshot.lanes), len(snapshot.lanes[0])
+        speeds = {(lane, cell): speed for lane in range(lanes) for cell, speed in speeds_at(snapshot, lane).items()}
+        row = {}
         if not rows:
-            places = {place: car for car, place in enumerate(sorted(on))}
-            row = {car: (*place, place[1], on[place]) for place, car in places.items()}
+            cars = {place: car for car, place in enumerate(sorted(speeds))}
+            for (lane, cell), car in cars.items():
+                row[car] = CarInStep(lane, cell, distance=cell, speed=speeds[lane, cell])
         else:
-            length, others, now, row = len(snapshot.lanes[0]), len(snapshot.lanes) - 1, {}, {}
-            for (lane, cell), speed in on.items():
-                came = (cell - speed) % length
-                car = places[lane, came] if (lane, came) in places else places[others - lane, came]
-                now[lane, cell], row[car] = car, (lane, cell, rows[-1][car][2] + speed, speed)
-            places = now
+            before, cars = cars, {}
+            for (lane, cell), speed in speeds.items():
+                origin, side = (cell - speed) % length, lanes - 1 - lane
+                car = before[lane, origin] if (lane, origin) in before else before[side, origin]
+                cars[lane, cell] = car
+                row[car] = CarInStep(lane, cell, distance=rows[-1][car].distance + speed, speed=speed)
         rows.append([row[car] for car in sorted(row)])
     return rows
 
@@ -399,8 +447,10 @@ class Followed(unittest.TestCase):
         for job in ONE_LANE + TWO_LANES:
             paths = job.run(first=2).trajectories()
             for row, cars in enumerate(trlab.follow(job.snapshots(first=2))):
-                self.assertEqual((cars.step, len(cars)), (row + 2, paths.cars))
-                self.assertEqual((cars.lanes, cars.length), (paths.lanes, paths.length))
+                self.assertEqual(cars.step, row + 2)
+                self.assertEqual(len(cars), paths.cars)
+                self.assertEqual(cars.lanes, paths.lanes)
+                self.assertEqual(cars.length, paths.length)
                 for name in "lane", "cell", "distance", "speed":
                     self.assertEqual(getattr(cars, name).tolist(), getattr(paths, name)[row].tolist())
                 self.assertEqual(cars.gaps().tolist(), paths.gaps()[row].tolist())
@@ -417,8 +467,10 @@ class Followed(unittest.TestCase):
         @given(jobs(12))
         def agree(job):
             snapshots = job.run()
-            for wanted, cars in zip(followed_by_dictionaries(snapshots), trlab.follow(iter(snapshots))):
-                self.assertEqual([*zip(*(it.tolist() for it in (cars.lane, cars.cell, cars.distance, cars.speed)))], wanted)
+            for expected, cars in zip(followed_by_dictionaries(snapshots), trlab.follow(iter(snapshots))):
+                self.assertEqual(
+                    [*zip(*(array.tolist() for array in (cars.lane, cars.cell, cars.distance, cars.speed)))], expected
+                )
             self.assertEqual(len([*trlab.follow(snapshots)]), 13)
 
         agree()
@@ -432,7 +484,8 @@ class Followed(unittest.TestCase):
                 yield snapshot
 
         cars = trlab.follow(snapshots())
-        self.assertEqual(([next(cars).step, next(cars).step], taken), ([0, 1], [0, 1]))
+        self.assertEqual([next(cars).step, next(cars).step], [0, 1])
+        self.assertEqual(taken, [0, 1])
         self.assertEqual([*trlab.follow([])], [])
 
 
@@ -441,5 +494,5 @@ class Windows(unittest.TestCase):
     def test_stopped_time_is_that_of_the_snapshots(self):
         # The sizes of all jams add up to the stopped cars of the slow count.
         snapshots = replace(ONE_LANE[0], steps=200).run()
-        counted = sum(it.stopped for it in windows(snapshots)) + snapshots[0].lanes[0].count("0")
-        self.assertEqual(sum(it.size for it in snapshots.trajectories().jams()), counted)
+        counted = sum(window.stopped for window in windows(snapshots)) + snapshots[0].lanes[0].count("0")
+        self.assertEqual(sum(window.size for window in snapshots.trajectories().jams()), counted)

@@ -13,42 +13,53 @@ def frame_of(**columns):
 class Units(unittest.TestCase):
     def test_every_column_has_a_unit(self):
         job = Job(limit=5, length=50, density=0.2, rule=Nasch(0.25), steps=40, start=random_cells(1))
-        grid = Grid(lambda density, seed, key: Job(limit=5, length=50, density=density, rule=Nasch(0.25), steps=40, key=key),
-                    density=[0.11, 0.2], seed=range(2))
+        grid = Grid(
+            lambda density, seed, key: Job(limit=5, length=50, density=density, rule=Nasch(0.25), steps=40, key=key),
+            density=[0.11, 0.2], seed=range(2),
+        )
         frame = grid.run(call=lambda job: job.series(every=20))
         runs = trlab.per_run(frame)
-        for made in frame, runs, trlab.to_si(runs), trlab.means(runs, "seed"), job.detectors([3], every=20), job.series().to_pandas():
+        for made in (
+            frame, runs, trlab.to_si(runs), trlab.means(runs, "seed"), job.detectors([3], every=20),
+            job.series().to_pandas(),
+        ):
             for name in (*made, *made.index.names):
                 if name not in ("key", "road", "ensemble", "seed", "lane", None):
                     self.assertIn(str(name).replace("_sem", ""), trlab.UNITS)
 
     def test_the_usual_values(self):
-        found = trlab.to_si(frame_of(density=1.0, flow=0.5, speed=1.0, flow_sem=0.01, time=60, change_rate=0.001,
-                                     stopped_share=0.5))
-        self.assertEqual(set(found), {"density_per_km", "flow_per_h", "speed_km_per_h", "flow_per_h_sem", "time_s",
-                                      "change_rate_per_h",
-                                      "stopped_share"})
-        for name, value in {"density_per_km": 1000 / 7.5, "flow_per_h": 1800, "speed_km_per_h": 27, "flow_per_h_sem": 36,
-                            "time_s": 60,
-                            "change_rate_per_h": 3.6, "stopped_share": 0.5}.items():
-            self.assertAlmostEqual(found[name][0], value)
+        converted = trlab.to_si(
+            frame_of(density=1.0, flow=0.5, speed=1.0, flow_sem=0.01, time=60, change_rate=0.001, stopped_share=0.5)
+        )
+        expected = {
+            "density_per_km": 1000 / 7.5, "flow_per_h": 1800, "speed_km_per_h": 27, "flow_per_h_sem": 36, "time_s": 60,
+            "change_rate_per_h": 3.6, "stopped_share": 0.5,
+        }
+        self.assertEqual(set(converted), set(expected))
+        for name, value in expected.items():
+            self.assertAlmostEqual(converted[name][0], value)
 
     def test_another_scale(self):
-        found = trlab.to_si(frame_of(density=0.3, flow=0.25, speed=10, time_mean_speed=10, time_headway=4.0), cell=1.5, step=0.5)
-        for name, value in {"density_per_km": 200, "flow_per_h": 1800, "speed_km_per_h": 108, "time_mean_speed_km_per_h": 108,
-                            "time_headway_s": 2}.items():
-            self.assertAlmostEqual(found[name][0], value)
+        converted = trlab.to_si(
+            frame_of(density=0.3, flow=0.25, speed=10, time_mean_speed=10, time_headway=4.0), cell=1.5, step=0.5
+        )
+        for name, value in {
+            "density_per_km": 200, "flow_per_h": 1800, "speed_km_per_h": 108, "time_mean_speed_km_per_h": 108,
+            "time_headway_s": 2,
+        }.items():
+            self.assertAlmostEqual(converted[name][0], value)
 
     def test_flow_is_density_times_speed_in_any_scale(self):
         series = Job(limit=5, length=100, cars=20, rule=Nasch(0.25), steps=200).series(every=100, first=100).to_pandas()
         for scale in {}, {"cell": 1.5, "step": 0.7}:
-            found = trlab.to_si(series, **scale)
-            self.assertAlmostEqual(found.flow_per_h[0], found.density_per_km[0] * found.speed_km_per_h[0])
+            converted = trlab.to_si(series, **scale)
+            product = converted.density_per_km[0] * converted.speed_km_per_h[0]
+            self.assertAlmostEqual(converted.flow_per_h[0], product)
 
     def test_levels_are_converted_too(self):
         frame = frame_of(p=0.5, density=0.1, flow=0.5).set_index(["p", "density"])
-        found = trlab.to_si(frame)
-        self.assertEqual(list(found.index.names), ["p", "density_per_km"])
+        converted = trlab.to_si(frame)
+        self.assertEqual(list(converted.index.names), ["p", "density_per_km"])
         self.assertEqual(list(frame.index.names), ["p", "density"])
 
     def test_a_frame_is_converted_once(self):
@@ -61,7 +72,9 @@ class Units(unittest.TestCase):
 
     def test_nothing_but_numbers_above_0(self):
         for values in {"cell": 0}, {"step": -1}, {"cell": float("inf")}, {"step": float("nan")}, {"cell": True}:
-            self.assertRaisesRegex(ParameterError, f"`{next(iter(values))}` must be", trlab.to_si, frame_of(flow=0.5), **values)
+            self.assertRaisesRegex(
+                ParameterError, f"`{next(iter(values))}` must be", trlab.to_si, frame_of(flow=0.5), **values
+            )
 
 
 if __name__ == "__main__":

@@ -18,7 +18,7 @@ def holds(condition):
 
 def first_of(call):
     """The first value of a repeated call that is not None."""
-    found = []
-    if not holds(lambda: found.append(call()) or found[-1] is not None):
+    values = []
+    if not holds(lambda: values.append(call()) or values[-1] is not None):
         raise TimeoutError("nothing came before the limit")
-    return found[-1]
+    return values[-1]

@@ -5,7 +5,8 @@ from pathlib import Path
 
 sys.path.insert(0, str(Path(__file__).resolve().parents[1]))
 
-from tests.test_many import WRONG, Executors, windows  # noqa: E402
+from tests.expected import NEEDS_TWO_LANES  # noqa: E402
+from tests.test_many import REJECTED, Executors, windows  # noqa: E402
 
 import trlab  # noqa: E402
 
@@ -15,10 +16,10 @@ def main():
 
     with MPIPoolExecutor() as pool, tempfile.TemporaryDirectory() as cache:
         for _ in range(2):
-            found = dict(trlab.results(Executors.JOBS, call=windows, executor=pool, cache=cache))
-            assert found == {key: windows(job) for key, job in Executors.JOBS.items()}
-        (kept,) = dict(trlab.results([WRONG], call=windows, executor=pool, errors="keep")).values()
-        assert isinstance(kept, trlab.RejectedInputError) and kept.cause == 4
+            results = dict(trlab.results(Executors.JOBS, call=windows, executor=pool, cache=cache))
+            assert results == {key: windows(job) for key, job in Executors.JOBS.items()}
+        (error,) = dict(trlab.results([REJECTED], call=windows, executor=pool, errors="keep")).values()
+        assert isinstance(error, trlab.RejectedInputError) and error.cause == NEEDS_TWO_LANES
     print("OK")
 
 

@@ -9,15 +9,17 @@
     job = Job(limit=5, length=100, density=0.2, start=random_cells(1), rule=Nasch(0.25), steps=50, key=7)
     print(job.run()[-1].lanes[0])
 
-Lengths are in cells, times in steps, speeds in cells per step; probabilities and densities (cars per cell) are between 0 and 1; a
-flow is in cars per step and lane. Results depend only on the input file of a job or a sweep, which `.text()` returns. Inputs,
-runs and their rows need no other package; frames, arrays, estimates and plots need numpy, pandas and matplotlib:
-`pip install "trlab[analysis]"`. The environment variable `TRLAB` may hold the path of the program (see `find_program`)."""
+Lengths are in cells, times in steps, speeds in cells per step; probabilities and densities (cars per cell) are between
+0 and 1; a flow is in cars per step and lane. Results depend only on the input file of a job or a sweep, which `.text()`
+returns. Inputs, runs and their rows need no other package; frames, arrays, estimates and plots need numpy, pandas and
+matplotlib: `pip install "trlab[analysis]"`. The environment variable `TRLAB` may hold the path of the program (see
+`find_program`)."""
 from importlib import import_module as _import_module
 
 from . import exact as exact
 from ._errors import (
-    EstimateError, ExitStatusError, FrameError, IncompleteOutputError, MissingLibraryError, OutputFormatError, ParameterError,
+    EstimateError, ExitStatusError, FrameError, IncompleteOutputError, MissingLibraryError, OutputFormatError,
+    ParameterError,
     ProgramError, ProgramNotFoundError, RejectedInputError, RenamedError, ResultFilesError, RuleError, SnapshotsError,
     StudyFileError, TrlabError, TrlabWarning,
 )
@@ -57,10 +59,14 @@ _ANALYSIS = {
 __all__ = [
     "AcceptedProgram", "Density", "Drift", "Duration", "EstimateError", "ExitStatusError", "FrameError", "Grid",
     "IncompleteOutputError", "InitialState", "Job", "Key", "MissingLibraryError", "Nasch", "OutputFormatError", "Own",
-    "ParameterError", "Point", "Probability", "ProgramError", "ProgramNotFoundError", "PythonRule", "RejectedInputError",
-    "RenamedError", "ResultFilesError", "Rickert", "Rule", "RuleError", "SlowToStart", "Snapshot", "Snapshots", "SnapshotsError",
-    "StudyFileError", "Sweep", "Table", "TrlabError", "TrlabWarning", "Window", "__version__", "change", "check", "even", "explain",
-    "find_program", "jammed", "key_for", "motion", "moving", "random_cells", "read_study", "read_tables", "results", "run_all",
+    "ParameterError", "Point", "Probability", "ProgramError", "ProgramNotFoundError", "PythonRule",
+    "RejectedInputError",
+    "RenamedError", "ResultFilesError", "Rickert", "Rule", "RuleError", "SlowToStart", "Snapshot", "Snapshots",
+    "SnapshotsError",
+    "StudyFileError", "Sweep", "Table", "TrlabError", "TrlabWarning", "Window", "__version__", "change", "check",
+    "even", "explain",
+    "find_program", "jammed", "key_for", "motion", "moving", "random_cells", "read_study", "read_tables", "results",
+    "run_all",
     "version", "write_inputs",
 ]
 
@@ -70,9 +76,9 @@ def __getattr__(name: str) -> object:
     _renamed("trlab", name, _IN_PACKAGE)
     for module, names in _ANALYSIS.items():
         if name in names:
-            found: object = getattr(_import_module(f"trlab.{module}"), name)
-            globals()[name] = found
-            return found
+            value: object = getattr(_import_module(f"trlab.{module}"), name)
+            globals()[name] = value
+            return value
     raise AttributeError(f"module 'trlab' has no attribute {name!r}")
 
 

@@ -30,8 +30,8 @@ class ProgramNotFoundError(TrlabError, FileNotFoundError):
 
 
 class ProgramError(TrlabError):
-    """The program ended with an error other than a rejected input: its exit `status`, and the `message` that it wrote to
-    standard error."""
+    """The program ended with an error other than a rejected input: its exit `status`, and the `message` that it wrote
+    to standard error."""
 
     def __init__(self, status: int, message: str) -> None:
         super().__init__(status, message)
@@ -42,21 +42,22 @@ class ProgramError(TrlabError):
         raise RenamedError("a `ProgramError` has no `said` since version 0.6: use `message`")
 
     def __str__(self) -> str:
-        return f"trlab ended with status {self.status}: {self.message.strip() or _MEANING.get(self.status, 'no message')}"
+        message = self.message.strip() or _MEANING.get(self.status, "no message")
+        return f"trlab ended with status {self.status}: {message}"
 
 
 _MEANING = {3: "memory ran out", 4: "reading the input or writing the output failed"}
 
 
 class RejectedInputError(TrlabError):
-    """An input that the program rejects. The message is the text of `trlab explain`; the attributes are values of `trlab
-    explain --json`:
+    """An input that the program rejects. The message is the text of `trlab explain`; the attributes are values of
+    `trlab explain --json`:
 
     - `answer`: the output of the command, for example `fault line 5 cause 2`;
     - `line`, from 1 (0: the input is too long), and its rejected bytes `first` to `last`, from 1 (None: the whole
       line);
-    - `cause`: the error number of an input, or None; `reason`: the error number of the verifier, also for a program within an
-      input, or None;
+    - `cause`: the error number of an input, or None; `reason`: the error number of the verifier, also for a program
+      within an input, or None;
     - `pc`: the rejected instruction of a program, from 0, or None;
     - `meaning`, and `found` and `advice`, which may be None;
     - `expected`: a list of strings; `facts`: a list of the facts known before the rejected instruction;
@@ -73,7 +74,8 @@ class RejectedInputError(TrlabError):
         self.first: Optional[int] = error["first"]
         self.last: Optional[int] = error["last"]
         self.cause: Optional[int] = error["number"] if error["kind"] == "cause" else None
-        self.reason: Optional[int] = error["number"] if error["kind"] == "reason" else (error["reason"] or {}).get("number")
+        verdict: Mapping[str, Any] = error["reason"] or {}
+        self.reason: Optional[int] = error["number"] if error["kind"] == "reason" else verdict.get("number")
         self.pc: Optional[int] = error["pc"]
         self.meaning: str = error["meaning"]
         self.found: Optional[str] = error["found"]
@@ -87,9 +89,9 @@ class RejectedInputError(TrlabError):
 
 
 class RuleError(TrlabError, ValueError):
-    """A Python function that is not a rule, or whose program the verifier rejects. The message names the file, the line and the
-    expression, and how to write it; the attributes are `file`, `line` (from 1) and `message`, which does not repeat
-    them."""
+    """A Python function that is not a rule, or whose program the verifier rejects. The message names the file, the line
+    and the expression, and how to write it; the attributes are `file`, `line` (from 1) and `message`, which does not
+    repeat them."""
 
     def __init__(self, file: str, line: int, message: str) -> None:
         super().__init__(file, line, message)
@@ -104,7 +106,8 @@ class IncompleteOutputError(TrlabError):
 
 
 class ExitStatusError(TrlabError):
-    """The exit status of the program cannot be known, so that a failed run could pass for a good one. The message says why."""
+    """The exit status of the program cannot be known, so that a failed run could pass for a good one. The message says
+    why."""
 
 
 class OutputFormatError(TrlabError, ValueError):
@@ -112,8 +115,8 @@ class OutputFormatError(TrlabError, ValueError):
 
 
 class SnapshotsError(TrlabError, ValueError):
-    """Snapshots that cannot give the requested result: they are not of consecutive steps, or not of one run. The message says
-    why, and what to do."""
+    """Snapshots that cannot give the requested result: they are not of consecutive steps, or not of one run. The
+    message says why, and what to do."""
 
 
 class ResultFilesError(TrlabError, ValueError):

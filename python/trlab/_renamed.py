@@ -45,9 +45,13 @@ IN_SNAPSHOTS = {
 """Attributes of `Snapshots`."""
 
 IN_TRAJECTORIES = {
-    "headways": "`gaps()` for the empty cells ahead, which `headways()` gave; `space_headways()`, which are one more; or "
-    "`time_headways(cell)`, in steps",
-    "detector": "`trlab.detectors(snapshots, cells, every)` for counts, flows and speeds, or `trlab.passings(snapshots, cells)`",
+    "headways": (
+        "`gaps()` for the empty cells ahead, which `headways()` gave; `space_headways()`, which are one more; or "
+        "`time_headways(cell)`, in steps"
+    ),
+    "detector": (
+        "`trlab.detectors(snapshots, cells, every)` for counts, flows and speeds, or `trlab.passings(snapshots, cells)`"
+    ),
 }
 """Attributes of `Trajectories`."""
 

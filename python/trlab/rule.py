@@ -22,19 +22,20 @@ def value_of(word: str) -> Any:
         return word
 
 
-def main(words: Sequence[str]) -> Optional[str]:
+def main(arguments: Sequence[str]) -> Optional[str]:
     """Write the program of a rule of a file to standard output; the message of an error is returned."""
-    names = [word for word in words if "=" not in word]
+    names = [argument for argument in arguments if "=" not in argument]
     if not 1 <= len(names) <= 2:
         return USAGE
     try:
         with open(names[0], encoding="utf-8") as file:
             rules = rules_in(file.read(), names[0])
-        asked = names[1:] or list(rules)
-        if len(asked) != 1 or asked[0] not in rules:
-            return f"{names[0]}: name one of its rules: {', '.join(rules) or 'there are none, which need @trlab.motion or change'}"
-        given = dict(word.split("=", 1) for word in words if "=" in word)
-        sys.stdout.write(rules[asked[0]](**{name: value_of(word) for name, word in given.items()}))
+        chosen = names[1:] or list(rules)
+        if len(chosen) != 1 or chosen[0] not in rules:
+            choices = ", ".join(rules) or "there are none, which need @trlab.motion or change"
+            return f"{names[0]}: name one of its rules: {choices}"
+        values = dict(argument.split("=", 1) for argument in arguments if "=" in argument)
+        sys.stdout.write(rules[chosen[0]](**{name: value_of(argument) for name, argument in values.items()}))
     except (OSError, UnicodeDecodeError, TrlabError) as error:
         return str(error)
     return None

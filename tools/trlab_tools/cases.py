@@ -2,7 +2,7 @@
 describes the format."""
 import re
 from collections.abc import Iterator
-from typing import NamedTuple, Optional
+from typing import NamedTuple, Optional, Union
 
 from . import TOP
 
@@ -35,12 +35,12 @@ class Case(NamedTuple):
     # How much of the output the case has: "all", its "first lines", or "nothing".
     extent: str
 
-    def is_met(self, status, output):
+    def is_met(self, status: Union[int, str], output: bytes) -> bool:
         is_output = {"all": output == self.output, "first lines": output.startswith(self.output), "nothing": True}
         return status == self.status and is_output[self.extent]
 
 
-def line_of(text, number):
+def line_of(text: str, number: int) -> Optional[str]:
     """A line of a part, with this number among repeated lines; None if it is malformed."""
     if not re.fullmatch(r"([^\\]|\\[strk0\\])*\\?", text):
         return None
@@ -48,15 +48,16 @@ def line_of(text, number):
     return written[:-1] if re.search(r"(?<!\\)(\\\\)*\\$", text) else written + "\n"
 
 
-def lines_of(text, count):
+def lines_of(text: str, count: int) -> Optional[str]:
     """A line of a part, repeated; the copies differ only if they contain their number."""
     lines = [line_of(text, number) for number in (range(count) if "\\k" in text else [0])]
-    return None if None in lines else "".join(lines) * (1 if "\\k" in text else count)
+    written = [line for line in lines if line is not None]
+    return None if len(written) < len(lines) else "".join(written) * (1 if "\\k" in text else count)
 
 
-def parts_of(content):
+def parts_of(content: str) -> list[Part]:
     """The parts of a file. A title is a part without text."""
-    parts = []
+    parts: list[Part] = []
     for number, line in enumerate(content.split("\n"), 1):
         if not line or line.startswith("#"):
             continue
@@ -72,7 +73,7 @@ def parts_of(content):
     return parts
 
 
-def calls_of(part, front):
+def calls_of(part: Part, front: str) -> Optional[tuple[list[list[str]], str]]:
     """The command lines of a part and their input; None if its words are not a command."""
     words, text = part.words, part.text or ""
     if words == "words":
@@ -86,9 +87,9 @@ def calls_of(part, front):
     return None
 
 
-def wanted_by(part):
+def wanted_by(part: Part) -> Optional[tuple[int, bytes, str]]:
     """The status, the output and its extent that a part requires; None if it is not an answer."""
-    if part.words == "status" and (part.text or "").strip().isdigit():
+    if part.words == "status" and part.text and part.text.strip().isdigit():
         return int(part.text), b"", "nothing"
     ends = {"done": (0, "all"), "refused": (1, "all"), "begins": (0, "first lines")}
     if part.words not in ends or part.text is None:
@@ -97,7 +98,7 @@ def wanted_by(part):
     return status, part.text.encode(), extent
 
 
-def cases_of(name, content):
+def cases_of(name: str, content: str) -> Iterator[Case]:
     """The cases of a file. Its parts are titles, fronts, and commands, each followed by the expected answer."""
     title, front, command = "", "", None
     for part in parts_of(content):
@@ -126,7 +127,7 @@ def files() -> Iterator[tuple[str, str]]:
         yield path.name, path.read_bytes().decode()
 
 
-def texts():
+def texts() -> Iterator[tuple[str, list[str], bytes]]:
     """The name, the first command line and the input of each case."""
     for name, content in files():
         for case in cases_of(name, content):

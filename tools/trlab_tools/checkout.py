@@ -4,7 +4,9 @@ import hashlib
 import os
 import shutil
 import subprocess
+from collections.abc import Iterable
 from pathlib import Path
+from typing import Any, Optional
 
 from trlab._runs.location import FEATURES_OF_V2, FEATURES_OF_V3
 
@@ -42,7 +44,7 @@ FLAGS = "#!/bin/sh\necho flags : fpu {}\n"
 class Checkout:
     """A small checkout in a path with a space, and a substitute for rt. Nothing is built, and no program is released."""
 
-    def __init__(self, folder):
+    def __init__(self, folder: str) -> None:
         self.folder, self.top, self.bin = folder, os.path.join(folder, "a checkout"), os.path.join(folder, "bin")
         self.calls, self.home = Path(folder, "calls"), os.path.join(folder, "home")
         os.makedirs(self.bin)
@@ -58,18 +60,18 @@ class Checkout:
         self.put("rt", SUBSTITUTE)
         self.put("built", BUILT)
 
-    def put(self, name, text):
+    def put(self, name: str, text: str) -> None:
         """Puts a script on the PATH."""
         path = os.path.join(self.bin, name)
         with open(path, "w", encoding="utf-8") as file:
             file.write(text)
         os.chmod(path, 0o755)
 
-    def packed(self):
+    def packed(self) -> list[str]:
         """The packed programs of the release, in the order of the levels."""
         return [os.path.join(self.top, "release", f"trlab-{level}.gz") for level in LEVELS]
 
-    def release(self, program=RELEASED, for_v3=None):
+    def release(self, program: str = RELEASED, for_v3: Optional[str] = None) -> "Checkout":
         """Releases a program of the present sources; the one for x86-64-v3 may differ."""
         programs = [it.encode() for it in (program, for_v3 or program)]
         script = os.path.join(self.top, "release", "sources")
@@ -82,23 +84,26 @@ class Checkout:
                 file.write(it)
         return self
 
-    def on(self, *has):
+    def on(self, *has: str) -> "Checkout":
         """Continues with a processor that has these features."""
         self.put("grep", FLAGS.format(" ".join(has)))
         return self
 
-    def without_rt(self):
+    def without_rt(self) -> "Checkout":
         os.remove(os.path.join(self.bin, "rt"))
         return self
 
-    def moved(self, how):
+    def moved(self, how: str) -> "Checkout":
         """Continues in a different checkout, which a shell command makes from this one, `$0`, as `$1`."""
         to = os.path.join(self.folder, "another checkout")
         subprocess.run(["bash", "-euo", "pipefail", "-c", how, self.top, to], check=True, capture_output=True)
         self.top = to
         return self
 
-    def start(self, call=None, words=("run", "--workers", "2"), cwd="/", how='exec "$@"', user=None, **more):
+    def start(
+        self, call: Optional[str] = None, words: Iterable[str] = ("run", "--workers", "2"), cwd: str = "/", how: str = 'exec "$@"',
+        user: Optional[int] = None, **more: str
+    ) -> "subprocess.Popen[bytes]":
         """./trlab, started with arguments by a shell that may set something first; its input is short."""
         paths = os.environ["PATH"].split(os.pathsep)
         others = [path for path in paths if not os.path.exists(os.path.join(path, "rt"))]
@@ -109,39 +114,39 @@ class Checkout:
         pipe = subprocess.PIPE
         return subprocess.Popen(called, cwd=cwd, env=env, stdin=pipe, stdout=pipe, stderr=pipe, user=user)
 
-    def call(self, **how):
+    def call(self, **how: Any) -> tuple[tuple[bytes, int], str]:
         """The output, the status and the messages of ./trlab."""
         return end(self.start(**how))
 
-    def calls_of_rt(self):
+    def calls_of_rt(self) -> list[str]:
         """The arguments of each call of rt."""
         return self.calls.read_text().splitlines() if self.calls.exists() else []
 
-    def builds(self):
+    def builds(self) -> int:
         """The number of calls of rt for all proofs."""
         return sum(line.startswith("all ") for line in self.calls_of_rt())
 
-    def left(self):
+    def left(self) -> list[str]:
         """The files in out/."""
         out = os.path.join(self.top, "out")
         return sorted(os.listdir(out)) if os.path.isdir(out) else []
 
-    def kept(self):
+    def kept(self) -> str:
         """The one file in out/."""
         name, = self.left()
         return os.path.join(self.top, "out", name)
 
 
-def end(started):
+def end(started: "subprocess.Popen[bytes]") -> tuple[tuple[bytes, int], str]:
     output, messages = started.communicate(b"text", timeout=program.LONGEST)
     return (output, started.returncode), messages.decode()
 
 
-def append(path, text="//\n"):
+def append(path: str, text: str = "//\n") -> None:
     with open(path, "a", encoding="utf-8") as file:
         file.write(text)
 
 
-def overwrite(path, content):
+def overwrite(path: str, content: bytes) -> None:
     with open(path, "wb") as file:
         file.write(content)

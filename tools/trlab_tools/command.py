@@ -2,10 +2,12 @@
 import argparse
 import os
 import sys
-from collections.abc import Callable, Iterable
+from collections.abc import Callable, Iterable, Iterator
 from typing import Any, NoReturn, Optional
 
 MAX_MESSAGES = 20
+# Whether each check holds, and the message if it does not.
+Verdicts = Iterator[tuple[bool, str]]
 Argument = tuple[tuple[str, ...], dict[str, Any]]
 
 

@@ -4,9 +4,12 @@ import json
 import shutil
 import subprocess
 import threading
-from typing import NamedTuple
+from collections.abc import Iterable, Iterator
+from os import PathLike
+from typing import NamedTuple, Union
 
 from . import TOP
+from .command import Count
 
 # The further calls for an input of a command. The native program reports the progress of several runners in any order.
 MORE = {
@@ -23,17 +26,17 @@ class Call(NamedTuple):
     """A call of the program: a name for messages, its arguments and its input."""
 
     name: str
-    words: list
+    words: list[str]
     text: bytes
 
 
 class Ended(NamedTuple):
-    status: object
+    status: int
     output: bytes
     error: bytes
 
 
-def calls_of(texts):
+def calls_of(texts: Iterable[tuple[str, list[str], bytes]]) -> Iterator[Call]:
     """The calls for inputs, each of which has a name and the words of a command."""
     for name, words, text in texts:
         yield Call(name, words, text)
@@ -41,31 +44,36 @@ def calls_of(texts):
             yield Call(name, more.split(), text)
 
 
-def by_program(program, call):
+def by_program(program: str, call: Call) -> Ended:
     ran = subprocess.run([program, *call.words], input=call.text, capture_output=True)
     return Ended(ran.returncode, ran.stdout, ran.stderr)
 
 
-def by_node(page, calls):
+def by_node(page: Union[str, PathLike[str]], calls: Iterable[Call]) -> Iterator[Ended]:
     """How the calls end in WebAssembly, in their order."""
-    words = ["node", TOP / "release" / "wasm" / "answers.mjs", page]
+    words = ["node", str(TOP / "release" / "wasm" / "answers.mjs"), str(page)]
     with subprocess.Popen(words, stdin=subprocess.PIPE, stdout=subprocess.PIPE, text=True) as running:
-        def send():
-            with running.stdin as questions:
+        assert running.stdin is not None and running.stdout is not None
+        questions, answers = running.stdin, running.stdout
+
+        def send() -> None:
+            with questions:
                 for call in calls:
                     print(json.dumps({"words": call.words, "input": base64.b64encode(call.text).decode()}), file=questions)
 
         threading.Thread(target=send, daemon=True).start()
-        for line in running.stdout:
+        for line in answers:
             answer = json.loads(line)
             yield Ended(answer["status"], *(base64.b64decode(answer[part]) for part in ("output", "error")))
 
 
-def has_node():
+def has_node() -> bool:
     return shutil.which("node") is not None
 
 
-def compare(count, page, program, texts):
+def compare(
+    count: Count, page: Union[str, PathLike[str]], program: str, texts: Iterable[tuple[str, list[str], bytes]]
+) -> None:
     """Note for each call of each input whether both programs end in the same way."""
     calls = list(calls_of(texts))
     answers = 0

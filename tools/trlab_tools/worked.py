@@ -1,4 +1,6 @@
 """Small inputs that together use every part of the program, some with their outputs; and the examples."""
+from collections.abc import Iterator
+
 from . import TOP
 
 KEY = "key " + 64 * "0" + "\n"
@@ -59,13 +61,13 @@ TEXTS = {
 COMMANDS = {".job": "run", ".rule": "check", ".sweep": "sweep"}
 
 
-def name_of_output(name):
+def name_of_output(name: str) -> str:
     """The name of the file with the output of an example."""
     base, dot, kind = name.rpartition(".")
     return f"{base}.csv" if kind == "sweep" else f"{name}.out"
 
 
-def examples():
+def examples() -> Iterator[tuple[str, str, bytes]]:
     """The name, the command and the input of each example."""
     for path in sorted((TOP / "examples").iterdir()):
         if path.suffix in COMMANDS:

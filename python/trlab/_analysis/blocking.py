@@ -6,7 +6,7 @@ from collections.abc import Iterable
 from typing import NamedTuple, Union
 
 from .columns import Array
-from .libraries import numpy, pandas
+from .required import numpy, pandas
 from .means import mean_and_sem
 from .series import as_column, finite_numbers, various_levels
 from .._errors import EstimateError
@@ -15,9 +15,9 @@ LEAST_BLOCKS = 16
 
 
 class Blocking(NamedTuple):
-    """The `mean` of a correlated series and its standard error `sem`, in the unit of the series. `sem` is itself uncertain by
-    `sem_error` (one standard error). `block` is the number of values per block, and `inefficiency` the number of values that
-    are worth one independent value."""
+    """The `mean` of a correlated series and its standard error `sem`, in the unit of the series. `sem` is itself
+    uncertain by `sem_error` (one standard error). `block` is the number of values per block, and `inefficiency` the
+    number of values that are worth one independent value."""
 
     mean: float
     sem: float
@@ -27,19 +27,20 @@ class Blocking(NamedTuple):
 
 
 def blocking(values: Union[Iterable[float], Array, pandas.Series]) -> Blocking:
-    """The mean of the windows of one run in its steady state, and the standard error of this mean for correlated windows, by the
-    blocking method of Flyvbjerg and Petersen (J. Chem. Phys. 91, 461, 1989):
+    """The mean of the windows of one run in its steady state, and the standard error of this mean for correlated
+    windows, by the blocking method of Flyvbjerg and Petersen (J. Chem. Phys. 91, 461, 1989):
 
         trlab.blocking(job.series(every=10, first=1000).to_pandas().flow)
 
-    Neighbours are averaged in pairs, again and again, until the error of the mean no longer grows. The block is the smallest one
-    whose length B fulfils B**3 > 2 n (sem_B / sem_1)**4, with n values in the series (Lee and others, Phys. Rev. E 83, 066706,
-    2011). This needs 90 to 260 times as many values as the inefficiency, since lengths of blocks are powers of 2. Values that do
-    not fill a block are left out of the error, never out of the mean. The error of a series of equal values is 0.
+    Neighbours are averaged in pairs, again and again, until the error of the mean no longer grows. The block is the
+    smallest one whose length B fulfils B**3 > 2 n (sem_B / sem_1)**4, with n values in the series (Lee and others,
+    Phys. Rev. E 83, 066706, 2011). This needs 90 to 260 times as many values as the inefficiency, since lengths of
+    blocks are powers of 2. Values that do not fill a block are left out of the error, never out of the mean. The error
+    of a series of equal values is 0.
 
-    `values` is a column of a frame or any list of at least 32 numbers. If its index has the parameters of a study, they must be
-    those of one run. Raises `EstimateError` if it is not such a series, or if fewer than 16 blocks would be left, because the
-    series is then too short for its correlations, or drifts (see `Table.drift`)."""
+    `values` is a column of a frame or any list of at least 32 numbers. If its index has the parameters of a study, they
+    must be those of one run. Raises `EstimateError` if it is not such a series, or if fewer than 16 blocks would be
+    left, because the series is then too short for its correlations, or drifts (see `Table.drift`)."""
     series = _series(values)
     n, block, level = len(series), 1, series
     mean, naive = _mean_and_sem(series)
@@ -51,7 +52,9 @@ def blocking(values: Union[Iterable[float], Array, pandas.Series]) -> Blocking:
             return Blocking(mean, sem, sem / math.sqrt(2 * (len(level) - 1)), block, (sem / naive) ** 2)
         level = level[:len(level) // 2 * 2].reshape(-1, 2).mean(axis=1)
         block *= 2
-    raise EstimateError(f"the series of {n} values is too short for its correlations, or drifts: run longer, or repeat the run")
+    raise EstimateError(
+        f"the series of {n} values is too short for its correlations, or drifts: run longer, or repeat the run"
+    )
 
 
 def _mean_and_sem(values: Array) -> tuple[float, float]:
@@ -77,11 +80,13 @@ def _need_one_run(values: pandas.Series) -> None:
     various = [name for name in various_levels(values) if name not in (step, 0)]
     if various:
         raise EstimateError(
-            f"blocking is for the windows of one run, and these have several values of {various}: select one run, for example "
-            f"with `frame.groupby({various}).flow.apply(trlab.blocking)`"
+            f"blocking is for the windows of one run, and these have several values of {various}: select one run, for "
+            f"example with `frame.groupby({various}).flow.apply(trlab.blocking)`"
         )
     steps = values.index.get_level_values(step if step is not None else 0)
     if pandas.api.types.is_numeric_dtype(steps) and len(steps) > 1:
         every = numpy.diff(steps.to_numpy(dtype=float))
         if not (every[0] > 0 and numpy.allclose(every, every[0])):
-            raise EstimateError("blocking needs all windows of a run in order: the steps of this series have gaps, or go back")
+            raise EstimateError(
+                "blocking needs all windows of a run in order: the steps of this series have gaps, or go back"
+            )

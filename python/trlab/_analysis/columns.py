@@ -6,7 +6,7 @@ from decimal import Decimal
 from numbers import Real
 from typing import Any
 
-from .libraries import numpy, pandas
+from .required import numpy, pandas
 
 Array = numpy.ndarray[Any, Any]
 
@@ -14,9 +14,9 @@ RUN = ["key", "road"]
 """The columns that identify a run: the key of its input, and the number of its road in the input (0 in a job)."""
 
 IDENTITY = [*RUN, "ensemble"]
-"""`ensemble` is the same for repetitions: inputs that differ only in their key and in the seed of their random start. If the
-road was given cell by cell, a hyphen and a digest of its cells follow. These columns survive a filter, a merge or a file;
-means have none of them."""
+"""`ensemble` is the same for repetitions: inputs that differ only in their key and in the seed of their random start.
+If the road was given cell by cell, a hyphen and a digest of its cells follow. These columns survive a filter, a merge
+or a file; means have none of them."""
 
 COUNTS = ["cars", "cells", "steps", "distance", "stopped", "changes"]
 """The exact counts of a run or window, from which its other values follow."""
@@ -26,8 +26,10 @@ LANE_SUMS = [f"{name}{lane}" for lane in (0, 1) for name in ("cars", "distance",
 
 DERIVED = ["density", "flow", "speed", "stopped_share", "change_rate"]
 
-RANGES = {"density": 1, "requested_density": 1, "flow": 1, "speed": 35, "stopped_share": 1, "change_rate": 1, "occupancy": 1,
-          "time_mean_speed": 35, "harmonic_mean_speed": 35}
+RANGES = {
+    "density": 1, "requested_density": 1, "flow": 1, "speed": 35, "stopped_share": 1, "change_rate": 1, "occupancy": 1,
+    "time_mean_speed": 35, "harmonic_mean_speed": 35,
+}
 """The largest value that a column of this name can have in the units of trlab. The smallest is 0."""
 
 PER_CAR = ["speed", "stopped_share", "change_rate"]
@@ -48,27 +50,31 @@ def derived(counts: pandas.DataFrame) -> pandas.DataFrame:
 
 
 def as_numbers(column: pandas.Series) -> Array:
-    """A column as floats, with NaN for missing values. Raises `ValueError` if a value is not a real number or a flag."""
+    """A column as floats, with NaN for missing values. Raises `ValueError` if a value is not a real number or a
+    flag."""
     types = pandas.api.types
     if types.is_object_dtype(column):
-        is_right = all(value is None or isinstance(value, (Real, Decimal, numpy.bool_)) for value in column)
+        is_numeric = all(value is None or isinstance(value, (Real, Decimal, numpy.bool_)) for value in column)
     else:
-        is_right = types.is_bool_dtype(column) or types.is_numeric_dtype(column) and not types.is_complex_dtype(column)
-    if not is_right:
+        is_real = types.is_numeric_dtype(column) and not types.is_complex_dtype(column)
+        is_numeric = is_real or types.is_bool_dtype(column)
+    if not is_numeric:
         raise ValueError(f"{column.name} has values that are not numbers")
-    is_extended = types.is_extension_array_dtype(column)
-    found: Array = column.to_numpy(dtype=float, na_value=numpy.nan) if is_extended else column.to_numpy(dtype=float)
-    return found
+    # Only the types of pandas itself have a missing value besides NaN.
+    options = {"na_value": numpy.nan} if types.is_extension_array_dtype(column) else {}
+    numbers: Array = column.to_numpy(dtype=float, **options)
+    return numbers
 
 
 def wrong_unit(name: Hashable, values: Array) -> str:
     """Why numbers cannot be in the unit of trlab that their column has; nothing if they can."""
-    most = RANGES.get(str(name))
-    wrong = values[(values < 0) | (values > most)] if most is not None else values[:0]
-    if not len(wrong):
+    maximum = RANGES.get(str(name))
+    impossible = values[(values < 0) | (values > maximum)] if maximum is not None else values[:0]
+    if not len(impossible):
         return ""
-    cure = ": `flow` of a file is in millionths, so read it with `trlab.Table.read`" if name == "flow" else ""
-    return f"`{name}` is between 0 and {most} in the units of trlab (see `trlab.UNITS`), not {wrong[0]:g}{cure}"
+    advice = ": `flow` of a file is in millionths, so read it with `trlab.Table.read`" if name == "flow" else ""
+    example = f"{impossible[0]:g}"
+    return f"`{name}` is between 0 and {maximum} in the units of trlab (see `trlab.UNITS`), not {example}{advice}"
 
 
 def strange_value(frame: pandas.DataFrame) -> str:

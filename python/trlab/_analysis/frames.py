@@ -8,7 +8,7 @@ from collections.abc import Iterable, Mapping, Sequence
 from typing import Any, Optional, Union
 
 from .columns import COUNTS, DERIVED, IDENTITY, RANGES, as_numbers, derived, strange_value, place_shown, wrong_unit
-from .libraries import numpy, pandas
+from .required import numpy, pandas
 from .rows import OF_THE_ROAD, NoRows, Rows, rows_of
 from .._errors import FrameError
 from .._results.tables import Point, Table, Window
@@ -31,34 +31,39 @@ def tidy(
 ) -> pandas.DataFrame:
     """One frame of the results of these inputs, by the values of the parameters `names`, in the order of `runs`.
 
-    A result that is an exception, and with `keep` one that is missing or has no rows, is a row of NaN with its text in the column
-    `error`. Each result is checked when it arrives, so that a wrong `call` is noticed at once."""
-    found: dict[Place, Rows] = {}
+    A result that is an exception, and with `keep` one that is missing or has no rows, is a row of NaN with its text in
+    the column `error`. Each result is checked when it arrives, so that a wrong `call` is noticed at once."""
+    rows_by_choice: dict[Place, Rows] = {}
     errors: dict[Place, str] = {}
     for place, result in results.items() if isinstance(results, Mapping) else results:
         if isinstance(result, Exception):
             errors[place] = f"{type(result).__name__}: {result}"
             continue
         try:
-            found[place] = rows_of(result, names, runs[place])
+            rows_by_choice[place] = rows_of(result, names, runs[place])
         except FrameError as fault:
             if not (keep and isinstance(fault, NoRows)):
                 raise FrameError(f"{place_shown(names, place) or 'the only input'}: {fault}") from None
             errors[place] = f"FrameError: {fault}"
-    missing = [place for place in runs if place not in found and place not in errors]
+    missing = [place for place in runs if place not in rows_by_choice and place not in errors]
     if missing and not keep:
-        raise FrameError(f"{len(missing)} of {len(runs)} choices have no result, first {place_shown(names, missing[0])}")
+        raise FrameError(
+            f"{len(missing)} of {len(runs)} choices have no result, first {place_shown(names, missing[0])}"
+        )
     errors.update((place, "no result yet") for place in missing)
-    return _arranged(_measured(found, errors, list(runs)), _choices(names, runs), found, runs, names)
+    measured = _measured(rows_by_choice, errors, list(runs))
+    return _arranged(measured, _choices(names, runs), rows_by_choice, runs, names)
 
 
-def _measured(found: Mapping[Place, Rows], errors: Mapping[Place, str], order: Sequence[Place]) -> pandas.DataFrame:
+def _measured(
+    rows_by_choice: Mapping[Place, Rows], errors: Mapping[Place, str], order: Sequence[Place]
+) -> pandas.DataFrame:
     """The measured columns of all rows. The index is the number of the choice."""
     parts: dict[Any, list[tuple[int, Any]]] = {}
     for number, place in enumerate(order):
-        if place in found:
-            parts.setdefault(found[place].kind, []).append((number, found[place].content))
-    frames = [_joined(kind, its) for kind, its in parts.items()]
+        if place in rows_by_choice:
+            parts.setdefault(rows_by_choice[place].kind, []).append((number, rows_by_choice[place].content))
+    frames = [_joined(kind, contents) for kind, contents in parts.items()]
     if errors:
         numbers = [number for number, place in enumerate(order) if place in errors]
         frames.append(pandas.DataFrame({"error": [errors[order[number]] for number in numbers]}, index=numbers))
@@ -100,7 +105,8 @@ def _with_derived(counts: pandas.DataFrame) -> pandas.DataFrame:
 
 def _choices(names: Sequence[str], runs: Mapping[Place, KnownRoads]) -> pandas.DataFrame:
     """The parameters and the key of each choice. A density is that of the road."""
-    choices = pandas.DataFrame({name: [place[at] for place in runs] for at, name in enumerate(names)}, index=range(len(runs)))
+    values = {name: [place[position] for place in runs] for position, name in enumerate(names)}
+    choices = pandas.DataFrame(values, index=range(len(runs)))
     if "density" in names:
         choices["requested_density"] = [float(as_fraction(value)) for value in choices["density"]]
         choices["density"] = [roads["cars"][0] / roads["cells"] for roads in runs.values()]
@@ -109,17 +115,19 @@ def _choices(names: Sequence[str], runs: Mapping[Place, KnownRoads]) -> pandas.D
 
 
 def _arranged(
-    measured: pandas.DataFrame, choices: pandas.DataFrame, found: Mapping[Place, Rows], runs: Mapping[Place, KnownRoads],
-    names: Sequence[str],
+    measured: pandas.DataFrame, choices: pandas.DataFrame, rows_by_choice: Mapping[Place, Rows],
+    runs: Mapping[Place, KnownRoads], names: Sequence[str],
 ) -> pandas.DataFrame:
     """The frame with its index, and its columns in their order."""
-    whose = choices.loc[measured.index].reset_index(drop=True)
-    roads = [(number, ensemble) for place, known in runs.items() for number, ensemble in _roads(found.get(place), known)]
-    whose["road"], whose["ensemble"] = [number for number, _ in roads], [ensemble for _, ensemble in roads]
+    choice_of_row = choices.loc[measured.index].reset_index(drop=True)
+    roads = [road for place, known in runs.items() for road in _roads(rows_by_choice.get(place), known)]
+    choice_of_row["road"] = [number for number, _ in roads]
+    choice_of_row["ensemble"] = [ensemble for _, ensemble in roads]
     # Only columns of the road can be in both, and are equal.
-    own = measured.reset_index(drop=True).drop(columns=[name for name in OF_THE_ROAD if name in whose], errors="ignore")
-    frame = pandas.concat([own, whose], axis=1)
-    inner = list(dict.fromkeys(name for rows in found.values() for name in rows.levels))
+    repeated = [name for name in OF_THE_ROAD if name in choice_of_row]
+    own = measured.reset_index(drop=True).drop(columns=repeated, errors="ignore")
+    frame = pandas.concat([own, choice_of_row], axis=1)
+    inner = list(dict.fromkeys(name for rows in rows_by_choice.values() for name in rows.levels))
     if (frame["road"] > 0).any() and "density" not in names:
         inner.append("density")
     if "requested_density" in frame and numpy.array_equal(frame["requested_density"], frame["density"]):

@@ -6,7 +6,7 @@ from collections.abc import Iterable
 from typing import NamedTuple, Union
 
 from .columns import Array
-from .libraries import numpy, pandas
+from .required import numpy, pandas
 from .series import as_column, finite_numbers, various_levels
 from .._errors import EstimateError
 
@@ -24,37 +24,39 @@ class Lifetime(NamedTuple):
 
 
 def lifetime(times: Values, observed: Values) -> Lifetime:
-    """The mean life of an exponential law, even if runs end before some lives do. `times` (steps, above 0) and `observed`
-    (whether the end was seen) are those of `Job.time_until` in independent runs of the same input:
+    """The mean life of an exponential law, even if runs end before some lives do. `times` (steps, above 0) and
+    `observed` (whether the end was seen) are those of `Job.time_until` in independent runs of the same input:
 
         lives = grid.run(call=lambda job: job.time_until(lambda window: window.stopped > 0, every=10))
         for density, runs in lives.groupby("density"):
             print(density, trlab.lifetime(runs.time, runs.observed))
 
-    The mean is the sum of all times, divided by the number of ends d, and its standard error is mean / sqrt(d), which is rough
-    for d below 10 (Epstein and Sobel, J. Am. Stat. Assoc. 48, 486, 1953). The law is exponential if `survival` is straight on a
-    logarithmic axis. Times of windows of `every` steps are half a window too long on average.
+    The mean is the sum of all times, divided by the number of ends d, and its standard error is mean / sqrt(d), which
+    is rough for d below 10 (Epstein and Sobel, J. Am. Stat. Assoc. 48, 486, 1953). The law is exponential if `survival`
+    is straight on a logarithmic axis. Times of windows of `every` steps are half a window too long on average.
 
-    Raises `EstimateError` if no life ended, because there is only a lower bound then, if times and ends are not as described, and
-    if an index shows that runs of several inputs are mixed."""
+    Raises `EstimateError` if no life ended, because there is only a lower bound then, if times and ends are not as
+    described, and if an index shows that runs of several inputs are mixed."""
     time, is_observed = _lives(times, observed)
     ends = int(is_observed.sum())
     if not ends:
-        raise EstimateError(f"no life ended in {time.sum():.0f} steps in total, so there is only a lower bound: run longer")
+        raise EstimateError(
+            f"no life ended in {time.sum():.0f} steps in total, so there is only a lower bound: run longer"
+        )
     mean = float(time.sum() / ends)
     return Lifetime(mean, mean / math.sqrt(ends), ends, len(time) - ends)
 
 
 def survival(times: Values, observed: Values) -> pandas.DataFrame:
-    """The share of lives that are longer than `time`, even if runs end before some lives do, by the method of Kaplan and Meier
-    (J. Am. Stat. Assoc. 53, 457, 1958). The arguments are those of `lifetime`:
+    """The share of lives that are longer than `time`, even if runs end before some lives do, by the method of Kaplan
+    and Meier (J. Am. Stat. Assoc. 53, 457, 1958). The arguments are those of `lifetime`:
 
         curve = trlab.survival(runs.time, runs.observed).survival
         curve.plot(drawstyle="steps-post", logy=True)
 
-    The index is `time`, from 0 on, in the unit of the times (steps); the columns are `at_risk`, the number of lives that are at
-    least that long, the share `survival`, and its standard error `survival_sem` by the formula of Greenwood (1926). This is 0
-    before the first end and NaN when no life is left: the error is unknown there, and not 0.
+    The index is `time`, from 0 on, in the unit of the times (steps); the columns are `at_risk`, the number of lives
+    that are at least that long, the share `survival`, and its standard error `survival_sem` by the formula of Greenwood
+    (1926). This is 0 before the first end and NaN when no life is left: the error is unknown there, and not 0.
 
     Raises `EstimateError` as `lifetime` does, but not if no life ended."""
     time, is_observed = _lives(times, observed)
@@ -72,8 +74,11 @@ def _lives(times: Values, observed: Values) -> tuple[Array, Array]:
     """The times, and which of them have an end that was seen."""
     time, end = as_column(times, "`times`"), as_column(observed, "`observed`")
     if len(time) != len(end) or not len(time):
-        raise EstimateError(f"`times` and `observed` must have equally many values, at least one, not {len(time)} and {len(end)}")
-    if isinstance(times, pandas.Series) and isinstance(observed, pandas.Series) and not time.index.equals(end.index):
+        raise EstimateError(
+            f"`times` and `observed` must have equally many values, at least one, not {len(time)} and {len(end)}"
+        )
+    are_columns = isinstance(times, pandas.Series) and isinstance(observed, pandas.Series)
+    if are_columns and not time.index.equals(end.index):
         raise EstimateError("`times` and `observed` must be of the same runs in the same order: their indexes differ")
     _need_one_input(time)
     values, ends = finite_numbers(time, "`times`"), finite_numbers(end, "`observed`")
@@ -88,7 +93,11 @@ def _need_one_input(time: pandas.Series) -> None:
     """Raises `EstimateError` if the index of the times shows that they are not repetitions of one input."""
     various = various_levels(time)
     if len(various) > 1:
-        raise EstimateError(f"these lives have several values of {various}: select one input, for example with "
-                            f"`frame.groupby({various[0]!r})`")
+        raise EstimateError(
+            f"these lives have several values of {various}: select one input, for example with "
+            f"`frame.groupby({various[0]!r})`"
+        )
     if time.index.has_duplicates and time.index.names != [None]:
-        raise EstimateError("two of these lives are of the same run: is a parameter missing in the index, or a run repeated?")
+        raise EstimateError(
+            "two of these lives are of the same run: is a parameter missing in the index, or a run repeated?"
+        )

@@ -5,14 +5,14 @@ from collections.abc import Sequence
 from typing import Union
 
 from .columns import COUNTS, DERIVED, IDENTITY, LANE_SUMS, Array, derived, strange_value
-from .libraries import numpy, pandas
+from .required import numpy, pandas
 from .repetitions import Repetitions, grouped, need_runs, numbers, repetitions
 from .._errors import FrameError
 
 
 def mean_and_sem(values: Array, group: Array) -> tuple[Array, Array]:
-    """The mean of each group 0, 1, .. and its standard error: the standard deviation of the n values (with n - 1) divided by
-    the square root of n, which is NaN for a single value."""
+    """The mean of each group 0, 1, .. and its standard error: the standard deviation of the n values (with n - 1)
+    divided by the square root of n, which is NaN for a single value."""
     # Differences from a value of the group, so that equal values have exactly their mean, and an error of 0.
     first = numpy.zeros(group.max() + 1)
     first[group[::-1]] = values[::-1]
@@ -32,36 +32,36 @@ def means(
 ) -> pandas.DataFrame:
     """The means over independent repetitions, for example `means(frame, over="seed")`.
 
-    `frame` is a frame of `Grid.run` with one row for each run: the levels of its index are the parameters, and `over` names those
-    that repeat the runs. The result has a row for each choice of the other parameters, with these columns for each column `X` of
-    numbers, or each name in `of`:
+    `frame` is a frame of `Grid.run` with one row for each run: the levels of its index are the parameters, and `over`
+    names those that repeat the runs. The result has a row for each choice of the other parameters, with these columns
+    for each column `X` of numbers, or each name in `of`:
 
     - `n`: the number of runs;
     - `X`: their arithmetic mean, in the unit of `X` (see `UNITS`);
-    - `X_sem`: the standard error of this mean, which is the standard deviation of the runs (with n - 1) divided by the square
-      root of n, and NaN if n is 1. The mean of an unlimited number of runs is within one standard error with a probability
-      of 0.68 if n is large, 0.63 for n = 5 and 0.50 for n = 2 (Student's distribution).
+    - `X_sem`: the standard error of this mean, which is the standard deviation of the runs (with n - 1) divided by the
+      square root of n, and NaN if n is 1. The mean of an unlimited number of runs is within one standard error with a
+      probability of 0.68 if n is large, 0.63 for n = 5 and 0.50 for n = 2 (Student's distribution).
 
-    `density` and `requested_density` stay, since all runs of a mean have the same. Counts such as `distance` are averaged only on
-    request. Without cars a speed is NaN, and so is its mean.
+    `density` and `requested_density` stay, since all runs of a mean have the same. Counts such as `distance` are
+    averaged only on request. Without cars a speed is NaN, and so is its mean.
 
-    Raises `FrameError` if the result would not be such a mean: for a frame of means, for several windows of one run (see
-    `per_run` and `blocking`), for runs with the same key or of different inputs, for missing values, for times that are censored
-    (see `lifetime`), for groups of different size unless `unequal`, and for different roads that you gave cell by cell, unless
-    you confirm with `drawn` that you drew them at random."""
-    found = repetitions(frame, over, unequal, drawn)
+    Raises `FrameError` if the result would not be such a mean: for a frame of means, for several windows of one run
+    (see `per_run` and `blocking`), for runs with the same key or of different inputs, for missing values, for times
+    that are censored (see `lifetime`), for groups of different size unless `unequal`, and for different roads that you
+    gave cell by cell, unless you confirm with `drawn` that you drew them at random."""
+    groups = repetitions(frame, over, unequal, drawn)
     chosen = _measured(frame) if of is None else [of] if isinstance(of, str) else list(of)
     _check_columns(frame, chosen)
     _need_ends(frame, chosen)
     columns: dict[str, Array] = {}
     if "density" in frame and "density" not in chosen:
-        columns["density"] = found.first["density"].to_numpy()
+        columns["density"] = groups.first["density"].to_numpy()
     if "requested_density" in frame and "requested_density" not in chosen:
-        columns["requested_density"] = found.first["requested_density"].to_numpy()
-    columns["n"] = numpy.bincount(found.group)
+        columns["requested_density"] = groups.first["requested_density"].to_numpy()
+    columns["n"] = numpy.bincount(groups.group_of_row)
     for name in chosen:
-        columns[name], columns[f"{name}_sem"] = mean_and_sem(numbers(found, name), found.group)
-    return found.by_group(columns)
+        columns[name], columns[f"{name}_sem"] = mean_and_sem(numbers(groups, name), groups.group_of_row)
+    return groups.by_group(columns)
 
 
 _NOT_AVERAGED = {*IDENTITY, *COUNTS, *LANE_SUMS, "windows", "requested_density", "error"}
@@ -70,7 +70,11 @@ _NOT_AVERAGED = {*IDENTITY, *COUNTS, *LANE_SUMS, "windows", "requested_density",
 def _measured(frame: pandas.DataFrame) -> list[str]:
     """The columns to average: all but the identity of a run, its counts, and texts."""
     skipped = {*_NOT_AVERAGED, *(["density"] if "cars" in (*frame, *frame.index.names) else [])}
-    return [name for name in frame if name not in skipped and not frame[name].map(lambda value: isinstance(value, str)).all()]
+
+    def is_of_texts(name: str) -> bool:
+        return bool(frame[name].map(lambda value: isinstance(value, str)).all())
+
+    return [name for name in frame if name not in skipped and not is_of_texts(name)]
 
 
 def _check_columns(frame: pandas.DataFrame, chosen: Sequence[str]) -> None:
@@ -82,56 +86,67 @@ def _check_columns(frame: pandas.DataFrame, chosen: Sequence[str]) -> None:
     made = ["n", *(f"{name}_sem" for name in chosen)]
     clash = [name for name in made if name in (*frame, *frame.index.names)]
     if clash:
-        raise FrameError(f"the column `{clash[0]}` would be overwritten by a column of the means: give it another name")
+        raise FrameError(
+            f"the column `{clash[0]}` would be overwritten by a column of the means: give it another name"
+        )
 
 
 def _need_ends(frame: pandas.DataFrame, chosen: Sequence[str]) -> None:
     if "time" in chosen and "observed" in frame and not frame["observed"].eq(True).all():
-        raise FrameError("some times are censored, so that their mean is too short: use `trlab.lifetime(times, observed)`")
+        raise FrameError(
+            "some times are censored, so that their mean is too short: use `trlab.lifetime(times, observed)`"
+        )
 
 
 def per_run(frame: pandas.DataFrame) -> pandas.DataFrame:
-    """One row for each run, from its windows: exact counts are added up over the level `step`, and density, flow, speed and
-    shares follow from the sums, in the units of `UNITS`. `windows` is the number of windows, `steps` the number of their steps.
+    """One row for each run, from its windows: exact counts are added up over the level `step`, and density, flow, speed
+    and shares follow from the sums, in the units of `UNITS`. `windows` is the number of windows, `steps` the number of
+    their steps.
 
         trlab.means(trlab.per_run(frame), over="seed")
 
-    Raises `FrameError` if the windows of a run do not follow each other, because then one is missing, and for columns that are
-    not counts, because these cannot be added up: measure them in one window per run."""
+    Raises `FrameError` if the windows of a run do not follow each other, because then one is missing, and for columns
+    that are not counts, because these cannot be added up: measure them in one window per run."""
     rows = need_runs(frame)
     names = [name for name in frame.index.names if name != "step"]
     if len(names) == len(frame.index.names):
         raise FrameError("this frame has no level `step`: each row is a run already")
-    own = set(frame) - {*COUNTS, *LANE_SUMS, *DERIVED, *IDENTITY, "requested_density", "error"}
-    if own or not set(COUNTS) <= set(rows):
-        strange = sorted(own or set(frame))
-        raise FrameError(f"per_run adds up the counts of `Job.series`, and cannot add up {strange}: measure one window per run")
+    strange_columns = set(frame) - {*COUNTS, *LANE_SUMS, *DERIVED, *IDENTITY, "requested_density", "error"}
+    if strange_columns or not set(COUNTS) <= set(rows):
+        strange = sorted(strange_columns or set(frame))
+        raise FrameError(
+            f"per_run adds up the counts of `Job.series`, and cannot add up {strange}: measure one window per run"
+        )
     sums = [name for name in (*COUNTS[2:], *LANE_SUMS) if name in rows]
-    found = grouped(rows, [*names, *IDENTITY])
+    windows = grouped(rows, [*names, *IDENTITY])
     for name in ("step", "cars", "cells", *sums):
-        numbers(found, name)
+        numbers(windows, name)
     if name := strange_value(rows):
         raise FrameError(f"`{name}` is not what the counts of its window say: take the frame that `Grid.run` returned")
-    _need_consecutive(found)
-    groups = rows.groupby(found.group)
+    _need_consecutive(windows)
+    groups = rows.groupby(windows.group_of_row)
     counts = pandas.concat([groups[["cars", "cells"]].first(), groups[sums].sum()], axis=1)
-    whole = pandas.concat([derived(counts), counts, groups.size().rename("windows")], axis=1)
-    whose = found.first.reset_index(drop=True)
-    requested = [name for name in ("requested_density",) if name in whose]
-    runs = pandas.concat([whose[[*names, *requested]], whole.drop(columns=names, errors="ignore"), whose[IDENTITY]], axis=1)
+    values = pandas.concat([derived(counts), counts, groups.size().rename("windows")], axis=1)
+    first_rows = windows.first.reset_index(drop=True)
+    requested = [name for name in ("requested_density",) if name in first_rows]
+    parameters = first_rows[[*names, *requested]]
+    runs = pandas.concat([parameters, values.drop(columns=names, errors="ignore"), first_rows[IDENTITY]], axis=1)
     return runs.set_index(names) if names else runs
 
 
-def _need_consecutive(found: Repetitions) -> None:
-    """Raises `FrameError` unless the windows of each run are of one road, and each begins where the one before it ends."""
-    rows = found.rows.assign(group=found.group, begin=found.rows["step"] - found.rows["steps"])
+def _need_consecutive(windows: Repetitions) -> None:
+    """Raises `FrameError` unless the windows of each run are of one road, and each begins where the one before it
+    ends."""
+    rows = windows.rows.assign(group=windows.group_of_row, begin=windows.rows["step"] - windows.rows["steps"])
     rows = rows.sort_values(["group", "step"], kind="stable")
     before = rows.shift()
     is_next = (rows["begin"] == before["step"]) & (rows["cars"] == before["cars"]) & (rows["cells"] == before["cells"])
-    wrong = rows[(rows["group"] == before["group"]) & ~is_next]
-    if len(wrong):
-        place, step = found.place(wrong["group"].iloc[0]), wrong["step"].iloc[0]
+    gaps = rows[(rows["group"] == before["group"]) & ~is_next]
+    if len(gaps):
+        place, step = windows.place(gaps["group"].iloc[0]), gaps["step"].iloc[0]
         raise FrameError(f"the windows of {place} do not follow each other at step {step}: is one missing or repeated?")
     spans = rows.groupby(["ensemble", "group"])[["begin", "step"]].agg({"begin": "min", "step": "max"})
     if (spans.groupby(level="ensemble").nunique() > 1).any(axis=None):
-        raise FrameError("runs of one input have windows of different steps, so that they cannot be compared: keep all windows")
+        raise FrameError(
+            "runs of one input have windows of different steps, so that they cannot be compared: keep all windows"
+        )

@@ -5,22 +5,22 @@ from collections.abc import Sequence
 from typing import NamedTuple, Union
 
 from .columns import IDENTITY, PER_CAR, RUN, Array, as_numbers, place_shown, wrong_unit
-from .libraries import numpy, pandas
+from .required import numpy, pandas
 from .._errors import FrameError
 
 
 class Repetitions(NamedTuple):
-    """The rows with their parameters as columns, the names of the columns that distinguish the groups, and the group of each row:
-    0, 1 and so on in the order in which they appear."""
+    """The rows with their parameters as columns, the names of the columns that distinguish the groups, and the group of
+    each row: 0, 1 and so on in the order in which they appear."""
 
     rows: pandas.DataFrame
     names: list[str]
-    group: Array
+    group_of_row: Array
 
     @property
     def first(self) -> pandas.DataFrame:
         """The first row of each group."""
-        return self.rows[~pandas.Series(self.group).duplicated().to_numpy()]
+        return self.rows[~pandas.Series(self.group_of_row).duplicated().to_numpy()]
 
     def place(self, group: int) -> str:
         """A group in a message."""
@@ -29,27 +29,31 @@ class Repetitions(NamedTuple):
 
     def by_group(self, columns: dict[str, Array]) -> pandas.DataFrame:
         """A frame with one row for each group, whose index is the names."""
-        found = pandas.DataFrame(columns)
+        frame = pandas.DataFrame(columns)
         if not self.names:
-            return found
+            return frame
         places = self.first[self.names].reset_index(drop=True)
-        return pandas.concat([places, found], axis=1).set_index(self.names)
+        return pandas.concat([places, frame], axis=1).set_index(self.names)
 
 
 def first_of(rows: pandas.DataFrame) -> Sequence[object]:
-    """The values of the first row, each of the type of its column: `rows.iloc[0]` would make floats of whole numbers."""
+    """The values of the first row, each of the type of its column: `rows.iloc[0]` would make floats of whole
+    numbers."""
     return [rows[name].iloc[0] for name in rows]
 
 
 def need_runs(frame: pandas.DataFrame) -> pandas.DataFrame:
-    """The rows of a frame with their parameters as columns. Raises `FrameError` unless they are single runs or windows."""
+    """The rows of a frame with their parameters as columns. Raises `FrameError` unless they are single runs or
+    windows."""
     if not {*IDENTITY} <= set(frame):
         raise FrameError(
-            "this frame has no columns `key`, `road` and `ensemble`, so its rows are not single runs (are they means already?): "
-            "take the frame that `Grid.run` returned"
+            "this frame has no columns `key`, `road` and `ensemble`, so its rows are not single runs (are they means "
+            "already?): take the frame that `Grid.run` returned"
         )
     if frame.index.names == [None]:
-        raise FrameError("the parameters of a frame must be its index: call `frame.set_index([..])` with their names first")
+        raise FrameError(
+            "the parameters of a frame must be its index: call `frame.set_index([..])` with their names first"
+        )
     if not len(frame):
         raise FrameError("this frame has no rows")
     _need_results(frame)
@@ -70,10 +74,10 @@ def _need_results(frame: pandas.DataFrame) -> None:
     failed = frame[frame["error"].notna()] if "error" in frame else frame[:0]
     if len(failed):
         place = failed.index[0] if isinstance(failed.index[0], tuple) else (failed.index[0],)
-        more = f" and {len(failed) - 1} more" if len(failed) > 1 else ""
+        others = f" and {len(failed) - 1} more" if len(failed) > 1 else ""
         raise FrameError(
-            f"there is no result at {place_shown(frame.index.names, place)}{more}: {failed['error'].iloc[0]}. Run it again, or "
-            "leave such rows out with `frame[frame.error.isna()]`"
+            f"there is no result at {place_shown(frame.index.names, place)}{others}: {failed['error'].iloc[0]}. Run it "
+            "again, or leave such rows out with `frame[frame.error.isna()]`"
         )
 
 
@@ -101,78 +105,81 @@ def repetitions(
             raise FrameError("windows of one run are correlated: use `per_run(frame)`, or `blocking` for one run")
         if name not in (*frame.index.names, "road"):
             raise FrameError(f"{name!r} is not a parameter of this frame, which has {list(frame.index.names)}")
-    found = grouped(rows, [name for name in frame.index.names if name not in levels])
-    _need_independent(found, list(frame.index.names))
-    _need_same(found)
+    groups = grouped(rows, [name for name in frame.index.names if name not in levels])
+    _need_independent(groups, list(frame.index.names))
+    _need_same(groups)
     if not unequal:
-        _need_complete(found, levels)
-    return found
+        _need_complete(groups, levels)
+    return groups
 
 
-def _need_independent(found: Repetitions, levels: Sequence[str]) -> None:
-    rows = found.rows
+def _need_independent(groups: Repetitions, levels: Sequence[str]) -> None:
+    rows = groups.rows
     doubled = rows.duplicated([*levels, "road"])
     if doubled.any():
         place = place_shown(levels, first_of(rows.loc[doubled, levels]))
         raise FrameError(f"two rows are {place}: is a parameter missing in the index, or a run repeated?")
-    if rows[RUN].assign(group=found.group).duplicated().any():
+    if rows[RUN].assign(group=groups.group_of_row).duplicated().any():
         raise FrameError(
-            "some repetitions have the same key, so they are not independent: let `make` use the `key` that it gets, and "
-            "use `per_run(frame)` if these are windows of one run"
+            "some repetitions have the same key, so they are not independent: let `make` use the `key` that it gets, "
+            "and use `per_run(frame)` if these are windows of one run"
         )
 
 
-def _need_same(found: Repetitions) -> None:
+def _need_same(groups: Repetitions) -> None:
     """Raises `FrameError` if a group has runs of different inputs, roads or lengths."""
-    for name in [name for name in ("ensemble", "cars", "cells", "steps") if name in found.rows]:
-        count = found.rows[name].groupby(found.group).nunique(dropna=False)
+    for name in [name for name in ("ensemble", "cars", "cells", "steps") if name in groups.rows]:
+        count = groups.rows[name].groupby(groups.group_of_row).nunique(dropna=False)
         if (count > 1).any():
             group = int(count.idxmax())
-            values = list(dict.fromkeys(found.rows[name][found.group == group]))[:3]
+            values = list(dict.fromkeys(groups.rows[name][groups.group_of_row == group]))[:3]
             if name == "ensemble" and len({value.partition("-")[0] for value in values}) == 1:
                 raise FrameError(
-                    f"roads with different cells would be averaged at {found.place(group)}. If you have drawn them at random, "
-                    "say drawn=True; otherwise keep the parameter in which they differ as a level"
+                    f"roads with different cells would be averaged at {groups.place(group)}. If you have drawn them at "
+                    "random, say drawn=True; otherwise keep the parameter in which they differ as a level"
                 )
             raise FrameError(
-                f"runs with different `{name}` are not repetitions, and would be averaged at {found.place(group)}: {values}. "
-                "Keep the parameter in which they differ as a level, or select one value of it"
+                f"runs with different `{name}` are not repetitions, and would be averaged at {groups.place(group)}: "
+                f"{values}. Keep the parameter in which they differ as a level, or select one value of it"
             )
 
 
-def _need_complete(found: Repetitions, levels: Sequence[str]) -> None:
+def _need_complete(groups: Repetitions, levels: Sequence[str]) -> None:
     """Raises `FrameError` if groups have different sizes, with an example of a missing run."""
-    n = numpy.bincount(found.group)
+    n = numpy.bincount(groups.group_of_row)
     if n.min() == n.max():
         return
     most, least = int(n.argmax()), int(n.argmin())
-    whose = found.rows[[name for name in levels if name != "road"]]
-    there = set(whose[found.group == least].itertuples(index=False, name=None))
-    missing = [row for row in whose[found.group == most].itertuples(index=False, name=None) if row not in there]
-    example = f" (without {place_shown(whose, missing[0])})" if missing and missing[0] else ""
+    levels_of_rows = groups.rows[[name for name in levels if name != "road"]]
+    present = set(levels_of_rows[groups.group_of_row == least].itertuples(index=False, name=None))
+    missing = [
+        row
+        for row in levels_of_rows[groups.group_of_row == most].itertuples(index=False, name=None) if row not in present
+    ]
+    example = f" (without {place_shown(levels_of_rows, missing[0])})" if missing and missing[0] else ""
     raise FrameError(
-        f"groups have {n.min()} to {n.max()} runs; the fewest are at {found.place(least)}{example}. Run the missing ones, or "
-        "pass unequal=True if it does not matter why they are missing"
+        f"groups have {n.min()} to {n.max()} runs; the fewest are at {groups.place(least)}{example}. Run the missing "
+        "ones, or pass unequal=True if it does not matter why they are missing"
     )
 
 
-def numbers(found: Repetitions, name: str) -> Array:
-    """A column of the rows as floats. Raises `FrameError` for anything but finite numbers, except that a value per car is NaN
-    without cars."""
+def numbers(groups: Repetitions, name: str) -> Array:
+    """A column of the rows as floats. Raises `FrameError` for anything but finite numbers, except that a value per car
+    is NaN without cars."""
     try:
-        values = as_numbers(found.rows[name])
+        values = as_numbers(groups.rows[name])
     except ValueError as fault:
         raise FrameError(f"{fault}: name the columns to average with `of`") from None
     wrong = ~numpy.isfinite(values)
     if name in PER_CAR:
-        wrong &= ~(numpy.isnan(values) & _without_cars(found.rows))
+        wrong &= ~(numpy.isnan(values) & _without_cars(groups.rows))
     if unit := wrong_unit(name, values[numpy.isfinite(values)]):
         raise FrameError(unit)
     if wrong.any():
-        place = found.place(found.group[int(wrong.argmax())])
+        place = groups.place(groups.group_of_row[int(wrong.argmax())])
         raise FrameError(
-            f"`{name}` has {wrong.sum()} values that are missing or not finite, first at {place}: drop these rows, or choose "
-            "other columns with `of`"
+            f"`{name}` has {wrong.sum()} values that are missing or not finite, first at {place}: drop these rows, or "
+            "choose other columns with `of`"
         )
     return values
 
@@ -181,6 +188,6 @@ def _without_cars(rows: pandas.DataFrame) -> Array:
     """Whether there are no cars, by row."""
     for name in "cars", "density":
         if name in rows:
-            found: Array = (rows[name] == 0).to_numpy()
-            return found
+            is_empty: Array = (rows[name] == 0).to_numpy()
+            return is_empty
     return numpy.zeros(len(rows), dtype=bool)

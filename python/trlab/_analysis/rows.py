@@ -6,7 +6,7 @@ from numbers import Real
 from typing import Any, NamedTuple, Union
 
 from .columns import COUNTS, IDENTITY, Array
-from .libraries import numpy, pandas
+from .required import numpy, pandas
 from .._errors import FrameError
 from .._results.snapshots import Snapshot
 from .._results.tables import Point, Table, Window
@@ -26,8 +26,8 @@ class NoRows(FrameError):
 
 
 class Rows(NamedTuple):
-    """The rows of a result in the cheapest form: a table is an array, which becomes a frame together with others. `kind` is
-    `Point`, `Window`, `dict` or `pandas.DataFrame`; `levels` distinguish the rows of a road."""
+    """The rows of a result in the cheapest form: a table is an array, which becomes a frame together with others.
+    `kind` is `Point`, `Window`, `dict` or `pandas.DataFrame`; `levels` distinguish the rows of a road."""
 
     kind: type[Any]
     content: Union[Array, list[Record], pandas.DataFrame]
@@ -40,15 +40,15 @@ class Rows(NamedTuple):
 
 
 def rows_of(result: object, names: Sequence[str], roads: KnownRoads) -> Rows:
-    """The rows of a result of the input with these roads. Raises `FrameError` if it cannot be part of a frame of the parameters
-    `names`, or is not of this input."""
-    found = _read(result)
-    if not len(found.content):
+    """The rows of a result of the input with these roads. Raises `FrameError` if it cannot be part of a frame of the
+    parameters `names`, or is not of this input."""
+    rows = _read(result)
+    if not len(rows.content):
         raise NoRows("the result has no rows: `first` and `every` may be longer than the run")
-    _check_names(found, names)
-    _check_roads(found, roads)
-    _check_levels(found)
-    return found
+    _check_names(rows, names)
+    _check_roads(rows, roads)
+    _check_levels(rows)
+    return rows
 
 
 def _read(result: object) -> Rows:
@@ -84,10 +84,12 @@ def _record(item: object) -> Record:
     """A row by the names of its columns."""
     if isinstance(item, Snapshot):
         raise FrameError(f"snapshots are not rows of a frame: say what to measure in each job, for example {MEASURE}")
-    found = item._asdict() if hasattr(item, "_asdict") else item
-    if not isinstance(found, (Mapping, pandas.Series)):
-        raise FrameError(f"a result must be a table, a frame, a number, or rows with names, and {item!r} is not a row with names")
-    return {_name(name): _plain(value) for name, value in found.items()}
+    row = item._asdict() if hasattr(item, "_asdict") else item
+    if not isinstance(row, (Mapping, pandas.Series)):
+        raise FrameError(
+            f"a result must be a table, a frame, a number, or rows with names, and {item!r} is not a row with names"
+        )
+    return {_name(name): _plain(value) for name, value in row.items()}
 
 
 def _plain(value: object) -> object:
@@ -122,7 +124,9 @@ def _check_names(rows: Rows, names: Sequence[str]) -> None:
     columns = columns_of(rows)
     taken = [name for name in columns if name in RESERVED or name in names and name not in OF_THE_ROAD]
     if taken:
-        raise FrameError(f"the result has a column `{taken[0]}`, which is a parameter or reserved: give it another name")
+        raise FrameError(
+            f"the result has a column `{taken[0]}`, which is a parameter or reserved: give it another name"
+        )
     if "flow_millionths" in columns and not set(COUNTS) <= set(columns):
         raise FrameError("`flow_millionths` is the number of the file: return the row itself, or `row.flow` as `flow`")
 
@@ -132,17 +136,18 @@ def _check_roads(rows: Rows, roads: KnownRoads) -> None:
     count = len(roads["cars"])
     if rows.is_of_points and len(rows.content) != count:
         raise FrameError(f"the result has {len(rows.content)} of {count} points: return the whole table of the sweep")
-    cars = numpy.array(roads["cars"], dtype=float)
+    cars, cells = numpy.array(roads["cars"], dtype=float), numpy.full(count, float(roads["cells"]))
+    of_roads = {"cars": cars, "cells": cells, "density": cars / cells}
     for name in [name for name in OF_THE_ROAD if name in columns_of(rows)]:
-        known = {"cars": cars, "cells": numpy.full(count, float(roads["cells"])), "density": cars / roads["cells"]}[name]
-        found = _column(rows, name)
+        expected = of_roads[name]
+        measured = _column(rows, name)
         # A point is compared with its road, and another row with all roads. Densities may have been rounded.
-        differences = found - known if rows.is_of_points else found[:, None] - known
-        is_known = abs(differences) <= 1e-9 * max(1.0, known.max())
-        if not (is_known if rows.is_of_points else is_known.any(axis=1)).all():
+        differences = measured - expected if rows.is_of_points else measured[:, None] - expected
+        is_expected = abs(differences) <= 1e-9 * max(1.0, expected.max())
+        if not (is_expected if rows.is_of_points else is_expected.any(axis=1)).all():
             raise FrameError(
-                f"the result has the `{name}` {found[:5]}, and a road of this input has {known[0]:g}: return results of this "
-                "input, and give measured values another name"
+                f"the result has the `{name}` {measured[:5]}, and a road of this input has {expected[0]:g}: return "
+                "results of this input, and give measured values another name"
             )
 
 
@@ -152,18 +157,21 @@ def _check_levels(rows: Rows) -> None:
         return
     if not rows.levels:
         raise FrameError(
-            f"the result has {len(rows.content)} rows that nothing distinguishes: return a frame with a named index, for example "
+            f"the result has {len(rows.content)} rows that nothing distinguishes: return a frame with a named index, "
+            "for example "
             '`frame.rename_axis("passing")`'
         )
-    if len(set(zip(*(_values(rows, name) for name in rows.levels)))) < len(rows.content):
-        raise FrameError(f"the result has several rows with the same {' and '.join(rows.levels)}: give it an index that differs")
+    places = zip(*(_values(rows, name) for name in rows.levels))
+    if len(set(places)) < len(rows.content):
+        levels = " and ".join(rows.levels)
+        raise FrameError(f"the result has several rows with the same {levels}: give it an index that differs")
 
 
 def _values(rows: Rows, name: str) -> list[Any]:
     if isinstance(rows.content, list):
         return [record.get(name) for record in rows.content]
-    found: list[Any] = rows.content[name].tolist()
-    return found
+    values: list[Any] = rows.content[name].tolist()
+    return values
 
 
 def _column(rows: Rows, name: str) -> Array:

@@ -4,12 +4,13 @@ from __future__ import annotations
 from collections.abc import Iterable, Sized
 
 from .columns import Array, as_numbers
-from .libraries import numpy, pandas
+from .required import numpy, pandas
 from .._errors import EstimateError
 
 
 def as_column(values: object, name: str) -> pandas.Series:
-    """A column, an array or a list as a column. Raises `EstimateError` for a frame, and for anything else than one list."""
+    """A column, an array or a list as a column. Raises `EstimateError` for a frame, and for anything else than one
+    list."""
     if isinstance(values, pandas.DataFrame):
         raise EstimateError(f"{name} must be one column, for example `frame.flow`, not a frame with {list(values)}")
     if isinstance(values, pandas.Series):

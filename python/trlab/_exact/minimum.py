@@ -5,90 +5,100 @@ from collections import deque
 from collections.abc import Iterator, Sequence
 from dataclasses import replace
 from itertools import accumulate
-from typing import Optional
+from typing import NamedTuple, Optional
 
 from .._errors import ParameterError
 from .._inputs.jobs import Job
-from .._inputs.numbers import MAX_ALL_STEPS, MAX_SPEED, shown, whole
+from .._inputs.numbers import MAX_ALL_STEPS, MAX_SPEED, checked_int, shown
 from .._inputs.roads import SPEEDS, Road, lanes_of
 from .rules import steps_to_accelerate
 
 
 def minimum_principle(road: Road, limit: int, steps: int) -> list[int]:
-    """How far the minimum principle lets each car go in `steps` steps, in cells: as far as the most restrictive of the cars ahead
-    allows. After t steps this is
+    """How far the minimum principle lets each car go in `steps` steps, in cells: as far as the most restrictive of the
+    cars ahead allows. After t steps this is
 
         min over j = 0 .. t of limit * (t - j) + R(j)
 
-    where R(j) is the sum of j gaps of `road`: the gap of the car itself and those of the next j - 1 cars ahead, round the ring.
-    Cars are numbered by lane and cell, as in `trlab.follow`. The work does not grow with `steps`.
+    where R(j) is the sum of j gaps of `road`: the gap of the car itself and those of the next j - 1 cars ahead, round
+    the ring. Cars are numbered by lane and cell, as in `trlab.follow`. The work does not grow with `steps`.
 
-    **For rules without lane changes this is an upper bound.** It is exact under `gap_rule`, and under `Nasch(0)` with limit 1
-    (rule 184). With larger limits it is exact under `Nasch(0)` if `road` is the road after step `limit` or a later one:
-    `minimum_principle(snapshot.lanes, limit, steps)`.
+    **For rules without lane changes this is an upper bound.** It is exact under `gap_rule`, and under `Nasch(0)` with
+    limit 1 (rule 184). With larger limits it is exact under `Nasch(0)` if `road` is the road after step `limit` or a
+    later one: `minimum_principle(snapshot.lanes, limit, steps)`.
 
-    `road` is written as in a `Job`; its speeds do not matter. `limit` is 1 to 35 cells per step, and `steps` 0 to 10**15. Raises
-    `ParameterError` if this is not a road, or if a number is out of range.
+    `road` is written as in a `Job`; its speeds do not matter. `limit` is 1 to 35 cells per step, and `steps` 0 to
+    10**15. Raises `ParameterError` if this is not a road, or if a number is out of range.
 
-    Source: Newell (1993, Transp. Res. B 27, 281) and Daganzo (2006, Transp. Res. B 40, 396). Proved as `minimum_principle`,
-    clauses `gap`, `rule_184`, `later` and `bound`."""
-    fastest, time = whole("limit", limit, 1, MAX_SPEED), whole("steps", steps, 0, MAX_ALL_STEPS)
-    return [far for lane in lanes_of(road, fastest) for far in _distances_on(lane, fastest, time)]
+    Source: Newell (1993, Transp. Res. B 27, 281) and Daganzo (2006, Transp. Res. B 40, 396). Proved as
+    `minimum_principle`, clauses `gap`, `rule_184`, `later` and `bound`."""
+    fastest = checked_int("limit", limit, 1, MAX_SPEED)
+    time = checked_int("steps", steps, 0, MAX_ALL_STEPS)
+    return [distance for lane in lanes_of(road, fastest) for distance in _distances_on(lane, fastest, time)]
 
 
 def distances(job: Job, step: Optional[int] = None) -> list[int]:
-    """How far each car of a job goes in the first `step` steps, in cells, by the `minimum_principle` and not by a simulation. The
-    result is the same as `trajectories.distance[step] - trajectories.distance[0]`, with the same numbers of cars.
+    """How far each car of a job goes in the first `step` steps, in cells, by the `minimum_principle` and not by a
+    simulation. The result is the same as `trajectories.distance[step] - trajectories.distance[0]`, with the same
+    numbers of cars.
 
-    The job must have one rule throughout, `gap_rule` or `Nasch(0)` (or `SlowToStart(0, 0)` or `Rickert(0, 0)`, which are the same).
-    Under `Nasch(0)` with a limit above 1, the program runs the first `limit` steps, in which the cars accelerate, and the
-    minimum principle does the rest.
+    The job must have one rule throughout, `gap_rule` or `Nasch(0)` (or `SlowToStart(0, 0)` or `Rickert(0, 0)`, which
+    are the same). Under `Nasch(0)` with a limit above 1, the program runs the first `limit` steps, in which the cars
+    accelerate, and the minimum principle does the rest.
 
-    `step` is 0 to 10**15, by default the number of steps of the job, and may be later. Raises `ParameterError` for any other rule
-    or number, and the errors of `Job.run` if the program is needed. Source and law: see `minimum_principle`."""
+    `step` is 0 to 10**15, by default the number of steps of the job, and may be later. Raises `ParameterError` for any
+    other rule or number, and the errors of `Job.run` if the program is needed. Source and law: see
+    `minimum_principle`."""
     if not isinstance(job, Job):
         raise ParameterError(f"distances are those of a job, not of {shown(job)}: `minimum_principle` takes a road")
-    time = job.steps if step is None else whole("step", step, 0, MAX_ALL_STEPS)
+    time = job.steps if step is None else checked_int("step", step, 0, MAX_ALL_STEPS)
     if len({job.rule, *job.at.values()}) > 1:
         raise ParameterError("exact distances need one rule throughout, and this job changes it (`at`)")
     simulated = min(steps_to_accelerate(job.rule, job.limit), time)
     if simulated == 0:
         return minimum_principle(job.lane_texts(), job.limit, time)
-    shots = [shot.lanes for shot in replace(job, steps=simulated, at={}).run()]
-    found: list[int] = []
-    for number in range(len(shots[0])):
-        cells, gone = _driven([lanes[number] for lanes in shots])
+    roads = [snapshot.lanes for snapshot in replace(job, steps=simulated, at={}).run()]
+    cells_driven: list[int] = []
+    for number in range(len(roads[0])):
+        cars = _driven([lanes[number] for lanes in roads])
         # The minimum principle numbers the cars of a lane by their cells on the road at which it begins.
-        later = dict(zip(sorted(cells), _distances_on(shots[-1][number], job.limit, time - simulated)))
-        found += [far + later[cell] for cell, far in zip(cells, gone)]
-    return found
+        cells = sorted(car.cell for car in cars)
+        later = dict(zip(cells, _distances_on(roads[-1][number], job.limit, time - simulated)))
+        cells_driven += [car.distance + later[car.cell] for car in cars]
+    return cells_driven
 
 
 def positions(job: Job, step: Optional[int] = None) -> list[int]:
-    """The cell of each car of a job after `step` steps, 0 to `length` - 1: its first cell plus its distance (see `distances`), round
-    the ring. Cars keep their lanes and their numbers, which are by lane and cell at the start."""
-    gone = distances(job, step)
+    """The cell of each car of a job after `step` steps, 0 to `length` - 1: its first cell plus its distance (see
+    `distances`), round the ring. Cars keep their lanes and their numbers, which are by lane and cell at the start."""
     lanes = job.lane_texts()
-    first = [cell for lane in lanes for cell in _cells_of(lane)]
-    return [(cell + far) % len(lanes[0]) for cell, far in zip(first, gone)]
+    first_cells = [cell for lane in lanes for cell in _cells_of(lane)]
+    return [(cell + distance) % len(lanes[0]) for cell, distance in zip(first_cells, distances(job, step))]
 
 
 def _cells_of(lane: str) -> list[int]:
-    return [cell for cell, sign in enumerate(lane) if sign != "."]
+    return [cell for cell, character in enumerate(lane) if character != "."]
 
 
-def _driven(lanes: Sequence[str]) -> tuple[list[int], list[int]]:
-    """The last cells of the cars of one lane in successive snapshots, and the cells that they have driven since the first, in the
-    order of the first snapshot."""
-    length, cells = len(lanes[0]), _cells_of(lanes[0])
-    gone = [0] * len(cells)
+class _Car(NamedTuple):
+    """The cell of a car, and how many cells it has driven."""
+
+    cell: int
+    distance: int
+
+
+def _driven(lanes: Sequence[str]) -> list[_Car]:
+    """The cars of one lane after the last of successive snapshots, in the order of the first snapshot."""
+    length = len(lanes[0])
+    cars = [_Car(cell, distance=0) for cell in _cells_of(lanes[0])]
     for lane in lanes[1:]:
         # A car at speed v came from the cell v behind it.
-        speed_from = {(cell - SPEEDS.index(lane[cell])) % length: SPEEDS.index(lane[cell]) for cell in _cells_of(lane)}
-        speeds = [speed_from[cell] for cell in cells]
-        cells = [(cell + speed) % length for cell, speed in zip(cells, speeds)]
-        gone = [far + speed for far, speed in zip(gone, speeds)]
-    return cells, gone
+        speeds = {cell: SPEEDS.index(lane[cell]) for cell in _cells_of(lane)}
+        speed_from = {(cell - speed) % length: speed for cell, speed in speeds.items()}
+        cars = [
+            _Car((car.cell + speed_from[car.cell]) % length, car.distance + speed_from[car.cell]) for car in cars
+        ]
+    return cars
 
 
 def _distances_on(lane: str, limit: int, time: int) -> list[int]:

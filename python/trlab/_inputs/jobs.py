@@ -15,13 +15,13 @@ from .._results.snapshots import Snapshot, Snapshots, snapshots_in
 from .._results.tables import Table, Window
 from . import long_jobs, reading
 from .rules import Rule, Schedule, need_rule
-from .states import InitialState, even, tell_lanes
+from .states import InitialState, even, warn_of_uneven_lanes
 from .roads import Road, cars_on, lanes_of, speeds_of
 from .numbers import (
-    MAX_ALL_STEPS, MAX_CELLS, MAX_SPEED, MAX_STEPS, Density, Key, cars_at, checked_key, derived_key, key_digits, share, shown,
-    store, whole,
+    MAX_ALL_STEPS, MAX_CELLS, MAX_SPEED, MAX_STEPS, Density, Key, cars_at, checked_int, checked_key, derived_key,
+    key_digits, share, shown, store,
 )
-from .words import Asked, input_text
+from .arguments import RunOptions, input_text
 
 if TYPE_CHECKING:
     import pandas
@@ -31,20 +31,22 @@ if TYPE_CHECKING:
 class Job:
     """A road, a rule and a number of steps.
 
-    The road has `lanes` lanes of `length` cells (at most 100,000). `cars` cars in total, or the number nearest to `density`, are
-    placed in the initial state `start`. Or leave out these four, and pass the road itself as `start`:
+    The road has `lanes` lanes of `length` cells (at most 100,000). `cars` cars in total, or the number nearest to
+    `density`, are placed in the initial state `start`. Or leave out these four, and pass the road itself as `start`:
 
-    - the speeds by cell (cells per step; None, NaN or -1 for an empty cell), as a list or an array, or two of them for two lanes;
+    - the speeds by cell (cells per step; None, NaN or -1 for an empty cell), as a list or an array, or two of them for
+      two lanes;
     - the characters of a file, for example `"0..3."`, or a list of two such strings, such as the `lanes` of a snapshot.
 
-    A list of only 0 and 1 raises an error, because you may mean the number of cars by cell, while here 0 is a stopped car.
+    A list of only 0 and 1 raises an error, because you may mean the number of cars by cell, while here 0 is a stopped
+    car.
 
     `limit` is the maximum speed in cells per step, 1 to 35. `at` maps steps to the rules that take over then. A job
     of more than 500,000 steps runs as several inputs, each of which continues the previous input.
 
-    Numbers of other libraries, such as numpy, are stored as Python numbers, and a road as the characters of its lanes, with its
-    `length` and `lanes`. Raises `ParameterError` if a parameter is wrong; booleans and members of an enumeration are not numbers.
-    If the program rejects the job, `RejectedInputError` is raised when it runs."""
+    Numbers of other libraries, such as numpy, are stored as Python numbers, and a road as the characters of its lanes,
+    with its `length` and `lanes`. Raises `ParameterError` if a parameter is wrong; booleans and members of an
+    enumeration are not numbers. If the program rejects the job, `RejectedInputError` is raised when it runs."""
 
     limit: int
     rule: Rule
@@ -58,24 +60,25 @@ class Job:
     at: Mapping[int, Rule] = field(default_factory=dict)
 
     def __post_init__(self) -> None:
-        store(self, limit=whole("limit", self.limit, 1, MAX_SPEED), steps=whole("steps", self.steps, 0, MAX_ALL_STEPS))
-        store(self, lanes=whole("lanes", self.lanes, 1, 2), key=checked_key(self.key), rule=need_rule(self.rule))
+        store(self, limit=checked_int("limit", self.limit, 1, MAX_SPEED))
+        store(self, steps=checked_int("steps", self.steps, 0, MAX_ALL_STEPS))
+        store(self, lanes=checked_int("lanes", self.lanes, 1, 2), key=checked_key(self.key), rule=need_rule(self.rule))
         store(self, at=Schedule(self.at, self.steps))
         if self.length is not None:
-            store(self, length=whole("length", self.length, 1, MAX_CELLS))
+            store(self, length=checked_int("length", self.length, 1, MAX_CELLS))
         if not isinstance(self.start, InitialState):
             self._store_road()
             return
-        self.start.judge(self.limit)
+        self.start.need_limit(self.limit)
         if self.length is None:
             raise ParameterError("a job needs the length of its lanes, or a road as `start`")
         if (self.cars is None) == (self.density is None):
             raise ParameterError("a job needs either `cars` or `density`")
         if self.cars is not None:
-            store(self, cars=whole("cars", self.cars, 0, self.cells()))
+            store(self, cars=checked_int("cars", self.cars, 0, self.cells()))
         else:
             store(self, density=share("density", cast(Density, self.density)))
-        tell_lanes(self.start, [self.count()], self.length, self.lanes)
+        warn_of_uneven_lanes(self.start, [self.count()], self.length, self.lanes)
 
     def _store_road(self) -> None:
         road = lanes_of(self.start, self.limit)
@@ -83,21 +86,22 @@ class Job:
             raise ParameterError("a road as `start` has its own cars: leave `cars` and `density` out")
         if self.length not in (None, len(road[0])) or self.lanes > len(road):
             raise ParameterError(
-                f"a road as `start` has its own cells, here {len(road)} x {len(road[0])}: leave `length` and `lanes` out, "
-                "or with `dataclasses.replace` set length=None and lanes=1"
+                f"a road as `start` has its own cells, here {len(road)} x {len(road[0])}: leave `length` and `lanes` "
+                "out, or with `dataclasses.replace` set length=None and lanes=1"
             )
         store(self, start=road, length=len(road[0]), lanes=len(road))
 
     @classmethod
     def read(cls, path: Union[str, os.PathLike[str]]) -> Job:
-        """Read a job file. The job has the same `.text()`, to the last byte, the road of the file as its `start`, and fractions
-        as its probabilities. Raises `RejectedInputError` with the explanation if the program rejects the file, and
-        `ParameterError` if the file is not in UTF-8 or does not end with a line feed."""
+        """Read a job file. The job has the same `.text()`, to the last byte, the road of the file as its `start`, and
+        fractions as its probabilities. Raises `RejectedInputError` with the explanation if the program rejects the
+        file, and `ParameterError` if the file is not in UTF-8 or does not end with a line feed."""
         return cls.from_text(reading.content_of(path, "Job"))
 
     @classmethod
     def from_text(cls, text: str) -> Job:
-        """Make a job from a text that `.text()` returned, or from the content of a job file. Raises the errors of `read`."""
+        """Make a job from a text that `.text()` returned, or from the content of a job file. Raises the errors of
+        `read`."""
         reading.need_accepted("run", text)
         return reading.need_same(cls(**reading.job_of(text)), text)
 
@@ -128,8 +132,8 @@ class Job:
                 f"a job file has at most {MAX_STEPS} steps, and this job has {self.steps}: "
                 "`run`, `snapshots` and `series` run it as several inputs"
             )
-        lines = ["road 1", f"key {key_digits(self.key)}", f"limit {self.limit}", *(f"lane {lane}" for lane in self.lane_texts())]
-        lines += [*self.rule.lines(), f"steps {self.steps}"]
+        lines = ["road 1", f"key {key_digits(self.key)}", f"limit {self.limit}"]
+        lines += [*(f"lane {lane}" for lane in self.lane_texts()), *self.rule.lines(), f"steps {self.steps}"]
         for step, rule in self.at.items():
             first, *others = rule.lines()
             lines += [f"at {step} {first}", *others]
@@ -143,84 +147,90 @@ class Job:
 
         `first` is at most `steps`, so that there is at least one snapshot. `workers` is the number of threads, 1 to 16;
         results do not depend on it. A wrong number raises `ParameterError` before anything runs."""
-        asked = Asked.snapshots(self.steps, every, first, workers)
+        options = RunOptions.of_snapshots(self.steps, every, first, workers)
         if self.steps > MAX_STEPS:
-            return Snapshots(long_jobs.snapshots(self, asked))
-        return Snapshots.read(ask_for_bytes(["run", *asked.words()], self.text()))
+            return Snapshots(long_jobs.snapshots(self, options))
+        return Snapshots.read(ask_for_bytes(["run", *options.arguments()], self.text()))
 
     def snapshots(self, *, every: int = 1, first: int = 0, workers: int = 1) -> Iterator[Snapshot]:
         """Iterate over the snapshots of `run` while the program runs, keeping only one."""
-        asked = Asked.snapshots(self.steps, every, first, workers)
+        options = RunOptions.of_snapshots(self.steps, every, first, workers)
         if self.steps > MAX_STEPS:
-            return long_jobs.snapshots(self, asked)
-        return snapshots_in(ask_by_line(["run", *asked.words()], self.text()))
+            return long_jobs.snapshots(self, options)
+        return snapshots_in(ask_by_line(["run", *options.arguments()], self.text()))
 
     def series(self, *, every: int = 1, first: int = 0, workers: int = 1) -> Table[Window]:
-        """The counts of each window of `every` steps, from step `first` on, as `trlab series` writes them. The windows must fill
-        the run: if `steps - first` is not a positive multiple of `every`, it raises `ParameterError` with numbers that fit. A job
-        of more than 500,000 steps takes about twice as long per step."""
-        asked = Asked.windows(self.steps, every, first, workers)
+        """The counts of each window of `every` steps, from step `first` on, as `trlab series` writes them. The windows
+        must fill the run: if `steps - first` is not a positive multiple of `every`, it raises `ParameterError` with
+        numbers that fit. A job of more than 500,000 steps takes about twice as long per step."""
+        options = RunOptions.of_windows(self.steps, every, first, workers)
         if self.steps > MAX_STEPS:
-            return Table(Window, long_jobs.windows(self, asked))
-        return Table.read(Window, ask(["series", *asked.words()], self.text()))
+            return Table(Window, long_jobs.windows(self, options))
+        return Table.read(Window, ask(["series", *options.arguments()], self.text()))
 
     def time_until(self, condition: Callable[[Window], bool], *, every: int = 1, first: int = 0) -> Duration:
         """Run until `condition(window)` is true for a window of `every` steps, and no longer:
 
             job.time_until(lambda window: window.stopped > 0, every=10)
 
-        `time` is the number of steps from step `first` to the end of this window, so its resolution is `every`. If the condition
-        is false for every window, `time` is `steps - first`, and `observed` is False: the event takes longer than this run.
-        `trlab.lifetime` estimates the mean of such times.
+        `time` is the number of steps from step `first` to the end of this window, so its resolution is `every`. If the
+        condition is false for every window, `time` is `steps - first`, and `observed` is False: the event takes longer
+        than this run. `trlab.lifetime` estimates the mean of such times.
 
-        The windows are those of `series`, and must fill the run. `condition` returns True or False; any other answer raises
-        `ParameterError`. The output is cut off, and is therefore never kept in a cache of `trlab.results`."""
+        The windows are those of `series`, and must fill the run. `condition` returns True or False; any other answer
+        raises `ParameterError`. The output is cut off, and is therefore never kept in a cache of `trlab.results`."""
         if not callable(condition):
             raise ParameterError(f"`condition` must be a function of a window, not {shown(condition)}")
-        asked = Asked.windows(self.steps, every, first, 1)
-        last = asked.first
-        with _without_cache(), closing(self._windows(asked)) as windows:
+        options = RunOptions.of_windows(self.steps, every, first, 1)
+        last = options.first
+        with _without_cache(), closing(self._windows(options)) as windows:
             for window in windows:
                 last = window.step
                 if _is_true(condition(window)):
-                    return Duration(last - asked.first, True)
+                    return Duration(last - options.first, True)
         if last != self.steps:
             raise IncompleteOutputError(f"the series ended after {last} of {self.steps} steps")
-        return Duration(last - asked.first, False)
+        return Duration(last - options.first, False)
 
-    def _windows(self, asked: Asked) -> Generator[Window, None, None]:
+    def _windows(self, options: RunOptions) -> Generator[Window, None, None]:
         """Iterate over the windows while the program runs."""
         if self.steps > MAX_STEPS:
-            yield from long_jobs.windows(self, asked)
+            yield from long_jobs.windows(self, options)
         else:
-            yield from long_jobs.windows_in(ask_by_line(["series", *asked.words()], self.text()))
+            yield from long_jobs.windows_in(ask_by_line(["series", *options.arguments()], self.text()))
 
     def detectors(self, cells: Sequence[int], *, every: int, first: int = 0) -> pandas.DataFrame:
         """Detector tables of the run, window by window: see `trlab.detectors`. Snapshots are not kept."""
         from .._analysis.detectors import detectors
 
-        asked = Asked.windows(self.steps, every, first, 1)
-        return detectors(self.snapshots(first=asked.first), cells, asked.every)
+        options = RunOptions.of_windows(self.steps, every, first, 1)
+        return detectors(self.snapshots(first=options.first), cells, options.every)
 
     def continued(self, snapshot: Snapshot, key: Optional[Key] = None, steps: Optional[int] = None) -> Job:
-        """A job that continues from `snapshot`, the last snapshot of this job or any other, for `steps` steps, by default
-        as many as this job has. Its steps count from 0 again, and `at` is shifted to match.
+        """A job that continues from `snapshot`, the last snapshot of this job or any other, for `steps` steps, by
+        default as many as this job has. Its steps count from 0 again, and `at` is shifted to match.
 
         The default `key` is derived (see `Key`) from `trlab continued KEY STEP`, with the snapshot's step. This job's
         own key would draw the random numbers of its first steps again.
 
             longer = job.continued(job.run()[-1], steps=1000).run()"""
         if not isinstance(snapshot, Snapshot):
-            raise ParameterError(f"a job is continued from a snapshot, for example `job.run()[-1]`, not from {shown(snapshot)}")
-        done = whole("the step of the snapshot", snapshot.step, 0, self.steps)
-        going = self.steps if steps is None else whole("steps", steps, 0, MAX_ALL_STEPS)
+            raise ParameterError(
+                f"a job is continued from a snapshot, for example `job.run()[-1]`, not from {shown(snapshot)}"
+            )
+        past_steps = checked_int("the step of the snapshot", snapshot.step, 0, self.steps)
+        further_steps = self.steps if steps is None else checked_int("steps", steps, 0, MAX_ALL_STEPS)
         return Job(
             limit=self.limit,
-            rule=self._rule_at(done),
-            steps=going,
+            rule=self._rule_at(past_steps),
+            steps=further_steps,
             start=tuple(snapshot.lanes),
-            key=derived_key("continued", self.key, done) if key is None else key,
-            at={step - done: rule for step, rule in self.at.items() if done < step < done + going},
+            key=derived_key("continued", self.key, past_steps) if key is None else key,
+            at={
+                step - past_steps: rule
+                for step, rule in self.at.items()
+                if past_steps < step < past_steps + further_steps
+            },
         )
 
     if not TYPE_CHECKING:
@@ -236,23 +246,23 @@ class Job:
 
 
 class Duration(NamedTuple):
-    """The number of steps until an event, and whether the event was observed. If not, the run ended before it: the time is
-    censored, and the event takes longer."""
+    """The number of steps until an event, and whether the event was observed. If not, the run ended before it: the time
+    is censored, and the event takes longer."""
 
     time: int
     observed: bool
 
 
 def _without_cache() -> AbstractContextManager[None]:
-    """Calls of the program in this block run at once, and their outputs are not kept, because an output that is left early is
-    incomplete."""
-    now = setting()
-    return nullcontext() if now is None else set_to(now._replace(cache=None))
+    """Calls of the program in this block run at once, and their outputs are not kept, because an output that is left
+    early is incomplete."""
+    current = setting()
+    return nullcontext() if current is None else set_to(current._replace(cache=None))
 
 
-def _is_true(found: Any) -> bool:
+def _is_true(result: Any) -> bool:
     """The result of a condition. Raises `ParameterError` if it is not a truth value of Python or numpy."""
-    kind = getattr(getattr(found, "dtype", None), "kind", None)
-    if not isinstance(found, bool) and not (kind == "b" and found.shape == ()):
-        raise ParameterError(f"`condition` must return True or False, not {shown(found)}")
-    return bool(found)
+    dtype_kind = getattr(getattr(result, "dtype", None), "kind", None)
+    if not isinstance(result, bool) and not (dtype_kind == "b" and result.shape == ()):
+        raise ParameterError(f"`condition` must return True or False, not {shown(result)}")
+    return bool(result)

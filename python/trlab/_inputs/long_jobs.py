@@ -1,7 +1,8 @@
-"""Runs of jobs with more steps than one input can have: several inputs, each of which continues where the previous one ended.
+"""Runs of jobs with more steps than one input can have: several inputs, each of which continues where the previous one
+ended.
 
-Each input begins with the last snapshot of the previous input, under the key that `Job.continued` derives. So the snapshots
-depend only on the job, and never on the windows in which they are counted."""
+Each input begins with the last snapshot of the previous input, under the key that `Job.continued` derives. So the
+snapshots depend only on the job, and never on the windows in which they are counted."""
 from __future__ import annotations
 
 from dataclasses import replace
@@ -13,9 +14,10 @@ from typing import TYPE_CHECKING, NamedTuple
 from .._errors import IncompleteOutputError
 from .._runs.calls import ask_by_line
 from .._results.snapshots import Snapshot, snapshots_in
+from .._results.possible import MILLION
 from .._results.tables import Table, Window
 from .numbers import MAX_STEPS
-from .words import Asked, option
+from .arguments import RunOptions, option
 
 if TYPE_CHECKING:
     from .jobs import Job
@@ -39,36 +41,39 @@ def _parts(job: Job, last_of: Callable[[Job], Snapshot]) -> Iterator[_Part]:
     yield _Part(offset, job)
 
 
-def snapshots(job: Job, asked: Asked) -> Iterator[Snapshot]:
+def snapshots(job: Job, selected: RunOptions) -> Iterator[Snapshot]:
     """Iterate over the requested snapshots.
 
-    The last snapshot of each input is needed too. So the program prints every snapshot whose step is a multiple of a number
-    that divides `every`, `first` and the steps of an input."""
-    options = ["--every", str(gcd(asked.every, asked.first, MAX_STEPS)), *option("workers", asked.workers, 1)]
+    The last snapshot of each input is needed too. So the program prints every snapshot whose step is a multiple of a
+    number that divides `every`, `first` and the steps of an input."""
+    options = ["--every", str(gcd(selected.every, selected.first, MAX_STEPS)), *option("workers", selected.workers, 1)]
+    # The last snapshot so far, with which the next input begins.
     last: list[Snapshot] = []
     for offset, part in _parts(job, lambda _: last.pop()):
         for snapshot in snapshots_in(ask_by_line(["run", *options], part.text())):
             last[:] = [snapshot]
             # The first snapshot of a part is the last one of the part before it.
             step = offset + snapshot.step
-            if (snapshot.step or not offset) and step >= asked.first and (step - asked.first) % asked.every == 0:
+            is_repeated = snapshot.step == 0 and offset > 0
+            if not is_repeated and step >= selected.first and (step - selected.first) % selected.every == 0:
                 yield snapshot._replace(step=step)
 
 
-def windows(job: Job, asked: Asked) -> Iterator[Window]:
+def windows(job: Job, selected: RunOptions) -> Iterator[Window]:
     """Iterate over the requested windows.
 
     Windows may begin in one input and end in the next one, so they are put together from narrower windows, whose width
     divides `every`, `first` and the steps of an input."""
-    width = gcd(asked.every, asked.first, MAX_STEPS)
-    return _joined(_narrow_windows(job, width, asked), asked.every // width)
+    width = gcd(selected.every, selected.first, MAX_STEPS)
+    return _joined(_narrow_windows(job, width, selected), selected.every // width)
 
 
-def _narrow_windows(job: Job, width: int, asked: Asked) -> Iterator[Window]:
+def _narrow_windows(job: Job, width: int, selected: RunOptions) -> Iterator[Window]:
     """Iterate over the windows of `width` steps from the first step on."""
-    for offset, part in _parts(job, lambda it: _last_snapshot(it, asked.workers)):
-        if asked.first < offset + part.steps:
-            options = ["--every", str(width), "--from", str(max(0, asked.first - offset)), *option("workers", asked.workers, 1)]
+    for offset, part in _parts(job, lambda part_before: _last_snapshot(part_before, selected.workers)):
+        if selected.first < offset + part.steps:
+            first = max(0, selected.first - offset)
+            options = ["--every", str(width), "--from", str(first), *option("workers", selected.workers, 1)]
             for window in windows_in(ask_by_line(["series", *options], part.text())):
                 yield window._replace(step=offset + window.step)
 
@@ -94,11 +99,11 @@ def _last_snapshot(job: Job, workers: int) -> Snapshot:
 def _joined(narrow: Iterator[Window], count: int) -> Iterator[Window]:
     """Join every `count` consecutive windows into one."""
     for last in narrow:
-        sums, found = list(last), 1
-        for found, last in enumerate(islice(narrow, count - 1), 2):
-            sums = [one + other for one, other in zip(sums, last)]
-        if found < count:
+        sums, joined = list(last), 1
+        for joined, last in enumerate(islice(narrow, count - 1), 2):
+            sums = [total + number for total, number in zip(sums, last)]
+        if joined < count:
             raise IncompleteOutputError(f"the output of the series ends in the middle of a window, at step {last.step}")
         total = Window(*sums)
-        flow = total.distance * 1000000 // (last.cells * total.steps)
+        flow = total.distance * MILLION // (last.cells * total.steps)
         yield total._replace(step=last.step, cars=last.cars, cells=last.cells, flow_millionths=flow)

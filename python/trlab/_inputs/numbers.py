@@ -41,39 +41,39 @@ MAX_THREADS = 16
 """The maximum number of workers and of runners."""
 
 # Longer numbers, and larger exponents, would take minutes to convert into a fraction.
-_WRITTEN = re.compile(r"\s*[-+]?(?:\d+/\d+|(?:\d+\.?\d*|\.\d+)(?:e[-+]?\d{1,3})?)\s*", re.ASCII | re.IGNORECASE)
-_LONGEST = 4000
+_NUMBER = re.compile(r"\s*[-+]?(?:\d+/\d+|(?:\d+\.?\d*|\.\d+)(?:e[-+]?\d{1,3})?)\s*", re.ASCII | re.IGNORECASE)
+_MAX_CHARACTERS = 4000
 
 
-def whole(name: str, number: object, least: int, most: Optional[int] = None) -> int:
-    """A whole number in its range, as Python's `int`. Raises `ParameterError`, which names it, if it is anything else: floats,
-    booleans and members of an enumeration are not whole numbers."""
+def checked_int(name: str, number: object, minimum: int, maximum: Optional[int] = None) -> int:
+    """A whole number in its range, as Python's `int`. Raises `ParameterError`, which names it, if it is anything else:
+    floats, booleans and members of an enumeration are not whole numbers."""
     value = _index(number)
-    greatest = "2**256 - 1" if most == MAX_KEY else most
+    shown_maximum = "2**256 - 1" if maximum == MAX_KEY else maximum
     if value is None:
-        allowed = f"at least {least}" if most is None else f"from {least} to {greatest}"
+        allowed = f"at least {minimum}" if maximum is None else f"from {minimum} to {shown_maximum}"
         raise ParameterError(f"{name} must be a whole number, {allowed}, not {shown(number)}")
-    if most is None and value < least:
-        raise ParameterError(f"{name} must be at least {least}, not {shown(value)}")
-    if most is not None and not least <= value <= most:
-        raise ParameterError(f"{name} must be between {least} and {greatest}, not {shown(value)}")
+    if maximum is None and value < minimum:
+        raise ParameterError(f"{name} must be at least {minimum}, not {shown(value)}")
+    if maximum is not None and not minimum <= value <= maximum:
+        raise ParameterError(f"{name} must be between {minimum} and {shown_maximum}, not {shown(value)}")
     return value
 
 
 def share(name: str, number: Probability) -> Union[int, float, Fraction]:
-    """A number from 0 to 1, as Python's own. Raises `ParameterError`, which names it, if it is anything else. A string or a
-    `Decimal` is stored as a fraction of the same value."""
-    found = _real(number)
-    if found is None:
+    """A number from 0 to 1, as Python's own. Raises `ParameterError`, which names it, if it is anything else. A string
+    or a `Decimal` is stored as a fraction of the same value."""
+    value = _real(number)
+    if value is None:
         raise ParameterError(f"{name} must be a number between 0 and 1, not {shown(number)}")
-    if not 0 <= found <= 1:
+    if not 0 <= value <= 1:
         raise ParameterError(f"{name} must be between 0 and 1, not {shown(number)}")
-    return found
+    return value
 
 
 def _index(number: Any) -> Optional[int]:
     """A whole number of any type as Python's own; None if it is not one."""
-    if _is_no_number(number):
+    if _is_not_number(number):
         return None
     try:
         return int.__int__(operator.index(number))
@@ -85,7 +85,7 @@ def _real(number: Any) -> Union[None, int, float, Fraction]:
     """A finite number of any type as Python's own; None if it is not one."""
     if isinstance(number, (str, Decimal)) and not isinstance(number, Enum):
         return _fraction(str.__str__(number) if isinstance(number, str) else str(number))
-    if _is_no_number(number):
+    if _is_not_number(number):
         return None
     if isinstance(number, Integral):
         return _index(number)
@@ -100,7 +100,7 @@ def _real(number: Any) -> Union[None, int, float, Fraction]:
 
 
 def _fraction(written: str) -> Optional[Fraction]:
-    if len(written) > _LONGEST or not _WRITTEN.fullmatch(written):
+    if len(written) > _MAX_CHARACTERS or not _NUMBER.fullmatch(written):
         return None
     try:
         return Fraction(written)
@@ -108,7 +108,7 @@ def _fraction(written: str) -> Optional[Fraction]:
         return None
 
 
-def _is_no_number(number: Any) -> bool:
+def _is_not_number(number: Any) -> bool:
     """Whether this would pass for a number, although it is a truth value, a member of an enumeration, or an array."""
     kind = getattr(getattr(number, "dtype", None), "kind", "i")
     return isinstance(number, (bool, Enum)) or kind not in ("i", "u", "f") or getattr(number, "shape", ()) != ()
@@ -125,18 +125,20 @@ def shown(value: object) -> str:
 
 
 def probability(name: str, number: Probability) -> Union[int, float, Fraction]:
-    """A probability, as Python's own number. Raises `ParameterError` with its name if it is anything else, or so close to 0 or 1
-    that files, which have multiples of 1 / 2**31, would have 0 or 1."""
-    found = share(name, number)
-    nearest = Fraction(parts(found), ALWAYS)
-    if nearest in (0, 1) and nearest != found:
-        raise ParameterError(f"{name} is {shown(number)}, which is {nearest} in multiples of 1 / 2**31: write {nearest}")
-    return found
+    """A probability, as Python's own number. Raises `ParameterError` with its name if it is anything else, or so close
+    to 0 or 1 that files, which have multiples of 1 / 2**31, would have 0 or 1."""
+    value = share(name, number)
+    nearest = Fraction(parts(value), ALWAYS)
+    if nearest in (0, 1) and nearest != value:
+        raise ParameterError(
+            f"{name} is {shown(number)}, which is {nearest} in multiples of 1 / 2**31: write {nearest}"
+        )
+    return value
 
 
-def parts(chance: Probability) -> int:
+def parts(number: Probability) -> int:
     """A probability times 2**31, to the nearest whole number."""
-    return round(Fraction(share("a probability", chance)) * ALWAYS)
+    return round(Fraction(share("a probability", number)) * ALWAYS)
 
 
 def checked_key(key: object) -> Key:
@@ -147,7 +149,7 @@ def checked_key(key: object) -> Key:
         return str.__str__(key)
     if _index(key) is None:
         raise ParameterError(f"key must be a whole number or 64 hexadecimal digits, not {shown(key)}")
-    return whole("key", key, 0, MAX_KEY)
+    return checked_int("key", key, 0, MAX_KEY)
 
 
 def key_digits(key: object) -> str:
@@ -159,20 +161,20 @@ def key_digits(key: object) -> str:
 def derived_key(purpose: str, key: Key, number: int) -> str:
     """The key that follows from another key, a purpose and a number: 64 hexadecimal digits.
 
-    It is the SHA-256 of the ASCII bytes of `trlab PURPOSE KEY NUMBER`, with KEY as 64 lower-case hexadecimal digits and NUMBER in
-    decimal. Different purposes and numbers give independent keys."""
+    It is the SHA-256 of the ASCII bytes of `trlab PURPOSE KEY NUMBER`, with KEY as 64 lower-case hexadecimal digits and
+    NUMBER in decimal. Different purposes and numbers give independent keys."""
     return hashlib.sha256(f"trlab {purpose} {key_digits(key).lower()} {number}".encode("ascii")).hexdigest()
 
 
 def cars_at(density: Density, cells: int) -> int:
-    """The number of cars on `cells` cells that is nearest to a density. Raises `ParameterError` if it is 0 for a density above 0,
-    because an empty road is not what was asked for."""
+    """The number of cars on `cells` cells that is nearest to a density. Raises `ParameterError` if it is 0 for a
+    density above 0, because an empty road is not what was asked for."""
     exact = Fraction(share("density", density)) * cells
     cars = round(exact)
     if exact and not cars:
         raise ParameterError(
-            f"density {shown(density)} on {cells} cells is less than one car: the lowest density above 0 is {1 / cells:.3g} there, so "
-            "take a longer road, or 0 for an empty one"
+            f"density {shown(density)} on {cells} cells is less than one car: the lowest density above 0 is "
+            f"{1 / cells:.3g} there, so take a longer road, or 0 for an empty one"
         )
     return cars
 

@@ -19,19 +19,19 @@ class AcceptedProgram(NamedTuple):
 
 
 def check(program: Union[str, PythonRule]) -> AcceptedProgram:
-    """Verify a driver program: text that begins with `motion` or `change`, one line `code X`, or a Python function that is a rule.
-    Raises `RejectedInputError`, and `RuleError` for a function."""
+    """Verify a driver program: text that begins with `motion` or `change`, one line `code X`, or a Python function that
+    is a rule. Raises `RejectedInputError`, and `RuleError` for a function."""
     if isinstance(program, PythonRule):
         program = program()
     if not isinstance(program, str):
         raise ParameterError(f"a driver program is a text, not {shown(program)}")
-    first, _, written = ask(["check"], program.lstrip("\n")).partition("\n")
-    return AcceptedProgram(int(first.split(" ")[-1]), written)
+    verdict, _, canonical = ask(["check"], program.lstrip("\n")).partition("\n")
+    return AcceptedProgram(int(verdict.split(" ")[-1]), canonical)
 
 
 def explain(input: Union[str, PythonRule, Job, Sweep]) -> str:
-    """The output of `trlab explain`: the error in an input and how to fix it, or a description of a valid input. `input` is a
-    job, a sweep, the text of a job, a sweep or a driver program, or a Python function that is a rule."""
+    """The output of `trlab explain`: the error in an input and how to fix it, or a description of a valid input.
+    `input` is a job, a sweep, the text of a job, a sweep or a driver program, or a Python function that is a rule."""
     if isinstance(input, PythonRule):
         input = input()
     if not isinstance(input, (str, Job, Sweep)):

@@ -41,38 +41,43 @@ def need_accepted(command: str, text: str) -> None:
         raise RejectedInputError(explained(text, command).stdout.rstrip("\n"), json.loads(report.stdout))
 
 
-def need_same(read: Input, text: str) -> Input:
+def need_same(input: Input, text: str) -> Input:
     """The input that was read; raises `ParameterError` if its `.text()` is different."""
     if not text.endswith("\n"):
         raise ParameterError("the last line of the file does not end with a line feed: add one")
-    if read.text() != text:
-        raise ParameterError("trlab would write this file differently, so it cannot be read: make the input in Python instead")
-    return read
+    if input.text() != text:
+        raise ParameterError(
+            "trlab would write this file differently, so it cannot be read: make the input in Python instead"
+        )
+    return input
 
 
 def job_of(text: str) -> dict[str, Any]:
     """The parameters of `Job` in a text that the program accepts. Raises `ParameterError` if it is not a job."""
     lines = Lines(text)
     lines.take("road")
-    found: dict[str, Any] = {"key": lines.key(), "limit": lines.number("limit"), "start": [lines.take("lane")], "at": {}}
+    parameters: dict[str, Any] = {"key": lines.key(), "limit": lines.number("limit")}
+    parameters["start"] = [lines.take("lane")]
     while lines.word() == "lane":
-        found["start"].append(lines.take("lane"))
-    found.update(rule=lines.rule(), steps=lines.number("steps"))
+        parameters["start"].append(lines.take("lane"))
+    parameters.update(rule=lines.rule(), steps=lines.number("steps"), at={})
     while lines.is_left():
         step, _, rule = lines.take("at").partition(" ")
-        found["at"][_number(step)] = lines.rule(rule)
-    return found
+        parameters["at"][_number(step)] = lines.rule(rule)
+    return parameters
 
 
 def sweep_of(text: str) -> dict[str, Any]:
     """The parameters of `Sweep` in a text that the program accepts. Raises `ParameterError` if it is not a sweep."""
     lines = Lines(text)
     lines.take("sweep")
-    found: dict[str, Any] = {"key": lines.key(), **{name: lines.number(name) for name in ("limit", "length", "lanes")}}
-    found.update(rule=lines.rule(), warm=lines.number("warm"), measure=lines.number("measure"), cars=[])
+    parameters: dict[str, Any] = {
+        "key": lines.key(), **{name: lines.number(name) for name in ("limit", "length", "lanes")}
+    }
+    parameters.update(rule=lines.rule(), warm=lines.number("warm"), measure=lines.number("measure"), cars=[])
     while lines.is_left():
-        found["cars"].append(lines.number("cars"))
-    return found
+        parameters["cars"].append(lines.number("cars"))
+    return parameters
 
 
 class Lines:
@@ -109,19 +114,19 @@ class Lines:
     def key(self) -> Union[int, str]:
         """A key as a number; one with capital letters as it is written."""
         digits = self.take("key")
-        return digits if any(sign in "ABCDEF" for sign in digits) else _number(digits, 16)
+        return digits if any(digit in "ABCDEF" for digit in digits) else _number(digits, 16)
 
     def rule(self, rest: Optional[str] = None) -> Rule:
         """A rule: the given words after `at S`, or the rule that begins with the next line."""
-        word, _, written = (self.line() if rest is None else rest).partition(" ")
-        if word == "rule" and written == "own":
+        word, _, model_and_numbers = (self.line() if rest is None else rest).partition(" ")
+        if word == "rule" and model_and_numbers == "own":
             motion = self.program("motion")
             return Own(motion, self.program("change") if self.word() in ("change", "code") else None)
-        model, *numbers = written.split(" ")
+        model, *numbers = model_and_numbers.split(" ")
         if word != "rule" or model not in _MODELS:
             raise ParameterError(f"line {self._next} of the file is not a rule")
         try:
-            rule: Rule = _MODELS[model](*(Fraction(_number(it), ALWAYS) for it in numbers))
+            rule: Rule = _MODELS[model](*(Fraction(_number(number), ALWAYS) for number in numbers))
         except TypeError:
             raise ParameterError(f"line {self._next} of the file has the wrong number of probabilities") from None
         return rule

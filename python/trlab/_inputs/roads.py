@@ -7,61 +7,63 @@ from collections.abc import Iterable, Mapping, Sequence, Set
 from typing import Any, Optional, Union
 
 from .._errors import ParameterError
-from .numbers import MAX_CELLS, MAX_SPEED, shown, whole
+from .numbers import MAX_CELLS, MAX_SPEED, checked_int, shown
 
 SPEEDS = "0123456789abcdefghijklmnopqrstuvwxyz"
 """The characters of speeds in files and snapshots, 0 to 35 cells per step."""
 
 Lane = Union[str, Iterable[Optional[float]]]
-"""A lane as you write it: the speed of the car in each cell, in cells per step, and None, NaN or -1 for an empty cell; or the
-characters of a file."""
+"""A lane as you write it: the speed of the car in each cell, in cells per step, and None, NaN or -1 for an empty cell;
+or the characters of a file."""
 
 Road = Union[Lane, Iterable[Lane]]
 """A road as you write it: a lane, or two lanes."""
 
-_NO_ROAD = "a road is a list of speeds, with None for an empty cell, or two such lists"
+_ROAD_FORM = "a road is a list of speeds, with None for an empty cell, or two such lists"
 
 
 def lanes_of(road: object, limit: int = MAX_SPEED) -> tuple[str, ...]:
     """A road in the characters of a file: the speed of each car, and `.` for an empty cell.
 
-    Raises `ParameterError` if it is not a road, if a car is faster than `limit`, or if it may be meant as the number of cars
-    by cell."""
+    Raises `ParameterError` if it is not a road, if a car is faster than `limit`, or if it may be meant as the number of
+    cars by cell."""
     shape: tuple[int, ...] = getattr(road, "shape", ())
     if len(shape) > 2 or len(shape) == 2 and shape[0] > 2:
-        raise ParameterError(f"{_NO_ROAD}: an array has the shape (cells,) or (lanes, cells) with 1 or 2 lanes, not {shape}")
-    given = _items(road)
-    if isinstance(given, str) or not any(_is_lane(item) for item in given):
-        given = [given]
-    if not 1 <= len(given) <= 2 or not all(_is_lane(lane) for lane in given):
-        raise ParameterError(f"{_NO_ROAD}, not {shown(road)}")
-    lanes = tuple(_lane_text(_items(lane), limit) for lane in given)
+        raise ParameterError(
+            f"{_ROAD_FORM}: an array has the shape (cells,) or (lanes, cells) with 1 or 2 lanes, not {shape}"
+        )
+    items = _items(road)
+    if isinstance(items, str) or not any(_is_lane(item) for item in items):
+        items = [items]
+    if not 1 <= len(items) <= 2 or not all(_is_lane(lane) for lane in items):
+        raise ParameterError(f"{_ROAD_FORM}, not {shown(road)}")
+    lanes = tuple(_lane_text(_items(lane), limit) for lane in items)
     if len({len(lane) for lane in lanes}) == 2:
         raise ParameterError(f"the lanes have {len(lanes[0])} and {len(lanes[1])} cells, and must have the same number")
     if not 1 <= len(lanes[0]) <= MAX_CELLS:
-        raise ParameterError(f"{_NO_ROAD}; a lane has 1 to {MAX_CELLS} cells, not {len(lanes[0])}")
-    if not all(isinstance(lane, str) for lane in given):
+        raise ParameterError(f"{_ROAD_FORM}; a lane has 1 to {MAX_CELLS} cells, not {len(lanes[0])}")
+    if not all(isinstance(lane, str) for lane in items):
         _refuse_occupancy(lanes)
     return lanes
 
 
 def roads_of(roads: object, length: int, lanes: int, limit: int) -> tuple[tuple[str, ...], ...]:
     """A list of roads of one shape. Raises `ParameterError`, with the number of the road, if one is something else."""
-    found = _items(roads)
-    if isinstance(found, str) or not all(_is_lane(road) for road in found):
+    items = _items(roads)
+    if isinstance(items, str) or not all(_is_lane(road) for road in items):
         raise ParameterError("`start` of a sweep is a list of roads, one for each point: for one road write `[road]`")
-    return tuple(_road_of(number, road, length, lanes, limit) for number, road in enumerate(found))
+    return tuple(_road_of(number, road, length, lanes, limit) for number, road in enumerate(items))
 
 
 def _road_of(number: int, road: object, length: int, lanes: int, limit: int) -> tuple[str, ...]:
     try:
-        read = lanes_of(road, limit)
+        lane_texts = lanes_of(road, limit)
     except ParameterError as error:
         raise ParameterError(f"road {number} of `start`: {error}") from None
-    if (len(read), len(read[0])) != (lanes, length):
-        shape = f"{len(read)} x {len(read[0])}"
+    if len(lane_texts) != lanes or len(lane_texts[0]) != length:
+        shape = f"{len(lane_texts)} x {len(lane_texts[0])}"
         raise ParameterError(f"road {number} of `start` has {shape} cells, and the sweep has {lanes} x {length}")
-    return read
+    return lane_texts
 
 
 def cars_on(road: Iterable[str]) -> int:
@@ -80,7 +82,8 @@ def _is_lane(item: object) -> bool:
 
 
 def _items(road: Any) -> Union[str, Sequence[Any]]:
-    """The lanes or the cells of a road: characters, or a list. Arrays of any library become lists of Python's numbers."""
+    """The lanes or the cells of a road: characters, or a list. Arrays of any library become lists of Python's
+    numbers."""
     if hasattr(road, "__array__") and not hasattr(road, "tolist"):
         road = road.__array__()
     if hasattr(road, "tolist"):
@@ -88,7 +91,7 @@ def _items(road: Any) -> Union[str, Sequence[Any]]:
     if isinstance(road, str):
         return str.__str__(road)
     if isinstance(road, (bytes, bytearray, Mapping, Set)) or not isinstance(road, Iterable):
-        raise ParameterError(f"{_NO_ROAD}, not {shown(road)}")
+        raise ParameterError(f"{_ROAD_FORM}, not {shown(road)}")
     return list(road)
 
 
@@ -101,24 +104,25 @@ def _lane_text(cells: Union[str, Sequence[Any]], limit: int) -> str:
                 f"`.` is an empty cell, and {SPEEDS[0]} to {SPEEDS[limit]} are cars"
             )
         return cells
-    return "".join([_sign(cell, limit) for cell in cells])
+    return "".join([_character(cell, limit) for cell in cells])
 
 
-def _sign(cell: Any, limit: int) -> str:
+def _character(cell: Any, limit: int) -> str:
     """The character of a cell."""
     if cell is None:
         return "."
     if isinstance(cell, bool):
-        raise ParameterError(f"{_NO_ROAD}: {cell} says whether a car is there, and not how fast it is")
-    if isinstance(cell, float) and not isinstance(cell, Enum) or getattr(getattr(cell, "dtype", None), "kind", "") == "f":
+        raise ParameterError(f"{_ROAD_FORM}: {cell} says whether a car is there, and not how fast it is")
+    is_float_of_numpy = getattr(getattr(cell, "dtype", None), "kind", "") == "f"
+    if is_float_of_numpy or isinstance(cell, float) and not isinstance(cell, Enum):
         cell = float(cell)
         if math.isnan(cell):
             return "."
         cell = int(cell) if cell.is_integer() else cell
     try:
-        speed = whole("a speed", cell, -1)
+        speed = checked_int("a speed", cell, -1)
     except ParameterError as error:
-        raise ParameterError(f"{_NO_ROAD}: {error}") from None
+        raise ParameterError(f"{_ROAD_FORM}: {error}") from None
     if speed > limit:
         raise ParameterError(f"a car has the speed {shown(speed)}, and the limit is {limit} cells per step")
     return "." if speed < 0 else SPEEDS[speed]
@@ -128,6 +132,7 @@ def _refuse_occupancy(lanes: Sequence[str]) -> None:
     """Raises `ParameterError` if these speeds may be meant as 1 for a car and 0 for an empty cell."""
     if not any(set(lane) - {"0", "1"} for lane in lanes):
         raise ParameterError(
-            "a list of only 0 and 1 is not a road, because 0 is a stopped car and not an empty cell: write None, NaN or -1 for "
-            f"an empty cell. If every cell has a car, write the characters of a file, for example {lanes[0][:9]!r}"
+            "a list of only 0 and 1 is not a road, because 0 is a stopped car and not an empty cell: write None, NaN "
+            "or -1 for an empty cell. If every cell has a car, write the characters of a file, for example "
+            f"{lanes[0][:9]!r}"
         )

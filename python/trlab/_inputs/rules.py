@@ -8,7 +8,7 @@ from typing import Union
 
 from .._errors import ParameterError
 from .._rules.functions import PythonRule, need_own_words, program_of
-from .numbers import Probability, parts, probability, shown, store, whole
+from .numbers import Probability, checked_int, parts, probability, shown, store
 
 
 @dataclass(frozen=True)
@@ -56,10 +56,10 @@ class Rickert:
 
 @dataclass(frozen=True)
 class Own:
-    """Your own driver programs: Python functions (see `trlab.motion` and `trlab.change`), the text that `trlab check` reads, or one
-    line `code X`. Functions are stored as the text of their programs. Without `change` no car changes lanes. Raises `RuleError` if
-    a function is not a rule, and `ParameterError` if both programs use the same random word, although a function does not
-    give it by `word=`."""
+    """Your own driver programs: Python functions (see `trlab.motion` and `trlab.change`), the text that `trlab check`
+    reads, or one line `code X`. Functions are stored as the text of their programs. Without `change` no car changes
+    lanes. Raises `RuleError` if a function is not a rule, and `ParameterError` if both programs use the same random
+    word, although a function does not give it by `word=`."""
 
     motion: Union[str, PythonRule]
     change: Union[None, str, PythonRule] = None
@@ -67,31 +67,32 @@ class Own:
     def __post_init__(self) -> None:
         motion, change = program_of("motion", self.motion), program_of("change", self.change)
         need_own_words(motion, change)
-        store(self, motion=_judged("motion", motion), change=None if change is None else _judged("change", change))
+        store(self, motion=_checked_program("motion", motion))
+        store(self, change=None if change is None else _checked_program("change", change))
 
     def lines(self) -> list[str]:
-        changes = [] if self.change is None else _part("change", str(self.change))
-        return ["rule own", *_part("motion", str(self.motion)), *changes]
+        changes = [] if self.change is None else _lines_of_program("change", str(self.change))
+        return ["rule own", *_lines_of_program("motion", str(self.motion)), *changes]
 
 
 Rule = Union[Nasch, SlowToStart, Rickert, Own]
 
 
 class Schedule(Mapping[int, Rule]):
-    """Rules by the step at which they take over, in the order of steps. It compares like a dict, and has a hash because it cannot
-    be changed."""
+    """Rules by the step at which they take over, in the order of steps. It compares like a dict, and has a hash because
+    it cannot be changed."""
 
     def __init__(self, rules: Mapping[int, Rule], steps: int) -> None:
         """Raises `ParameterError` if a step is not a whole number from 0 to less than `steps`."""
         if not isinstance(rules, Mapping):
             raise ParameterError(f"`at` must be a dict of rules by their first step, not {shown(rules)}")
-        found = [(whole("a step of `at`", step, 0), need_rule(rule)) for step, rule in rules.items()]
-        for step, _ in found:
+        rule_at = {checked_int("a step of `at`", step, 0): need_rule(rule) for step, rule in rules.items()}
+        for step in rule_at:
             if step >= steps:
                 raise ParameterError(f"a step of `at` must be below `steps`, which is {steps}, not {shown(step)}")
-        self._rules: dict[int, Rule] = dict(sorted(found, key=lambda it: it[0]))
-        if len(self._rules) < len(found):
+        if len(rule_at) < len(rules):
             raise ParameterError("two rules of `at` have the same step")
+        self._rules: dict[int, Rule] = {step: rule_at[step] for step in sorted(rule_at)}
 
     def __getitem__(self, step: int) -> Rule:
         return self._rules[step]
@@ -112,15 +113,17 @@ class Schedule(Mapping[int, Rule]):
 def need_rule(rule: object) -> Rule:
     """The rule; raises `ParameterError` if this is not one."""
     if isinstance(rule, PythonRule):
-        raise ParameterError(f"a rule for the cars is `Own({rule.name})`, or `Own({rule.name}(..))` with parameters, not `{rule.name}`")
+        raise ParameterError(
+            f"a rule for the cars is `Own({rule.name})`, or `Own({rule.name}(..))` with parameters, not `{rule.name}`"
+        )
     if not isinstance(rule, (Nasch, SlowToStart, Rickert, Own)):
         raise ParameterError(f"a rule is Nasch, SlowToStart, Rickert or Own, not {shown(rule)}")
     return rule
 
 
-def _judged(kind: str, program: object) -> str:
-    """The program as Python's own string; raises `ParameterError` if this cannot be the text of a program of this kind. Only the
-    verifier decides whether the program is safe: see `check`."""
+def _checked_program(kind: str, program: object) -> str:
+    """The program as Python's own string; raises `ParameterError` if this cannot be the text of a program of this kind.
+    Only the verifier decides whether the program is safe: see `check`."""
     if not isinstance(program, str) or isinstance(program, Enum):
         raise ParameterError(f"a {kind} program is a text, not {shown(program)}")
     lines = program.strip("\n").split("\n")
@@ -140,9 +143,9 @@ def _judged(kind: str, program: object) -> str:
     return str.__str__(program)
 
 
-def _part(kind: str, program: str) -> list[str]:
-    """The lines of a program in a file. Its first line may be left out, and `end` is not one of them. Empty lines at the
-    start do not count, so that a program may be written between triple quotes."""
+def _lines_of_program(kind: str, program: str) -> list[str]:
+    """The lines of a program in a file. Its first line may be left out, and `end` is not one of them. Empty lines at
+    the start do not count, so that a program may be written between triple quotes."""
     lines = program.lstrip("\n").removesuffix("\n").split("\n")
     if lines[0].startswith("code "):
         return lines[:1]

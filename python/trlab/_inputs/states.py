@@ -16,16 +16,19 @@ from collections.abc import Iterable, Iterator
 from typing import Optional
 
 from .._errors import ParameterError, TrlabWarning
-from .numbers import MAX_KEY, MAX_SPEED, derived_key, shown, store, whole
+from .numbers import MAX_KEY, MAX_SPEED, checked_int, derived_key, shown, store
 from .roads import SPEEDS as SPEEDS
 
 PLACEMENTS = ("even", "jammed", "random")
 
+MAX_EXAMPLES = 3
+"""The maximum number of examples in a warning about lanes."""
+
 
 @dataclass(frozen=True)
 class InitialState:
-    """An initial state: `even`, `moving`, `jammed` or `random_cells(seed)`. `placement` is "even", "jammed" or "random";
-    `speed` and `seed` are as in `random_cells`."""
+    """An initial state: `even`, `moving`, `jammed` or `random_cells(seed)`. `placement` is "even", "jammed" or
+    "random"; `speed` and `seed` are as in `random_cells`."""
 
     placement: str
     speed: Optional[int] = 0
@@ -36,18 +39,18 @@ class InitialState:
             raise ParameterError(f"a placement is one of {', '.join(PLACEMENTS)}, not {shown(self.placement)}")
         store(self, placement=next(name for name in PLACEMENTS if name == self.placement))
         if self.speed is not None:
-            store(self, speed=whole("speed", self.speed, 0, MAX_SPEED))
+            store(self, speed=checked_int("speed", self.speed, 0, MAX_SPEED))
         if self.placement == "random":
-            store(self, seed=whole("seed", self.seed, 0, MAX_KEY))
+            store(self, seed=checked_int("seed", self.seed, 0, MAX_KEY))
         elif self.seed is not None:
             raise ParameterError(f"a seed is for random cells only, not for {self.placement!r}")
 
-    def judge(self, limit: int) -> None:
+    def need_limit(self, limit: int) -> None:
         # Raises `ParameterError` if the cars are faster than the limit.
         if self.speed is not None and self.speed > limit:
             raise ParameterError(f"all cars start with the speed {self.speed}, and the limit is {limit} cells per step")
 
-    def taken(self, cars: int, cells: int) -> Iterable[int]:
+    def occupied_cells(self, cars: int, cells: int) -> Iterable[int]:
         # The cells of `cars` cars on `cells` cells, which are counted across the lanes.
         if self.placement == "random":
             numbers = _random.Random(self.seed)
@@ -58,9 +61,9 @@ class InitialState:
     def on_lanes(self, cars: int, length: int, lanes: int, limit: int) -> tuple[str, ...]:
         # The lanes of a road with `cars` cars in total, as in a file.
         road = [["."] * length for _ in range(lanes)]
-        sign = SPEEDS[limit if self.speed is None else self.speed]
-        for cell in self.taken(cars, length * lanes):
-            road[cell % lanes][cell // lanes] = sign
+        character = SPEEDS[limit if self.speed is None else self.speed]
+        for cell in self.occupied_cells(cars, length * lanes):
+            road[cell % lanes][cell // lanes] = character
         return tuple("".join(lane) for lane in road)
 
     def of_point(self, number: int) -> InitialState:
@@ -72,9 +75,9 @@ class InitialState:
 
 
 even = InitialState("even")
-"""Evenly spaced and stopped, the default. On two lanes the cells are counted across the lanes, so that more cars may be on lane 0
-than on lane 1: all of them if their number divides the lane length. If the lanes differ by more than one car, the job or sweep
-issues a `TrlabWarning` with the numbers."""
+"""Evenly spaced and stopped, the default. On two lanes the cells are counted across the lanes, so that more cars may be
+on lane 0 than on lane 1: all of them if their number divides the lane length. If the lanes differ by more than one car,
+the job or sweep issues a `TrlabWarning` with the numbers."""
 
 moving = InitialState("even", None)
 """Evenly spaced, at the maximum speed, on the same cells as with `even`."""
@@ -92,51 +95,56 @@ def random_cells(seed: int, speed: Optional[int] = 0) -> InitialState:
 def surplus(cars: int, length: int) -> int:
     """How many more cars are on lane 0 than on lane 1, if `cars` cars are evenly spaced on two lanes of `length` cells.
 
-    The cells of the cars repeat `gcd(cars, 2 * length)` times. If such a period has an even number of cells, one more of
-    its cells with a car is on lane 0 than on lane 1; if it is odd, every second period begins on lane 1."""
+    The cells of the cars repeat `gcd(cars, 2 * length)` times. If such a period has an even number of cells, one more
+    of its cells with a car is on lane 0 than on lane 1; if it is odd, every second period begins on lane 1."""
     periods = gcd(cars, 2 * length)
     return periods if cars and 2 * length // periods % 2 == 0 else 0
 
 
 def halved(cars: int, length: int) -> list[int]:
-    """The nearest numbers of cars below and above this one for which, evenly spaced on two lanes, at most one more car is on lane
-    0."""
+    """The nearest numbers of cars below and above this one for which, evenly spaced on two lanes, at most one more car
+    is on lane 0."""
     below = next(count for count in range(cars, -1, -1) if surplus(count, length) <= 1)
     above = next((count for count in range(cars, 2 * length + 1) if surplus(count, length) <= 1), below)
     return sorted({below, above})
 
 
-_IS_TOLD: ContextVar[bool] = ContextVar("trlab_lanes_are_told", default=False)
+_IS_SILENT: ContextVar[bool] = ContextVar("trlab_no_warning_of_lanes", default=False)
 
 
 @contextmanager
-def lanes_are_told() -> Iterator[None]:
-    """Inputs that are made in this block give no warning about their lanes, because the input that they are made from has given
-    it."""
-    before = _IS_TOLD.set(True)
+def no_warning_of_lanes() -> Iterator[None]:
+    """Inputs that are made in this block give no warning about their lanes, because the input that they are made from
+    has given it."""
+    token = _IS_SILENT.set(True)
     try:
         yield
     finally:
-        _IS_TOLD.reset(before)
+        _IS_SILENT.reset(token)
 
 
-def tell_lanes(start: object, counts: Iterable[int], length: int, lanes: int) -> None:
+def warn_of_uneven_lanes(start: object, counts: Iterable[int], length: int, lanes: int) -> None:
     """Warns if evenly spaced cars are not halved between two lanes."""
-    if lanes != 2 or not isinstance(start, InitialState) or start.placement != "even" or _IS_TOLD.get():
+    if lanes != 2 or not isinstance(start, InitialState) or start.placement != "even" or _IS_SILENT.get():
         return
     uneven = [cars for cars in dict.fromkeys(counts) if surplus(cars, length) > 1]
     if not uneven:
         return
-    told = [f"{cars} cars are {(cars + more) // 2} on lane 0 and {(cars - more) // 2} on lane 1"
-            for cars in uneven[:3] for more in [surplus(cars, length)]]
-    others = f"; further uneven numbers of cars: {len(uneven) - 3}" if len(uneven) > 3 else ""
+    examples = "; ".join(_cars_by_lane(cars, length) for cars in uneven[:MAX_EXAMPLES])
+    further = len(uneven) - MAX_EXAMPLES
+    others = f"; further uneven numbers of cars: {further}" if further > 0 else ""
     near = " or ".join(map(str, halved(uneven[0], length)))
     warnings.warn(
-        f"evenly spaced on two lanes of {length} cells, {'; '.join(told)}{others}: use `start=random_cells(seed)`, or {near} "
+        f"evenly spaced on two lanes of {length} cells, {examples}{others}: use `start=random_cells(seed)`, or {near} "
         f"instead of {uneven[0]} cars",
         TrlabWarning,
         stacklevel=_level_of_user(),
     )
+
+
+def _cars_by_lane(cars: int, length: int) -> str:
+    difference = surplus(cars, length)
+    return f"{cars} cars are {(cars + difference) // 2} on lane 0 and {(cars - difference) // 2} on lane 1"
 
 
 def _level_of_user() -> int:

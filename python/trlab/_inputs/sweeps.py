@@ -8,17 +8,17 @@ from typing import Any, Optional, Union, cast
 
 from .._errors import ParameterError
 from .._runs.calls import ask
-from .._results.tables import Point, Table
+from .._results.tables import Point, Table, point_of
 from . import reading
 from .jobs import Job
 from .numbers import (
-    MAX_ALL_STEPS, MAX_CELLS, MAX_POINTS, MAX_SPEED, MAX_STEPS, MAX_THREADS, Density, Key, cars_at, checked_key, derived_key,
-    key_digits, share, shown, store, whole,
+    MAX_ALL_STEPS, MAX_CELLS, MAX_POINTS, MAX_SPEED, MAX_STEPS, MAX_THREADS, Density, Key, cars_at, checked_int,
+    checked_key, derived_key, key_digits, share, shown, store,
 )
 from .roads import Road, cars_on, roads_of
 from .rules import Rule, need_rule
-from .states import InitialState, even, lanes_are_told, tell_lanes
-from .words import input_text, option
+from .states import InitialState, even, no_warning_of_lanes, warn_of_uneven_lanes
+from .arguments import input_text, option
 
 
 @dataclass(frozen=True)
@@ -39,7 +39,8 @@ class Sweep:
       `cars` and `densities`). For 20 repetitions of one road write `20 * [road]`.
 
     **An even initial state biases the mean** for thousands of steps, by up to 0.3 percent with `warm=3000` (see
-    STUDIES.md). If the third digit matters, sweep from `random_cells` states too and choose a `warm` for which they agree.
+    STUDIES.md). If the third digit matters, sweep from `random_cells` states too and choose a `warm` for which they
+    agree.
 
     An even sweep of at most 200 points and 500,000 steps in total is a single input, `.text()`; a larger sweep runs as
     its `.parts()`. From any other state, or if `warm + measure` is above 500,000, every point is a job of `.jobs()`.
@@ -58,36 +59,39 @@ class Sweep:
     start: Union[InitialState, Sequence[Road]] = even
 
     def __post_init__(self) -> None:
-        store(self, limit=whole("limit", self.limit, 1, MAX_SPEED), length=whole("length", self.length, 1, MAX_CELLS))
-        store(self, lanes=whole("lanes", self.lanes, 1, 2), key=checked_key(self.key), rule=need_rule(self.rule))
-        store(self, warm=whole("warm", self.warm, 0, MAX_ALL_STEPS // 2))
-        store(self, measure=whole("measure", self.measure, 1, MAX_ALL_STEPS // 2))
+        store(self, limit=checked_int("limit", self.limit, 1, MAX_SPEED))
+        store(self, length=checked_int("length", self.length, 1, MAX_CELLS))
+        store(self, lanes=checked_int("lanes", self.lanes, 1, 2), key=checked_key(self.key), rule=need_rule(self.rule))
+        store(self, warm=checked_int("warm", self.warm, 0, MAX_ALL_STEPS // 2))
+        store(self, measure=checked_int("measure", self.measure, 1, MAX_ALL_STEPS // 2))
         if self.cars is not None:
-            store(self, cars=tuple(whole("cars", cars, 0, self.cells()) for cars in _listed("cars", self.cars)))
+            store(self, cars=tuple(checked_int("cars", cars, 0, self.cells()) for cars in _listed("cars", self.cars)))
         if self.densities is not None:
-            store(self, densities=tuple(share("a density of `densities`", it) for it in _listed("densities", self.densities)))
+            densities = _listed("densities", self.densities)
+            store(self, densities=tuple(share("a density of `densities`", density) for density in densities))
         if not isinstance(self.start, InitialState):
             if not (self.cars is None and self.densities is None):
                 raise ParameterError("roads as `start` have their own cars: leave `cars` and `densities` out")
             store(self, start=roads_of(self.start, self.length, self.lanes, self.limit))
         else:
-            self.start.judge(self.limit)
+            self.start.need_limit(self.limit)
             if (self.cars is None) == (self.densities is None):
                 raise ParameterError("a sweep needs either `cars` or `densities`")
         if not self.counts():
             raise ParameterError("a sweep needs at least one point")
-        tell_lanes(self.start, self.counts(), self.length, self.lanes)
+        warn_of_uneven_lanes(self.start, self.counts(), self.length, self.lanes)
 
     @classmethod
     def read(cls, path: Union[str, os.PathLike[str]]) -> Sweep:
         """Read a sweep file: a sweep with the same `.text()`, to the last byte. Its probabilities are fractions. Raises
-        `RejectedInputError` with the explanation if the program rejects the file, and `ParameterError` if the file is not UTF-8
-        or does not end with a line feed."""
+        `RejectedInputError` with the explanation if the program rejects the file, and `ParameterError` if the file is
+        not UTF-8 or does not end with a line feed."""
         return cls.from_text(reading.content_of(path, "Sweep"))
 
     @classmethod
     def from_text(cls, text: str) -> Sweep:
-        """Make a sweep from a text that `.text()` returned, or from the content of a sweep file. Raises the errors of `read`."""
+        """Make a sweep from a text that `.text()` returned, or from the content of a sweep file. Raises the errors of
+        `read`."""
         reading.need_accepted("sweep", text)
         return reading.need_same(cls(**reading.sweep_of(text)), text)
 
@@ -119,7 +123,9 @@ class Sweep:
         if self.start != even:
             raise ParameterError("a sweep file begins with evenly spaced cars, but this sweep does not: use `jobs()`")
         if steps > MAX_STEPS:
-            raise ParameterError(f"a point of a sweep file has at most {MAX_STEPS} steps, and this has {steps}: use `jobs()`")
+            raise ParameterError(
+                f"a point of a sweep file has at most {MAX_STEPS} steps, and this has {steps}: use `jobs()`"
+            )
         if count > self._points_of_input():
             raise ParameterError(
                 f"a sweep file has at most {MAX_POINTS} points and {MAX_STEPS} steps of all points together, "
@@ -137,18 +143,18 @@ class Sweep:
         if self.is_of_jobs():
             raise ParameterError("the points of this sweep are jobs: use `jobs()`")
         counts, size = self.counts(), self._points_of_input()
-        cut = [counts[first : first + size] for first in range(0, len(counts), size)]
-        keys = [self.key, *(derived_key("part", self.key, number) for number in range(1, len(cut)))]
-        with lanes_are_told():
-            return [replace(self, cars=part, densities=None, key=key) for part, key in zip(cut, keys)]
+        groups = [counts[first : first + size] for first in range(0, len(counts), size)]
+        keys = [self.key, *(derived_key("part", self.key, number) for number in range(1, len(groups)))]
+        with no_warning_of_lanes():
+            return [replace(self, cars=group, densities=None, key=key) for group, key in zip(groups, keys)]
 
     def jobs(self) -> list[Job]:
         """One job per point, of `warm + measure` steps: its `series(every=measure, first=warm)` is the point's row.
-        Point i, from 0 on, has the key derived from `trlab point KEY i`. The seed of `random_cells(seed)` is derived from
-        `trlab seed SEED i`, read as a hexadecimal number. Jobs of an even sweep draw other random numbers than its
+        Point i, from 0 on, has the key derived from `trlab point KEY i`. The seed of `random_cells(seed)` is derived
+        from `trlab seed SEED i`, read as a hexadecimal number. Jobs of an even sweep draw other random numbers than its
         `.text()`."""
         steps = self.warm + self.measure
-        with lanes_are_told():
+        with no_warning_of_lanes():
             return [
                 Job(limit=self.limit, rule=self.rule, steps=steps, key=derived_key("point", self.key, number), **state)
                 for number, state in enumerate(self._initial_states())
@@ -163,9 +169,10 @@ class Sweep:
             yield {"length": self.length, "lanes": self.lanes, "cars": cars, "start": self.start.of_point(number)}
 
     def sweep(self, *, runners: int = 1, workers: int = 1) -> Table[Point]:
-        """The table, one row per point, in order. `runners` points, 1 to 16, run at a time, each with `workers` threads, 1 to 16,
-        which does not change the table."""
-        runners, workers = whole("runners", runners, 1, MAX_THREADS), whole("workers", workers, 1, MAX_THREADS)
+        """The table, one row per point, in order. `runners` points, 1 to 16, run at a time, each with `workers`
+        threads, 1 to 16, which does not change the table."""
+        runners = checked_int("runners", runners, 1, MAX_THREADS)
+        workers = checked_int("workers", workers, 1, MAX_THREADS)
         if self.is_of_jobs():
             return self._table_of_jobs(runners, workers)
         options = option("runners", runners, 1) + option("workers", workers, 1)
@@ -178,7 +185,7 @@ class Sweep:
 
         def point(job: Job) -> Point:
             (window,) = job.series(every=self.measure, first=self.warm, workers=workers)
-            return Point(*window[1 : 1 + len(Point._fields)])
+            return point_of(window)
 
         return Table(Point, run_all(self.jobs(), point, at_once=runners))
 

@@ -28,22 +28,22 @@ COLUMNS = (
 class Drift(NamedTuple):
     """The result of `Table.drift`: whether the initial state still matters.
 
-    `z` is positive if the series rises. `p`, 0 to 1, is the probability that a stationary series has a `z` at least as far
-    from 0. With S(k) the sum of the first k deviations from the mean of n values,
+    `z` is positive if the series rises. `p`, 0 to 1, is the probability that a stationary series has a `z` at least as
+    far from 0. With S(k) the sum of the first k deviations from the mean of n values,
 
         z = -sqrt(45) / (n**1.5 * sigma) * (sum over k from 1 to n of (1 - k / n) * S(k))
 
-    (L. W. Schruben, H. Singh and L. Tierney, Optimal tests for initialization bias in simulation output, Operations Research
-    31, 1167-1178, 1983). z gives most weight to the beginning of the series. For a long stationary series it has the standard
-    normal distribution, if sigma**2 / n is the variance of the mean. Here sigma is estimated from the last half of the series,
-    which the initial state affects least, with the means of 20 batches of consecutive windows. So `p` follows Student's
-    distribution with 19 degrees of freedom.
+    (L. W. Schruben, H. Singh and L. Tierney, Optimal tests for initialization bias in simulation output, Operations
+    Research 31, 1167-1178, 1983). z gives most weight to the beginning of the series. For a long stationary series it
+    has the standard normal distribution, if sigma**2 / n is the variance of the mean. Here sigma is estimated from the
+    last half of the series, which the initial state affects least, with the means of 20 batches of consecutive windows.
+    So `p` follows Student's distribution with 19 degrees of freedom.
 
-    The batches must be nearly independent: a batch, which is 1/40 of the series, must be longer than the time after which
-    the flow forgets a fluctuation. Otherwise the test reports drifts that do not exist. If `p` is small, leave out more
-    steps (`first`). A large `p` does not prove that nothing drifts, because the test misses a drift much smaller than the
-    noise. You should then test several series with different keys: if none drifts, the sum of their `z`, divided by the
-    square root of their number, has nearly the standard normal distribution."""
+    The batches must be nearly independent: a batch, which is 1/40 of the series, must be longer than the time after
+    which the flow forgets a fluctuation. Otherwise the test reports drifts that do not exist. If `p` is small, leave
+    out more steps (`first`). A large `p` does not prove that nothing drifts, because the test misses a drift much
+    smaller than the noise. You should then test several series with different keys: if none drifts, the sum of their
+    `z`, divided by the square root of their number, has nearly the standard normal distribution."""
 
     z: float
     p: float
@@ -65,8 +65,8 @@ def drift_of_series(table: Table[Row], column: str) -> Drift:
     for before, after in zip(windows, windows[1:]):
         if after.step != before.step + after.steps or after[1:4] != before[1:4]:
             raise EstimateError(
-                f"the window of step {after.step} does not follow that of step {before.step}: the test needs the consecutive "
-                "windows of one run, all equally long"
+                f"the window of step {after.step} does not follow that of step {before.step}: the test needs the "
+                "consecutive windows of one run, all equally long"
             )
     values = [getattr(window, column) for window in windows]
     if not all(map(isfinite, values)):

@@ -6,7 +6,7 @@ from dataclasses import dataclass
 from typing import Any, Optional
 
 from .._errors import SnapshotsError
-from .._inputs.numbers import whole
+from .._inputs.numbers import checked_int
 from .arrays import numpy
 from .snapshots import Snapshot
 from .written import EMPTY, NUMBERS
@@ -23,40 +23,42 @@ class OnRoad:
     cell: Array
 
     def ahead(self, places: int = 1) -> Array:
-        """The number of the car `places` places ahead on the same lane, which is a ring: of n cars, n places ahead is the car
-        itself. On one lane no car overtakes, so it is the same in all steps."""
-        whole("places", places, 0)
+        """The number of the car `places` places ahead on the same lane, which is a ring: of n cars, n places ahead is
+        the car itself. On one lane no car overtakes, so it is the same in all steps."""
+        checked_int("places", places, 0)
         lane, cell = self.lane.astype(numpy.int64), self.cell.astype(numpy.int64)
         cars = cell.shape[-1]
         ring = numpy.argsort(lane * self.length + cell, axis=-1)  # the cars of each step, lane by lane and by cell
-        on, place = numpy.take_along_axis(lane, ring, axis=-1), numpy.arange(cars)
-        on_lane_0 = (on == 0).sum(axis=-1, keepdims=True)
-        first, count = numpy.where(on == 0, 0, on_lane_0), numpy.where(on == 0, on_lane_0, cars - on_lane_0)
-        found = numpy.empty_like(cell)
-        leaders = numpy.take_along_axis(ring, first + (place - first + places) % count, axis=-1)
-        numpy.put_along_axis(found, ring, leaders, axis=-1)
-        return found
+        lane_of_place, place = numpy.take_along_axis(lane, ring, axis=-1), numpy.arange(cars)
+        on_lane_0 = (lane_of_place == 0).sum(axis=-1, keepdims=True)
+        # The place of the first car of the lane, and the number of its cars.
+        first = numpy.where(lane_of_place == 0, 0, on_lane_0)
+        count = numpy.where(lane_of_place == 0, on_lane_0, cars - on_lane_0)
+        leader_of_place = numpy.take_along_axis(ring, first + (place - first + places) % count, axis=-1)
+        leader_of_car = numpy.empty_like(cell)
+        numpy.put_along_axis(leader_of_car, ring, leader_of_place, axis=-1)
+        return leader_of_car
 
     def gaps(self) -> Array:
-        """The gap of each car: the empty cells up to the next car ahead on its lane, (x' - x - 1) mod `length` for the cells x
-        and x' of both, 0 to `length` - 1. The gap of the only car on a lane is all other cells."""
+        """The gap of each car: the empty cells up to the next car ahead on its lane, (x' - x - 1) mod `length` for the
+        cells x and x' of both, 0 to `length` - 1. The gap of the only car on a lane is all other cells."""
         cell = self.cell.astype(numpy.int64)
         return (numpy.take_along_axis(cell, self.ahead(), axis=-1) - cell - 1) % self.length
 
     def space_headways(self) -> Array:
-        """The space headway of each car: the cells from it to the next car ahead on its lane, 1 to `length`. It is the gap
-        plus 1, so that its mean over the cars of a lane is 1 / density."""
+        """The space headway of each car: the cells from it to the next car ahead on its lane, 1 to `length`. It is the
+        gap plus 1, so that its mean over the cars of a lane is 1 / density."""
         return self.gaps() + 1
 
 
 @dataclass(frozen=True, eq=False, repr=False)
 class Cars(OnRoad):
-    """All cars after a step, in arrays of 64-bit integers, one number for each car. Cars keep their numbers from step to
-    step; they are numbered from 0 by lane and cell in the first snapshot.
+    """All cars after a step, in arrays of 64-bit integers, one number for each car. Cars keep their numbers from step
+    to step; they are numbered from 0 by lane and cell in the first snapshot.
 
-    `lane` is 0 or 1, and `cell` 0 to `length` - 1. `speed` is the number of cells that the car drove in this step (in the first
-    snapshot: its speed there). `distance` is the cell in the first snapshot plus all speeds since, so that it is not wrapped
-    round the ring."""
+    `lane` is 0 or 1, and `cell` 0 to `length` - 1. `speed` is the number of cells that the car drove in this step (in
+    the first snapshot: its speed there). `distance` is the cell in the first snapshot plus all speeds since, so that it
+    is not wrapped round the ring."""
 
     step: int
     length: int
@@ -80,9 +82,10 @@ def follow(snapshots: Iterable[Snapshot]) -> Iterator[Cars]:
         next(cars)  # no car has driven yet
         distance = sum(now.speed.sum() for now in cars)
 
-    A car at speed v came from the cell v behind it, of its own lane or of the other one. If both cells were occupied, it came
-    from its own lane, because a car changes lanes only if its side cell is empty. Raises `SnapshotsError` if steps are missing,
-    if the cars of a snapshot do not come from those of the one before it, or if a car drove further than its gap."""
+    A car at speed v came from the cell v behind it, of its own lane or of the other one. If both cells were occupied,
+    it came from its own lane, because a car changes lanes only if its side cell is empty. Raises `SnapshotsError` if
+    steps are missing, if the cars of a snapshot do not come from those of the one before it, or if a car drove further
+    than its gap."""
     cars: Optional[Cars] = None
     for snapshot in snapshots:
         cars = _first(snapshot) if cars is None else _next(cars, snapshot)
@@ -92,10 +95,14 @@ def follow(snapshots: Iterable[Snapshot]) -> Iterator[Cars]:
 def _first(snapshot: Snapshot) -> Cars:
     lanes, length = len(snapshot.lanes), len(snapshot.lanes[0]) if snapshot.lanes else 0
     if not 1 <= lanes <= 2 or not length:
-        raise SnapshotsError(f"the road of step {snapshot.step} has {lanes} lanes of {length} cells: a road has one or two")
+        raise SnapshotsError(
+            f"the road of step {snapshot.step} has {lanes} lanes of {length} cells: a road has one or two"
+        )
     place, speed = _cars_on(snapshot, lanes, length)
     lane, cell = numpy.divmod(place, length)
-    return Cars(snapshot.step, length, lanes, lane, cell, cell.copy(), speed)
+    return Cars(
+        step=snapshot.step, length=length, lanes=lanes, lane=lane, cell=cell, distance=cell.copy(), speed=speed
+    )
 
 
 def _next(before: Cars, snapshot: Snapshot) -> Cars:
@@ -108,21 +115,25 @@ def _next(before: Cars, snapshot: Snapshot) -> Cars:
         )
     place, speed = _cars_on(snapshot, lanes, length)
     lane, cell = numpy.divmod(place, length)
-    came_from, numbers = cell - speed, numpy.arange(len(before))
-    car_at = numpy.empty(lanes * length, dtype=numpy.int64)
-    car_at.fill(-1)
+    origin, numbers = cell - speed, numpy.arange(len(before))
+    car_at = numpy.full(lanes * length, -1, dtype=numpy.int64)
     car_at[before.lane * length + before.cell] = numbers
-    car = car_at[lane * length + came_from % length]
+    car = car_at[lane * length + origin % length]
     if lanes == 2:
-        car = numpy.where(car >= 0, car, car_at[(1 - lane) * length + came_from % length])
+        car = numpy.where(car >= 0, car, car_at[(1 - lane) * length + origin % length])
     # Sorting whole runs of numbers takes no longer than reading them.
     of_car = car.argsort(kind="stable")
-    if len(car) != len(before) or (car[of_car] != numbers).any() or _is_too_fast(cell, came_from, int((lane == 0).sum()), length):
+    is_each_car_there = len(car) == len(before) and bool((car[of_car] == numbers).all())
+    if not is_each_car_there or _is_too_fast(cell, origin, int((lane == 0).sum()), length):
         raise SnapshotsError(
-            f"the cars of step {snapshot.step} do not come from those of step {before.step}: these are not snapshots of one run"
+            f"the cars of step {snapshot.step} do not come from those of step {before.step}: these are not snapshots "
+            "of one run"
         )
     speed = speed[of_car]
-    return Cars(snapshot.step, length, lanes, lane[of_car], cell[of_car], before.distance + speed, speed)
+    return Cars(
+        step=snapshot.step, length=length, lanes=lanes, lane=lane[of_car], cell=cell[of_car],
+        distance=before.distance + speed, speed=speed,
+    )
 
 
 def _cars_on(snapshot: Snapshot, lanes: int, length: int) -> tuple[Array, Array]:
@@ -138,8 +149,8 @@ def _cars_on(snapshot: Snapshot, lanes: int, length: int) -> tuple[Array, Array]
 
 
 def _is_too_fast(cell: Array, came_from: Array, on_lane_0: int, length: int) -> bool:
-    """Whether a car drove further than its gap, so that it is not behind the cell that the car ahead of it had before the
-    motion. Cars are in the order of their lanes and cells."""
+    """Whether a car drove further than its gap, so that it is not behind the cell that the car ahead of it had before
+    the motion. Cars are in the order of their lanes and cells."""
     for on_lane in slice(0, on_lane_0), slice(on_lane_0, None):
         now, then = cell[on_lane], came_from[on_lane]
         # The first car of a lane is ahead of the last one.

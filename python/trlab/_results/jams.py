@@ -8,13 +8,13 @@ from .following import Array
 
 
 class Jam(NamedTuple):
-    """A jam: it exists for `lifetime` steps from step `first` on; `cars` is the number of different cars in it, and `size`
-    their stopped time in car-steps.
+    """A jam: it exists for `lifetime` steps from step `first` on; `cars` is the number of different cars in it, and
+    `size` their stopped time in car-steps.
 
-    Two stopped cars (speed 0) belong to one jam if they are in neighbouring cells of a lane after the same step, or are the
-    same car after consecutive steps. If `is_older`, the jam is in the first snapshot, so that its beginning was not seen; if
-    `is_censored`, it is in the last one, so that its end was not seen. Its lifetime, cars and size are then lower bounds. For
-    the mean lifetime leave out older jams, and count censored ones as not observed:
+    Two stopped cars (speed 0) belong to one jam if they are in neighbouring cells of a lane after the same step, or are
+    the same car after consecutive steps. If `is_older`, the jam is in the first snapshot, so that its beginning was not
+    seen; if `is_censored`, it is in the last one, so that its end was not seen. Its lifetime, cars and size are then
+    lower bounds. For the mean lifetime leave out older jams, and count censored ones as not observed:
 
         jams = [jam for jam in trajectories.jams() if not jam.is_older]
         trlab.lifetime([jam.lifetime for jam in jams], [not jam.is_censored for jam in jams])"""
@@ -48,7 +48,8 @@ def jams_of(first: int, speed: Array, ahead: Array, gap: Array) -> list[Jam]:
     columns = [column[order].tolist() for column in (begin[heads], lasts, _different(jam, car, heads), sizes)]
     last_row = len(speed) - 1
     return [
-        Jam(first + row, last - row + 1, cars, size, row == 0, last == last_row) for row, last, cars, size in zip(*columns)
+        Jam(first + row, lifetime=last - row + 1, cars=cars, size=size, is_older=row == 0, is_censored=last == last_row)
+        for row, last, cars, size in zip(*columns)
     ]
 
 
@@ -59,16 +60,17 @@ def _touching(stopped: Array, begins: Array, ahead: Array, gap: Array) -> tuple[
     return stops[car, row], stops[ahead[row, car], row]
 
 
-def _joined(count: int, one: Array, other: Array) -> Array:
-    """For each of the numbers below `count`, the smallest number to which pairs connect it."""
+def _joined(count: int, first: Array, second: Array) -> Array:
+    """For each of the numbers below `count`, the smallest number to which the pairs `first`, `second` connect it."""
     root = numpy.arange(count)
-    while len(one):
-        low, high = numpy.minimum(one, other), numpy.maximum(one, other)
+    while len(first):
+        low, high = numpy.minimum(first, second), numpy.maximum(first, second)
         numpy.minimum.at(root, high, low)
         while (root[root] != root).any():
             root = root[root]
-        one, other = root[low], root[high]
-        one, other = one[one != other], other[one != other]
+        first, second = root[low], root[high]
+        is_open = first != second
+        first, second = first[is_open], second[is_open]
     return root
 
 

@@ -41,8 +41,8 @@ class ResultList(MutableSequence[Item]):
     def __getitem__(self: Me, place: slice) -> Me: ...
 
     def __getitem__(self, place: Union[int, slice]) -> Any:
-        found = self._held[place]
-        return self._like(found) if isinstance(place, slice) else found  # type: ignore[arg-type]
+        chosen = self._held[place]
+        return self._like(chosen) if isinstance(place, slice) else chosen  # type: ignore[arg-type]
 
     def __setitem__(self, place: Any, value: Any) -> None:
         self._list()[place] = value

@@ -6,11 +6,11 @@ from __future__ import annotations
 import sys
 from array import array
 from collections.abc import Callable, Sequence
-from typing import Any, Optional
+from typing import Any, NamedTuple, Optional
 
 from .._inputs.numbers import MAX_CELLS, MAX_SPEED
 
-_MILLION = 1000000
+MILLION = 1000000
 
 _OF_POINT = (
     f"a road has 1 to {2 * MAX_CELLS} cells",
@@ -38,13 +38,13 @@ _OF_PAIR = (
 def _point(row: Sequence[Any]) -> tuple[Any, ...]:
     """Which sentences of `_OF_POINT` hold, if this is not a row of a sweep."""
     cars, cells, steps, distance, stopped, changes, flow = row
-    places, car_steps, millionths = cells * steps, cars * steps, _MILLION * distance
+    places, car_steps, millionths = cells * steps, cars * steps, MILLION * distance
     moving = car_steps - stopped
     return (
         (cells < 1) | (cells > 2 * MAX_CELLS), steps < 1, cars > cells, moving < 0,
         (distance < moving) | (distance > MAX_SPEED * moving), distance > places - car_steps,
         (changes > car_steps) | (changes > 0) & (cells % 2 > 0),
-        (flow > _MILLION) | (places * flow > millionths) | (places * (flow + 1) <= millionths),
+        (flow > MILLION) | (places * flow > millionths) | (places * (flow + 1) <= millionths),
     )
 
 
@@ -62,29 +62,44 @@ def _window(row: Sequence[Any]) -> tuple[Any, ...]:
 
 def _pair(before: Sequence[Any], row: Sequence[Any]) -> tuple[Any, ...]:
     """Which sentences of `_OF_PAIR` hold, if one row of a series does not follow the other."""
-    return (row[0] - row[3] != before[0]) | (row[3] != before[3]), (row[1] != before[1]) | (row[2] != before[2])
+    step_before, cars_before, cells_before, steps_before, *_ = before
+    step, cars, cells, steps, *_ = row
+    return (step - steps != step_before) | (steps != steps_before), (cars != cars_before) | (cells != cells_before)
 
 
 _MOST_PLACES = 2**42
-"""With fewer places (cells x steps), a product of the rules leaves 64 bits only if one of its factors breaks another rule."""
+"""With fewer places (cells x steps), a product of the rules leaves 64 bits only if one of its factors breaks another
+rule."""
 
 _FEW = 1000
 """Fewer numbers are checked as fast without numpy."""
 
 
-def first_fault(numbers: array[int], columns: int) -> Optional[tuple[int, str]]:
-    """The number of the first impossible row, from 0, and its contradiction; None if all rows are possible. Tables of 14 columns
-    are series. If numpy is imported, it accepts long tables ten times as fast."""
-    rules, sentences = (_window, _OF_POINT + _OF_LANES) if columns == 14 else (_point, _OF_POINT)
+COLUMNS_OF_SERIES = 14
+"""The number of columns of a series; a sweep has fewer."""
+
+
+class Fault(NamedTuple):
+    """The number of an impossible row, from 0, and its contradiction."""
+
+    row: int
+    contradiction: str
+
+
+def first_fault(numbers: array[int], columns: int) -> Optional[Fault]:
+    """The first impossible row; None if all rows are possible. If numpy is imported, it accepts long tables ten times
+    as fast."""
+    is_series = columns == COLUMNS_OF_SERIES
+    rules, sentences = (_window, _OF_POINT + _OF_LANES) if is_series else (_point, _OF_POINT)
     if _are_possible(numbers, columns, rules):
         return None
     before: Optional[tuple[int, ...]] = None
     for place, row in enumerate(zip(*[iter(numbers)] * columns)):
         faults = rules(row)
         if any(faults):
-            return place, sentences[faults.index(True)]
-        if columns == 14 and before is not None and any(_pair(before, row)):
-            return place, _OF_PAIR[_pair(before, row).index(True)]
+            return Fault(place, sentences[faults.index(True)])
+        if is_series and before is not None and any(_pair(before, row)):
+            return Fault(place, _OF_PAIR[_pair(before, row).index(True)])
         before = row
     return None
 
@@ -95,8 +110,9 @@ def _are_possible(numbers: array[int], columns: int, rules: Callable[[Sequence[A
     if numpy is None or len(numbers) < _FEW:
         return False
     rows = numpy.ascontiguousarray(numpy.frombuffer(numbers, dtype=numpy.int64).reshape(-1, columns).T)
-    cells, steps = (rows[2], rows[3]) if columns == 14 else (rows[1], rows[2])
+    is_series = columns == COLUMNS_OF_SERIES
+    cells, steps = (rows[2], rows[3]) if is_series else (rows[1], rows[2])
     if int(cells.max()) * int(steps.max()) >= _MOST_PLACES:
         return False
-    faults = rules(rows) + (_pair(rows[:, :-1], rows[:, 1:]) if columns == 14 else ())
+    faults = rules(rows) + (_pair(rows[:, :-1], rows[:, 1:]) if is_series else ())
     return not any(fault.any() for fault in faults)

@@ -36,14 +36,14 @@ class _Counted:
 
     @property
     def flow(self) -> float:
-        """Cars per step and lane: distance / (cells * steps). It is the mean over all cells of the cars that pass the end
-        of the cell in a step, and equals density * speed (Edie 1963)."""
+        """Cars per step and lane: distance / (cells * steps). It is the mean over all cells of the cars that pass the
+        end of the cell in a step, and equals density * speed (Edie 1963)."""
         return self.distance / (self.cells * self.steps)
 
     @property
     def speed(self) -> float:
-        """The space-mean speed in cells per step: distance / (cars * steps), the mean over all cars, also stopped ones, and
-        all steps. NaN without cars."""
+        """The space-mean speed in cells per step: distance / (cars * steps), the mean over all cars, also stopped ones,
+        and all steps. NaN without cars."""
         return self.distance / (self.cars * self.steps) if self.cars else nan
 
     @property
@@ -78,7 +78,8 @@ class Point(_PointColumns, _Counted):
     - `distance`: the sum of the new speeds of all cars in all steps, in cells;
     - `stopped`: how often a car had the speed 0 after a step, in car-steps;
     - `changes`: how often a car changed lanes;
-    - `flow_millionths`: the flow of the file, distance * 1000000 / (cells * steps), rounded down. The exact value is `flow`."""
+    - `flow_millionths`: the flow of the file, `distance * 1000000 / (cells * steps)`, rounded down. The exact value is
+      `flow`."""
 
     __slots__ = ()
 
@@ -102,22 +103,27 @@ class _WindowColumns(NamedTuple):
 
 class Window(_WindowColumns, _Counted):
     """A row of a series: the counts of the `steps` steps that end with the snapshot of `step`, with the columns and
-    properties of a `Point`. For lane 0, `cars0` counts its cars after each of these steps, in car-steps (unlike `cars`),
-    `distance0` adds up their speeds, in cells, and `stopped0` counts those that are stopped, in car-steps. The last three
-    columns are for lane 1. So cars0 + cars1 = cars * steps."""
+    properties of a `Point`. For lane 0, `cars0` counts its cars after each of these steps, in car-steps (unlike
+    `cars`), `distance0` adds up their speeds, in cells, and `stopped0` counts those that are stopped, in car-steps. The
+    last three columns are for lane 1. So cars0 + cars1 = cars * steps."""
 
     __slots__ = ()
 
 
+def point_of(window: Window) -> Point:
+    """The row of a sweep with the counts of a window."""
+    return Point(*(getattr(window, name) for name in Point._fields))
+
+
 Row = TypeVar("Row", Point, Window)
 
-SHOWN = 10
+MAX_SHOWN = 10
 """The most rows that a notebook shows of a table."""
 
 
 class Table(ResultList[Row]):
-    """The rows of a table, as a list. A table that was read keeps its numbers as an array of 64-bit integers: `to_numpy()`
-    and `to_pandas()` are fast, and rows are made when needed."""
+    """The rows of a table, as a list. A table that was read keeps its numbers as an array of 64-bit integers:
+    `to_numpy()` and `to_pandas()` are fast, and rows are made when needed."""
 
     def __init__(self, kind: type[Row], rows: Iterable[Row] = ()) -> None:
         self.kind: type[Row] = kind
@@ -131,7 +137,7 @@ class Table(ResultList[Row]):
 
     def _repr_html_(self) -> str:
         """The first rows, for notebooks, with the columns of Python."""
-        lines: list[tuple[object, ...]] = [self.kind._fields, *self[:SHOWN]]
+        lines: list[tuple[object, ...]] = [self.kind._fields, *self[:MAX_SHOWN]]
         rows = "".join("<tr>" + "".join(f"<td>{cell}</td>" for cell in line) + "</tr>" for line in lines)
         return f"<table>{rows}</table><p>{escape(repr(self))}</p>"
 
@@ -141,15 +147,16 @@ class Table(ResultList[Row]):
 
     @classmethod
     def read(cls, kind: type[Row], text: Union[str, bytes]) -> Table[Row]:
-        """Read the output of `trlab sweep` (`kind` is `Point`) or `trlab series` (`Window`). Raises `OutputFormatError` with the
-        line if it is anything else, is cut off, or has an impossible row, for example no cells, more cars than cells, a distance
-        that these cars cannot drive, a flow that contradicts the counts, or a missing window."""
+        """Read the output of `trlab sweep` (`kind` is `Point`) or `trlab series` (`Window`). Raises `OutputFormatError`
+        with the line if it is anything else, is cut off, or has an impossible row, for example no cells, more cars than
+        cells, a distance that these cars cannot drive, a flow that contradicts the counts, or a missing window."""
         plain = text if isinstance(text, str) else text.decode("latin-1")
         return cls(kind, read_rows(kind, plain.replace("\r\n", "\n") if "\r" in plain else plain))
 
     def text(self) -> str:
-        """The table as the program writes it, which `Table.read` reads if it is that of one sweep or series. In it the column
-        `flow` is in millionths; to write a file for other programs, you should use `table.to_pandas().to_csv()`."""
+        """The table as the program writes it, which `Table.read` reads if it is that of one sweep or series. In it the
+        column `flow` is in millionths; to write a file for other programs, you should use
+        `table.to_pandas().to_csv()`."""
         return heading_of(self.kind) + "".join(",".join(map(str, row)) + "\n" for row in self)
 
     def to_numpy(self) -> numpy.ndarray[Any, Any]:

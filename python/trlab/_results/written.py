@@ -23,7 +23,7 @@ LINE_FEED = 10
 CELLS = f".{SPEEDS}".encode()
 """The characters of cells."""
 
-_NO_CELL = "a character that is neither a speed nor a dot"
+_NOT_A_CELL = "a character that is neither a speed nor a dot"
 
 EMPTY = -1
 # The speed of each character as a signed byte: that of an empty cell, and -2 for a character that no cell has.
@@ -31,7 +31,8 @@ NUMBERS = bytes(255 if chr(sign) == "." else SPEEDS.find(chr(sign)) % 255 for si
 
 
 class Snapshot(NamedTuple):
-    """The road at a step. Each lane is a string: `.` is an empty cell, `0` to `9` and `a` to `z` a car and its speed."""
+    """The road at a step. Each lane is a string: `.` is an empty cell, `0` to `9` and `a` to `z` a car and its
+    speed."""
 
     step: int
     lanes: tuple[str, ...]
@@ -61,7 +62,7 @@ class WrittenSnapshots(Sequence[Snapshot]):
         """A lane of each snapshot."""
         begin = number * (self.length + 1)
         end = begin + self.length
-        return (self.text[at + begin:at + end].decode() for at in self.places)
+        return (self.text[place + begin:place + end].decode() for place in self.places)
 
     def __getitem__(self, place: Any) -> Any:
         steps = self.steps[place]
@@ -77,19 +78,20 @@ class WrittenSnapshots(Sequence[Snapshot]):
     def _roads(self, places: list[int]) -> Iterator[bytes]:
         """All lanes of the snapshots at these places, each lane with its line feed."""
         size = self.lanes * (self.length + 1)
-        return (self.text[at:at + size] for at in places)
+        return (self.text[place:place + size] for place in places)
 
     def speeds(self) -> Array:
-        """The speed by snapshot, lane and cell, and -1 for an empty cell; raises `OutputFormatError` if a cell is neither."""
+        """The speed by snapshot, lane and cell, and -1 for an empty cell; raises `OutputFormatError` if a cell is
+        neither."""
         from .arrays import numpy
 
-        found = numpy.empty((len(self), self.lanes, self.length), dtype=numpy.int8)
+        speeds = numpy.empty((len(self), self.lanes, self.length), dtype=numpy.int8)
         at_once = BLOCK // (self.lanes * (self.length + 1)) + 1
         for first in range(0, len(self), at_once):
             roads = b"".join(self._roads(self.places[first:first + at_once])).translate(NUMBERS)
             lanes = numpy.frombuffer(roads, dtype=numpy.int8).reshape(-1, self.lanes, self.length + 1)
-            found[first:first + at_once] = lanes[:, :, :-1]
-        return checked_speeds(found)
+            speeds[first:first + at_once] = lanes[:, :, :-1]
+        return checked_speeds(speeds)
 
 
 def speeds_in(signs: str) -> Array:
@@ -102,26 +104,26 @@ def speeds_in(signs: str) -> Array:
 def checked_speeds(speeds: Array) -> Array:
     """The same speeds; raises `OutputFormatError` if one is not that of a cell."""
     if speeds.min(initial=0) < -1:
-        raise OutputFormatError(f"a cell has {_NO_CELL}")
+        raise OutputFormatError(f"a cell has {_NOT_A_CELL}")
     return speeds
 
 
 def read_snapshots(text: bytes) -> Sequence[Snapshot]:
     """The snapshots in the output of a run; raises `OutputFormatError` if it is not one, or cut off."""
-    found: Optional[Sequence[Snapshot]] = _regular(text)
-    if found is None:
+    snapshots: Optional[Sequence[Snapshot]] = _regular(text)
+    if snapshots is None:
         # An error of its own is better than one of decoding.
-        found = list(snapshots_in(text.decode("latin-1").splitlines(True)))
+        snapshots = list(snapshots_in(text.decode("latin-1").splitlines(True)))
     # Each heading has one space, and no lane has one.
-    if text.translate(None, CELLS + b" \n") or text.count(b" ") != len(found):
-        raise OutputFormatError(_cell_fault(text.decode("latin-1").split("\n"), len(found[0].lanes)))
-    return found
+    if text.translate(None, CELLS + b" \n") or text.count(b" ") != len(snapshots):
+        raise OutputFormatError(_cell_fault(text.decode("latin-1").split("\n"), len(snapshots[0].lanes)))
+    return snapshots
 
 
 def _cell_fault(lines: list[str], lanes: int) -> str:
     """Describes the lane, one of `lanes` between two headings, that has a character that no cell has."""
     place = next(place for place, line in enumerate(lines) if place % (lanes + 1) and line.strip(CELLS.decode()))
-    return f"line {place + 1} of the run has {_NO_CELL}: {_shown(lines[place])}"
+    return f"line {place + 1} of the run has {_NOT_A_CELL}: {_shown(lines[place])}"
 
 
 def _regular(text: bytes) -> Optional[WrittenSnapshots]:
@@ -139,13 +141,14 @@ def _regular(text: bytes) -> Optional[WrittenSnapshots]:
     places: list[int] = []
     while begin < len(text):
         # Snapshots whose steps have as many digits are equally long.
-        heading = len(f"step {step}\n")
+        heading, digits = len(f"step {step}\n"), len(str(step))
         size = heading + len(road)
-        steps = range(step, 10 ** (heading - 6), every)[:(len(text) - begin) // size]
+        steps = range(step, 10**digits, every)[:(len(text) - begin) // size]
         end = begin + size * len(steps)
         if not steps or not _has_headings(text, steps, range(begin, end, size)):
             return None
-        if not all(_has_line_feeds(text, range(begin + at, end, size)) for at in range(heading + length, size, length + 1)):
+        line_ends = range(heading + length, size, length + 1)
+        if not all(_has_line_feeds(text, range(begin + line_end, end, size)) for line_end in line_ends):
             return None
         places += range(begin + heading, end, size)
         begin, step = end, steps[-1] + every
@@ -155,8 +158,8 @@ def _regular(text: bytes) -> Optional[WrittenSnapshots]:
 def _has_headings(text: bytes, steps: range, places: range) -> bool:
     """Whether the headings of these steps, which have as many digits, are at these places."""
     length = len(f"step {steps[0]}\n")
-    found = b"".join([text[place:place + length] for place in places])
-    return found == ("step %d\n" * len(steps) % (*steps,)).encode()
+    headings = b"".join([text[place:place + length] for place in places])
+    return headings == ("step %d\n" * len(steps) % (*steps,)).encode()
 
 
 def _has_line_feeds(text: bytes, places: range) -> bool:
@@ -167,22 +170,22 @@ def _has_line_feeds(text: bytes, places: range) -> bool:
 def snapshots_in(lines: Iterable[str]) -> Iterator[Snapshot]:
     """The snapshots in the output of a run, one by one.
 
-    Raises `OutputFormatError` if a line is not one of a snapshot, or if the output is cut off: all snapshots have the same number
-    of lanes and cells."""
+    Raises `OutputFormatError` if a line is not one of a snapshot, or if the output is cut off: all snapshots have the
+    same number of lanes and cells."""
     lines = iter(lines)
     # The lines up to the second heading, which shows how many lanes there are.
-    begun = [*islice(lines, 1)]
+    first_lines = [*islice(lines, 1)]
     for line in lines:
-        begun.append(line)
+        first_lines.append(line)
         if line.startswith("step "):
             break
-    count = sum(not line.startswith("step ") for line in begun) or 1
-    if count > 2 and begun[3].endswith("\n"):
+    count = sum(not line.startswith("step ") for line in first_lines) or 1
+    if count > 2 and first_lines[3].endswith("\n"):
         raise OutputFormatError(f"the first snapshot of the run has {count} lanes, and a road has one or two")
-    length = max(1, "".join(begun[1:2]).find("\n"))
+    length = max(1, "".join(first_lines[1:2]).find("\n"))
     make: Any = partial(tuple.__new__, Snapshot)
     # Missing lanes of the last snapshot are empty.
-    for group in zip(*[chain(begun, lines, [""] * count)] * (count + 1)):
+    for group in zip(*[chain(first_lines, lines, [""] * count)] * (count + 1)):
         heading, step = group[0], group[0][5:-1]
         road: tuple[str, ...]
         if count == 1:
@@ -204,8 +207,8 @@ def _snapshot_fault(heading: str, lanes: list[str], length: int) -> str:
         return f"this is not the heading of a snapshot of a run: {_shown(heading)}"
     if not all(line.endswith("\n") for line in (heading, *lanes)):
         return f"the output of the run is cut off in the snapshot of {_shown(heading)}"
-    wrong = next(lane for lane in lanes if len(lane) != length + 1)
-    return f"a lane of {heading.strip()} is not as long as the first lane of the run: {_shown(wrong)}"
+    lane_of_other_length = next(lane for lane in lanes if len(lane) != length + 1)
+    return f"a lane of {heading.strip()} is not as long as the first lane of the run: {_shown(lane_of_other_length)}"
 
 
 def _shown(line: str) -> str:

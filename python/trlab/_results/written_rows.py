@@ -14,18 +14,18 @@ from .possible import first_fault
 BLOCK = 1 << 18
 DIGITS = b"0123456789"
 AS_ZEROS, AS_ZERO_OR_ONE = (bytes.maketrans(DIGITS, digits) for digits in (10 * b"0", b"0" + 9 * b"1"))
-MOST_DIGITS = 18
+MAX_DIGITS = 18
 """Numbers with this number of digits are below 2**63. The program writes at most 13."""
 
-TOO_LONG = (MOST_DIGITS + 1) * b"0"
+TOO_LONG = (MAX_DIGITS + 1) * b"0"
 
 HEADINGS = {"flow_millionths": "flow"}
 """The names of columns in files, if they differ from those in Python."""
 
 
 class WrittenRows(Sequence[Any]):
-    """The rows of a table that was read. Each is made at its first access. `numbers` are those of all rows, one after the
-    other; `kind` is a named tuple of whole numbers."""
+    """The rows of a table that was read. Each is made at its first access. `numbers` are those of all rows, one after
+    the other; `kind` is a named tuple of whole numbers."""
 
     def __init__(self, kind: Any, numbers: array[int]) -> None:
         self.kind, self.numbers, self.columns = kind, numbers, len(kind._fields)
@@ -53,22 +53,24 @@ def heading_of(kind: Any) -> str:
 
 
 def read_rows(kind: Any, text: str) -> WrittenRows:
-    """The rows in the text of a table. Raises `OutputFormatError`, with the line, if the text has another heading, a line that is
-    not a row, a last line without an end, or an impossible row (see `possible`)."""
+    """The rows in the text of a table. Raises `OutputFormatError`, with the line, if the text has another heading, a
+    line that is not a row, a last line without an end, or an impossible row (see `possible`)."""
     heading = heading_of(kind)
     if not text.startswith(heading):
-        wrong = "the table is cut off in" if heading.startswith(text) else f"this is not the heading of {kind.__name__}s:"
-        raise OutputFormatError(f"{wrong} {_shown(text.split(chr(10), 1)[0])}")
-    found = WrittenRows(kind, array("q"))
+        is_cut_off = heading.startswith(text)
+        problem = "the table is cut off in" if is_cut_off else f"this is not the heading of {kind.__name__}s:"
+        raise OutputFormatError(f"{problem} {_shown(text.split(chr(10), 1)[0])}")
+    rows = WrittenRows(kind, array("q"))
     for block in _blocks(text, len(heading)):
-        if not _is_of_rows(block, found.columns):
+        if not _is_of_rows(block, rows.columns):
             raise OutputFormatError(_fault(text, kind))
-        found.numbers.extend(_numbers(block[:-1].replace(b"\n", b",")))
-    fault = first_fault(found.numbers, found.columns)
+        rows.numbers.extend(_numbers(block[:-1].replace(b"\n", b",")))
+    fault = first_fault(rows.numbers, rows.columns)
     if fault is not None:
-        line = text.split("\n")[fault[0] + 1]
-        raise OutputFormatError(f"line {fault[0] + 2} of the table is impossible: {_shown(line)}: {fault[1]}")
-    return found
+        # Lines count from 1, and the first one is the heading.
+        number, line = fault.row + 2, text.split("\n")[fault.row + 1]
+        raise OutputFormatError(f"line {number} of the table is impossible: {_shown(line)}: {fault.contradiction}")
+    return rows
 
 
 def _blocks(text: str, begin: int) -> Iterator[bytes]:
@@ -85,7 +87,9 @@ def _is_of_rows(block: bytes, columns: int) -> bool:
     if not block.endswith(b"\n") or block.translate(None, DIGITS) != rows:
         return False
     numbers = (b"," + block.replace(b"\n", b",")).translate(AS_ZERO_OR_ONE)
-    return not any(wrong in numbers for wrong in (b",,", b",00", b",01")) and TOO_LONG not in numbers.translate(AS_ZEROS)
+    if any(form in numbers for form in (b",,", b",00", b",01")):
+        return False
+    return TOO_LONG not in numbers.translate(AS_ZEROS)
 
 
 def _numbers(block: bytes) -> array[int]:
@@ -98,12 +102,14 @@ def _numbers(block: bytes) -> array[int]:
 
 def _fault(text: str, kind: Any) -> str:
     """Says which line is not a row."""
-    number = "(?:0|[1-9][0-9]{0,%d})" % (MOST_DIGITS - 1)
+    number = "(?:0|[1-9][0-9]{0,%d})" % (MAX_DIGITS - 1)
     row = re.compile(number + f"(?:,{number}){{{len(kind._fields) - 1}}}")
     lines = text.split("\n")
-    place = next(place for place, line in enumerate(lines) if place and not row.fullmatch(line) or place == len(lines) - 1)
-    wrong = f"is not a row of {kind.__name__}s" if place < len(lines) - 1 else "is cut off"
-    return f"line {place + 1} of the table {wrong}: {_shown(lines[place])}"
+    place = next(
+        place for place, line in enumerate(lines) if place and not row.fullmatch(line) or place == len(lines) - 1
+    )
+    problem = f"is not a row of {kind.__name__}s" if place < len(lines) - 1 else "is cut off"
+    return f"line {place + 1} of the table {problem}: {_shown(lines[place])}"
 
 
 def _shown(line: str) -> str:

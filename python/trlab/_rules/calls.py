@@ -11,13 +11,13 @@ from .._inputs.numbers import parts, probability
 from .conditions import Conditions
 from .emission import Label, Register
 from .names import Attempt, Car, Flag, Frame, Value
-from .pairs import Number, whole
+from .pairs import Number, constant
 from .reading import UNKNOWN, Function
 
 WORDS = 16
 """The random words of a car in a step."""
 
-DEEPEST = 16
+MAX_DEPTH = 16
 """How many calls may be inside each other."""
 
 METHODS = {"motion": "car.draw, car.safe", "change": "car.draw"}
@@ -42,25 +42,34 @@ class Calls(Conditions):
                 return self._drawn(node)
             if function.attr == "safe" and self.kind == "motion":
                 return self._safe(node)
-            self.fail(node, f"is not possible: a {self.kind} rule calls {METHODS[self.kind]}, and its inputs have no brackets")
+            self.fail(
+                node, f"is not possible: a {self.kind} rule calls {METHODS[self.kind]}, and its inputs have no brackets"
+            )
         name = function.id if isinstance(function, ast.Name) else ""
         if self.is_own(name):
             if name in ("min", "max", "abs"):
                 return self._extreme(name, node)
         elif isinstance(function, ast.Name):
-            called = self.named(function)
-            if isinstance(called, Function):
-                return self._inlined(called, node)
-            if called is UNKNOWN:
-                self.fail(node, "is not known, because the file is read and not run: write the function in this file, without decorators")
-        self.fail(node, f"is not possible: a rule calls min, max, abs, {METHODS[self.kind]}, and your own functions by their names, if "
-                        "these have no decorators")
+            meaning = self.named(function)
+            if isinstance(meaning, Function):
+                return self._inlined(meaning, node)
+            if meaning is UNKNOWN:
+                self.fail(
+                    node,
+                    "is not known, because the file is read and not run: write the function in this file, without "
+                    "decorators"
+                )
+        self.fail(
+            node, f"is not possible: a rule calls min, max, abs, {METHODS[self.kind]}, and your own functions by their "
+            "names, if these have no decorators"
+        )
 
     def _extreme(self, name: str, node: ast.Call) -> Number:
         is_one = name == "abs"
-        if node.keywords or any(isinstance(it, ast.Starred) for it in node.args) or (len(node.args) < 2) != is_one:
+        has_stars = any(isinstance(argument, ast.Starred) for argument in node.args)
+        if node.keywords or has_stars or (len(node.args) < 2) != is_one:
             self.fail(node, f"needs {'one number' if is_one else 'two or more numbers'}")
-        values = [self.number(it) for it in node.args]
+        values = [self.number(argument) for argument in node.args]
         with self.at(node):
             return Number(self.numbers.size(values[0])) if is_one else self.numbers.extreme(name, values)
 
@@ -70,26 +79,31 @@ class Calls(Conditions):
             self.fail(node, "needs one number")
         value = self.number(node.args[0])
         with self.at(node):
-            most = [Number(self.to.new("get", rest=[name])) for name in ("gap", "limit")]
-            return self.numbers.extreme("min", [Number(value.plus), *most])
+            bounds = [Number(self.emitter.new("get", rest=[name])) for name in ("gap", "limit")]
+            return self.numbers.extreme("min", [Number(value.plus), *bounds])
 
     def _drawn(self, node: ast.Call) -> Flag:
-        names = [it.arg for it in node.keywords]
+        names = [keyword.arg for keyword in node.keywords]
         if len(node.args) != 1 or names not in ([], ["word"]):
-            self.fail(node, "needs a probability: write `car.draw(p)`, or `car.draw(p, word=k)` with a random word k, 0 to 15")
+            self.fail(
+                node, "needs a probability: write `car.draw(p)`, or `car.draw(p, word=k)` with a random word k, 0 to 15"
+            )
         word = self._word(node)
         if self.words.setdefault(word, bool(names)) != bool(names):
             self.fail(node, f"uses random word {word}, which another draw uses too: give all draws their `word=`")
         with self.at(node):
-            result, next_word = Register(self.to.place.text), self._next_word
+            result, next_word = Register(self.emitter.place.text), self._next_word
             self._draw(node.args[0], word, result)
         if next_word != self._next_word:
-            self.fail(node, "has another draw in its probability, which Python makes first: give that one a name in a line before")
+            self.fail(
+                node,
+                "has another draw in its probability, which Python makes first: give that one a name in a line before"
+            )
         return Flag(result)
 
     def _word(self, node: ast.Call) -> int:
-        """The random word that a draw gives, or else the next one: 0, 1, 2 .. in a motion rule, and 15, 14 .. in a change rule, in
-        the order in which Python evaluates the text with all branches, loops and calls written out."""
+        """The random word that a draw gives, or else the next one: 0, 1, 2 .. in a motion rule, and 15, 14 .. in a
+        change rule, in the order in which Python evaluates the text with all branches, loops and calls written out."""
         if node.keywords:
             given = self.constant(node.keywords[0].value)
             if not isinstance(given, int) or isinstance(given, bool) or not 0 <= given < WORDS:
@@ -98,31 +112,38 @@ class Calls(Conditions):
         word = self._next_word
         self._next_word += 1 if self.kind == "motion" else -1
         if not 0 <= word < WORDS:
-            self.fail(node, f"is one draw too many: a car has {WORDS} random words in a step, and every branch and turn counts")
+            self.fail(
+                node,
+                f"is one draw too many: a car has {WORDS} random words in a step, and every branch and turn counts"
+            )
         return word
 
-    def _draw(self, chance: ast.expr, word: int, to: Register) -> None:
+    def _draw(self, expression: ast.expr, word: int, result: Register) -> None:
         """A draw with a probability, or a choice of probabilities: `car.draw(p0 if car.speed == 0 else p)`."""
-        value = self.constant(chance)
-        if value is None and isinstance(chance, ast.IfExp):
-            yes, no = chance.body, chance.orelse
-            return self.either(chance.test, lambda: self._draw(yes, word, to), lambda: self._draw(no, word, to))
+        value = self.constant(expression)
+        if value is None and isinstance(expression, ast.IfExp):
+            yes, no = expression.body, expression.orelse
+            return self.either(
+                expression.test, lambda: self._draw(yes, word, result), lambda: self._draw(no, word, result)
+            )
         if value is None:
-            self.fail(chance, "is not a probability: it must be a constant, a parameter, or a choice like `p0 if car.speed == 0 "
-                              "else p`")
+            self.fail(
+                expression, "is not a probability: it must be a constant, a parameter, or a choice like `p0 if "
+                "car.speed == 0 else p`"
+            )
         try:
-            return self.to.emit("draw", to, rest=[word, parts(probability("the probability", value))])
+            return self.emitter.emit("draw", result, rest=[word, parts(probability("the probability", value))])
         except ParameterError as error:
-            self.fail(chance, f"is not a probability: {error}")
+            self.fail(expression, f"is not a probability: {error}")
 
     def _inlined(self, function: Function, node: ast.Call) -> Value:
         """The text of a function in the place of its call."""
-        if len(self.frames) > DEEPEST:
+        if len(self.frames) > MAX_DEPTH:
             self.fail(node, "calls itself, or calls are nested too deeply: write a loop, `for i in range(n)`")
-        values = [self._argument(it) for it in node.args]
-        if not all(it.arg for it in node.keywords):
+        values = [self._argument(argument) for argument in node.args]
+        if not all(keyword.arg for keyword in node.keywords):
             self.fail(node, "is not possible: a rule has no `**` in calls")
-        named = {str(it.arg): self._argument(it.value) for it in node.keywords}
+        named = {str(keyword.arg): self._argument(keyword.value) for keyword in node.keywords}
         try:
             bound = function.bound(values, named)
         except TypeError as error:
@@ -131,19 +152,19 @@ class Calls(Conditions):
         self.frames.append(Frame(function, end, result))
         self.enter(bound)
         self.block(function.node.body)
-        if self.to.is_live:
+        if self.emitter.is_live:
             self.fail(function.node, "can end without `return`: return a value on every path")
-        self.to.label(end)
+        self.emitter.label(end)
         self.frames.pop()
-        return self.read(result)
+        return self.value_of(result)
 
     def _argument(self, node: ast.expr) -> Any:
         if isinstance(node, ast.Starred):
             self.fail(node, "is not possible: a rule has no `*` in calls")
         if isinstance(node, ast.Name) and isinstance(self.named(node), (Car, Function)):
             return self.named(node)
-        constant = self.constant(node)
-        return self.value(node) if constant is None else constant
+        value = self.constant(node)
+        return self.value(node) if value is None else value
 
     def enter(self, bound: Mapping[str, Any]) -> None:
         """Gives the parameters of the current call their values. Those that are never assigned stay as they are."""
@@ -154,5 +175,6 @@ class Calls(Conditions):
             elif isinstance(value, Car):
                 self.fail(frame.function.node, f"assigns `{name}`, which is the car: take another name")
             else:
-                is_value = isinstance(value, (Number, Flag))
-                self.assign(self.variable(name), value if is_value else whole(self.integer(frame.function.node, value)))
+                if not isinstance(value, (Number, Flag)):
+                    value = constant(self.integer(frame.function.node, value))
+                self.assign(self.variable(name), value)

@@ -18,7 +18,7 @@ class Conditions(Expressions):
         value = self.constant(node)
         if value is not None:
             if bool(value) == when:
-                self.to.emit("jump", target=target)
+                self.emitter.emit("jump", target=target)
         elif isinstance(node, ast.UnaryOp) and isinstance(node.op, ast.Not):
             self.branch(node.operand, target, not when)
         elif isinstance(node, ast.BoolOp):
@@ -33,33 +33,33 @@ class Conditions(Expressions):
 
     def _branch_at_parts(self, node: ast.BoolOp, target: Label, when: bool) -> None:
         if isinstance(node.op, ast.Or) == when:
-            for it in node.values:
-                self.branch(it, target, when)
+            for part in node.values:
+                self.branch(part, target, when)
             return
         skip = Label()
-        for it in node.values[:-1]:
-            self.branch(it, skip, not when)
+        for part in node.values[:-1]:
+            self.branch(part, skip, not when)
         self.branch(node.values[-1], target, when)
-        self.to.label(skip)
+        self.emitter.label(skip)
 
     def _branch_at_comparison(self, node: ast.Compare, target: Label, when: bool) -> None:
         """A comparison, also of several numbers: each is calculated once."""
         for operator in node.ops:
             if not isinstance(operator, COMPARISONS):
                 self.reject(node, operator, "is not possible: a rule compares with <, <=, >, >=, == and !=")
-        sums = [self.sum(it) for it in [node.left, *node.comparators]]
+        sums = [self.sum(operand) for operand in [node.left, *node.comparators]]
         skip = Label()
         with self.at(node):
             for place, (operator, left, right) in enumerate(zip(node.ops, sums, sums[1:]), 1):
                 is_last = place == len(node.ops)
                 to, truth = (target, when) if is_last or not when else (skip, False)
                 self.numbers.compare(operator, right - left, to, truth)
-            self.to.label(skip)
+            self.emitter.label(skip)
 
     def _branch_at_value(self, value: Value, node: ast.expr, target: Label, when: bool) -> None:
         with self.at(node):
             if isinstance(value, Flag):
-                self.to.emit("jtrue" if when else "jfalse", None, value.register, target=target)
+                self.emitter.emit("jtrue" if when else "jfalse", None, value.register, target=target)
             else:
                 self.numbers.jump(1, self.numbers.size(value), True, target, when)
 
@@ -67,33 +67,35 @@ class Conditions(Expressions):
         """The value of `and` and `or`: that of their last part, unless an earlier part decides."""
         result = self.new_variable(ast.unparse(node))
         parts = list(_all_of(node)) if isinstance(node.op, ast.And) else []
-        if any(self._is_flag(it) for it in parts) and self._is_truth(parts[-1]):
+        # The verifier must learn from the result that the side cell is empty, which it does not from 1 or 0.
+        if any(self._is_flag(part) for part in parts) and self._is_truth(parts[-1]):
             return self._flag_of_all(parts)
+        # If every part is true or false, the value is 1 or 0, and no part needs a register of its own.
         if self._is_truth(node):
             return self.truth(node)
         end = Label()
-        for it in node.values:
-            self.assign(result, self.value(it))
-            if it is not node.values[-1]:
-                self._branch_at_value(self.read(result), it, end, isinstance(node.op, ast.Or))
-        self.to.label(end)
-        return self.read(result)
+        for part in node.values:
+            self.assign(result, self.value(part))
+            if part is not node.values[-1]:
+                self._branch_at_value(self.value_of(result), part, end, isinstance(node.op, ast.Or))
+        self.emitter.label(end)
+        return self.value_of(result)
 
     def _flag_of_all(self, parts: list[ast.expr]) -> Flag:
-        """The flags of an `and`, all together. If another part is false, the result is combined with its own opposite. So the
-        verifier still knows that the side cell is empty if the result is true."""
-        flags = [self.value(it) for it in parts if self._is_flag(it)]
-        registers = [it.register for it in flags if isinstance(it, Flag)]
-        result, false, end = self.to.new("copy", registers[0]), Label(), Label()
+        """The flags of an `and`, all together. If another part is false, the result is combined with its own opposite.
+        So the verifier still knows that the side cell is empty if the result is true."""
+        flags = [self.value(part) for part in parts if self._is_flag(part)]
+        registers = [part.register for part in flags if isinstance(part, Flag)]
+        result, false, end = self.emitter.new("copy", registers[0]), Label(), Label()
         for other in registers[1:]:
-            self.to.emit("and", result, result, other)
-        for it in parts:
-            if not self._is_flag(it):
-                self.branch(it, false, False)
-        self.to.emit("jump", target=end)
-        self.to.label(false)
-        self.to.emit("and", result, result, self.to.new("not", result))
-        self.to.label(end)
+            self.emitter.emit("and", result, result, other)
+        for part in parts:
+            if not self._is_flag(part):
+                self.branch(part, false, False)
+        self.emitter.emit("jump", target=end)
+        self.emitter.label(false)
+        self.emitter.emit("and", result, result, self.emitter.new("not", result))
+        self.emitter.label(end)
         return Flag(result)
 
     def _is_flag(self, node: ast.expr) -> bool:
@@ -105,7 +107,7 @@ class Conditions(Expressions):
     def _is_truth(self, node: ast.expr) -> bool:
         """Whether the form of an expression shows that its value is true or false."""
         if isinstance(node, ast.BoolOp):
-            return all(self._is_truth(it) for it in node.values)
+            return all(self._is_truth(part) for part in node.values)
         is_not = isinstance(node, ast.UnaryOp) and isinstance(node.op, ast.Not)
         is_draw = isinstance(node, ast.Call) and isinstance(node.func, ast.Attribute) and node.func.attr == "draw"
         return is_not or is_draw or isinstance(node, ast.Compare) or self._is_flag(node)

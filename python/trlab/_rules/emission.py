@@ -7,7 +7,7 @@ from typing import NamedTuple, NoReturn, Optional, Union
 
 from .._errors import RuleError
 
-GREATEST = 2**32 - 1
+MAX_NUMBER = 2**32 - 1
 """The largest number of a register."""
 
 ENDS = ("jump", "go", "cross", "stay")
@@ -38,17 +38,23 @@ class Place(NamedTuple):
 
 @dataclass(eq=False)
 class Instruction:
-    """An instruction: the register that it writes, those that it reads, its numbers and names, and the target of its jump.
+    """An instruction: the register that it writes, those that it reads, its numbers and names, and the target of its
+    jump.
 
-    A `difference` has a number if the translation assumes that it is not negative, which the verifier has to confirm."""
+    A `difference` has a number if the translation assumes that it is not negative, which the verifier has to
+    confirm."""
 
     name: str
-    to: Optional[Register]
+    writes: Optional[Register]
     reads: tuple[Register, ...]
     rest: tuple[object, ...]
     target: Optional[Label]
     place: Place
     difference: Optional[int] = None
+
+    def registers(self) -> list[Register]:
+        """The registers of the instruction, in the order of its text."""
+        return [*([] if self.writes is None else [self.writes]), *self.reads]
 
 
 Operand = Union[int, Register]
@@ -58,8 +64,8 @@ Item = Union[Instruction, Label]
 class Emitter:
     """The instructions so far, and the variables that have a value on every path to the next one.
 
-    With `shares` each constant has one register for the whole program, because the verifier then learns from a comparison how
-    much may be subtracted later. Otherwise each use has its own, which needs fewer registers at once."""
+    With `shares` each constant has one register for the whole program, because the verifier then learns from a
+    comparison how much may be subtracted later. Otherwise each use has its own, which needs fewer registers at once."""
 
     def __init__(self, shares: bool) -> None:
         self.shares, self.place = shares, Place("", 0, "")
@@ -69,21 +75,23 @@ class Emitter:
         self._paths: dict[Label, list[set[object]]] = {}
 
     def emit(
-        self, name: str, to: Optional[Register] = None, *reads: Operand, rest: Sequence[object] = (),
+        self, name: str, writes: Optional[Register] = None, *reads: Operand, rest: Sequence[object] = (),
         target: Optional[Label] = None, difference: Optional[int] = None,
     ) -> None:
         """Adds an instruction, unless no path leads here."""
-        registers = tuple(self.held(it) for it in reads)
+        registers = tuple(self.held(operand) for operand in reads)
         if not self.is_live:
             return
         for number in rest:
             self._need_small(number)
-        self._items.append(Instruction(name, to, registers, tuple(rest), target, self.place, difference))
+        self._items.append(Instruction(name, writes, registers, tuple(rest), target, self.place, difference))
         if target is not None:
             self._paths.setdefault(target, []).append(set(self.assigned))
         self.is_live = name not in ENDS
 
-    def new(self, name: str, *reads: Operand, rest: Sequence[object] = (), difference: Optional[int] = None) -> Register:
+    def new(
+        self, name: str, *reads: Operand, rest: Sequence[object] = (), difference: Optional[int] = None
+    ) -> Register:
         """The same with a new register for the result."""
         result = Register(self.place.text)
         self.emit(name, result, *reads, rest=rest, difference=difference)
@@ -99,8 +107,8 @@ class Emitter:
         return self._constants.setdefault(operand, Register(str(operand)))
 
     def _need_small(self, number: object) -> None:
-        if isinstance(number, int) and number > GREATEST and self.is_live:
-            self.place.fail(f"`{self.place.text}` needs the number {number}, and the greatest is {GREATEST}")
+        if isinstance(number, int) and number > MAX_NUMBER and self.is_live:
+            self.place.fail(f"`{self.place.text}` needs the number {number}, and the greatest is {MAX_NUMBER}")
 
     def label(self, label: Label) -> None:
         """The target of the jumps to a label. A variable has a value here if it has one on all paths to it."""
@@ -111,5 +119,8 @@ class Emitter:
 
     def items(self, place: Place) -> list[Item]:
         """The whole program, which begins with its shared constants, at this place."""
-        numbers = [Instruction("num", to, (), (number,), None, place) for number, to in self._constants.items()]
-        return [*numbers, *self._items]
+        constants = [
+            Instruction("num", register, reads=(), rest=(number,), target=None, place=place)
+            for number, register in self._constants.items()
+        ]
+        return [*constants, *self._items]

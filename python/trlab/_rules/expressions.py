@@ -9,7 +9,7 @@ from typing import Any, Union
 
 from .emission import Label, Register
 from .names import Flag, Names, Value, Variable
-from .pairs import ZERO, Number, Sum, summand, whole
+from .pairs import ZERO, Number, Sum, constant, summand
 from .reading import plain
 
 INPUTS = {
@@ -35,9 +35,9 @@ class Expressions(Names):
         """The value of `and` and `or`."""
 
     def value(self, node: ast.expr) -> Value:
-        constant = self.constant(node)
-        if constant is not None:
-            return whole(self.integer(node, constant))
+        known = self.constant(node)
+        if known is not None:
+            return constant(self.integer(node, known))
         if isinstance(node, ast.Compare) or isinstance(node, ast.UnaryOp) and isinstance(node.op, ast.Not):
             return self.truth(node)
         if isinstance(node, ast.BoolOp):
@@ -50,10 +50,10 @@ class Expressions(Names):
             return self.chosen(node)
         if isinstance(node, ast.Call):
             return self.called(node)
-        found = self.named(node) if isinstance(node, ast.Name) else None
-        if not isinstance(found, (Number, Flag)):
+        meaning = self.named(node) if isinstance(node, ast.Name) else None
+        if not isinstance(meaning, (Number, Flag)):
             self.reject(node, node, "has no meaning in a rule: use numbers, min, max, abs and the inputs of the car")
-        return found
+        return meaning
 
     def number(self, node: ast.expr) -> Number:
         return self.as_number(self.value(node))
@@ -63,7 +63,7 @@ class Expressions(Names):
         if isinstance(value, Number):
             return value
         register = value.register
-        return self._one_if(lambda end: self.to.emit("jtrue", None, register, target=end))
+        return self._one_if(lambda end: self.emitter.emit("jtrue", None, register, target=end))
 
     def truth(self, node: ast.expr) -> Number:
         """A condition as 1 or 0."""
@@ -73,10 +73,10 @@ class Expressions(Names):
     def _one_if(self, jump: Callable[[Label], None]) -> Number:
         """1 if this jumps, and otherwise 0."""
         result, end = Register("a condition"), Label()
-        self.to.emit("num", result, rest=[1])
+        self.emitter.emit("num", result, rest=[1])
         jump(end)
-        self.to.emit("num", result, rest=[0])
-        self.to.label(end)
+        self.emitter.emit("num", result, rest=[0])
+        self.emitter.label(end)
         return Number(result)
 
     def integer(self, node: ast.AST, value: Any) -> int:
@@ -102,17 +102,19 @@ class Expressions(Names):
         if isinstance(node.op, ast.Mult) and by is None:
             value, by = node.right, self.constant(node.left)
         if by is None:
-            self.fail(node, "needs a constant on the right (for `*` on one side): a rule cannot combine two inputs like this")
+            self.fail(
+                node, "needs a constant on the right (for `*` on one side): a rule cannot combine two inputs like this"
+            )
         return self.scaled(node, self.number(value), self.integer(node, by))
 
     def scaled(self, node: ast.BinOp, number: Number, by: int) -> Number:
         with self.at(node):
             if isinstance(node.op, ast.Mult):
                 return self.numbers.product(number, by)
-            if by <= 0 and self.to.is_live:
+            if by <= 0 and self.emitter.is_live:
                 self.fail(node, f"divides by {by}: a rule divides only by constants above 0")
-            divided = self.numbers.quotient if isinstance(node.op, ast.FloorDiv) else self.numbers.remainder
-            return divided(number, max(by, 1))
+            divide = self.numbers.quotient if isinstance(node.op, ast.FloorDiv) else self.numbers.remainder
+            return divide(number, max(by, 1))
 
     def sum(self, node: ast.expr) -> Sum:
         """An expression as a sum: `a - (b - 2)` is a + 2 - b."""
@@ -130,9 +132,9 @@ class Expressions(Names):
             self.reject(node, node, "has no meaning in a rule")
         with self.at(node):
             if node.attr in INPUTS[self.kind]:
-                return Number(self.to.new("get", rest=[node.attr]))
+                return Number(self.emitter.new("get", rest=[node.attr]))
             if node.attr == "side" and self.kind == "change":
-                return Flag(self.to.new("side"))
+                return Flag(self.emitter.new("side"))
         inputs = ", ".join(INPUTS[self.kind]) + (" and side" if self.kind == "change" else "")
         self.fail(node, f"is not an input of a {self.kind} rule, which are {inputs}")
 
@@ -140,29 +142,31 @@ class Expressions(Names):
         """A conditional expression."""
         result = self.new_variable(ast.unparse(node))
         self.either(
-            node.test, lambda: self.assign(result, self.value(node.body)), lambda: self.assign(result, self.value(node.orelse))
+            node.test,
+            lambda: self.assign(result, self.value(node.body)),
+            lambda: self.assign(result, self.value(node.orelse)),
         )
-        return self.read(result)
+        return self.value_of(result)
 
     def either(self, test: ast.expr, yes: Callable[[], None], no: Callable[[], None]) -> None:
         """One of two continuations."""
         other, end = Label(), Label()
         self.branch(test, other, False)
         yes()
-        self.to.emit("jump", target=end)
-        self.to.label(other)
+        self.emitter.emit("jump", target=end)
+        self.emitter.label(other)
         no()
-        self.to.label(end)
+        self.emitter.label(end)
 
     def assign(self, variable: Variable, value: Value) -> None:
         """Gives a variable a value, and notes if this value needs another form of the variable."""
         if variable.is_flag is None:
             variable.is_flag = isinstance(value, Flag)
         if isinstance(value, Flag) and variable.is_flag:
-            self.to.emit("copy", variable.plus, value.register)
+            self.emitter.emit("copy", variable.plus, value.register)
         else:
             self._assign_number(variable, self.as_number(value))
-        self.to.assigned.add(variable)
+        self.emitter.assigned.add(variable)
 
     def _assign_number(self, variable: Variable, value: Number) -> None:
         if variable.is_flag:
@@ -172,13 +176,13 @@ class Expressions(Names):
         variable.why = value.why or variable.why
         plus, minus = value.plus, value.minus
         if minus is variable.plus:
-            minus = self.to.new("copy", minus)
+            minus = self.emitter.new("copy", minus)
         self._store(variable.plus, plus)
         if variable.minus is not None:
             self._store(variable.minus, minus)
 
     def _store(self, to: Register, part: int | Register) -> None:
         if isinstance(part, int):
-            self.to.emit("num", to, rest=[part])
+            self.emitter.emit("num", to, rest=[part])
         elif part is not to:
-            self.to.emit("copy", to, part)
+            self.emitter.emit("copy", to, part)

@@ -16,13 +16,16 @@ from .outside import instead_of
 from .reading import UNKNOWN, Function, plain
 
 _OPERATORS = (
-    ast.Constant, ast.Name, ast.Load, ast.IfExp, ast.BoolOp, ast.boolop, ast.Compare, ast.Lt, ast.LtE, ast.Gt, ast.GtE, ast.Eq,
-    ast.NotEq, ast.UnaryOp, ast.UAdd, ast.USub, ast.Not, ast.BinOp, ast.Add, ast.Sub, ast.Mult, ast.Div, ast.FloorDiv, ast.Mod,
+    ast.Constant, ast.Name, ast.Load, ast.IfExp, ast.BoolOp, ast.boolop, ast.Compare, ast.Lt, ast.LtE, ast.Gt, ast.GtE,
+    ast.Eq,
+    ast.NotEq, ast.UnaryOp, ast.UAdd, ast.USub, ast.Not, ast.BinOp, ast.Add, ast.Sub, ast.Mult, ast.Div, ast.FloorDiv,
+    ast.Mod,
 )
 """The syntax of expressions that Python itself calculates if all names in them are constants."""
 
-MOST_PARTS = 10000
-"""The most statements and expressions of a function, with all turns and calls written out: a program has 128 instructions."""
+MAX_PARTS = 10000
+"""The most statements and expressions of a function, with all turns and calls written out: a program has 128
+instructions."""
 
 
 class Car:
@@ -40,8 +43,8 @@ Value = Union[Number, Flag]
 
 @dataclass
 class Attempt:
-    """Facts from earlier translations of the function: the differences that may be negative, by their numbers, the variables
-    that may be, and those that are not always a flag. `shares` is that of `Emitter`."""
+    """Facts from earlier translations of the function: the differences that may be negative, by their numbers, the
+    variables that may be, and those that are not always a flag. `shares` is that of `Emitter`."""
 
     shares: bool
     below: set[int] = field(default_factory=set)
@@ -54,7 +57,8 @@ class Attempt:
 
 
 class Variable:
-    """A name that is assigned: a pair of registers, or one with a flag. The first value decides if `is_flag` is None."""
+    """A name that is assigned: a pair of registers, or one with a flag. The first value decides if `is_flag` is
+    None."""
 
     def __init__(self, name: str, number: int, attempt: Attempt) -> None:
         self.number = number
@@ -74,12 +78,19 @@ class Frame:
         self.assigned, self.counters = _stored_in(function.node)
 
 
+class StoredNames(NamedTuple):
+    """The names that a function assigns, and the counters of its loops."""
+
+    assigned: set[str]
+    counters: set[str]
+
+
 @lru_cache(maxsize=256)
-def _stored_in(node: ast.FunctionDef) -> tuple[set[str], set[str]]:
-    """The names that a function assigns, and those of its loops."""
-    loops = [it.target for it in ast.walk(node) if isinstance(it, ast.For)]
-    names = [it for it in ast.walk(node) if isinstance(it, ast.Name) and isinstance(it.ctx, ast.Store) and it not in loops]
-    return {it.id for it in names}, {it.id for it in loops if isinstance(it, ast.Name)}
+def _stored_in(node: ast.FunctionDef) -> StoredNames:
+    counters = [part.target for part in ast.walk(node) if isinstance(part, ast.For)]
+    stored = [part for part in ast.walk(node) if isinstance(part, ast.Name) and isinstance(part.ctx, ast.Store)]
+    assigned = {name.id for name in stored if name not in counters}
+    return StoredNames(assigned, {counter.id for counter in counters if isinstance(counter, ast.Name)})
 
 
 class Names:
@@ -87,8 +98,8 @@ class Names:
 
     def __init__(self, kind: str, attempt: Attempt) -> None:
         self.kind, self.attempt = kind, attempt
-        self.to = Emitter(attempt.shares)
-        self.numbers = Arithmetic(self.to, attempt.below)
+        self.emitter = Emitter(attempt.shares)
+        self.numbers = Arithmetic(self.emitter, attempt.below)
         self.frames: list[Frame] = []
         self._variables, self._parts = count(), 0
 
@@ -109,12 +120,14 @@ class Names:
     def at(self, node: ast.AST) -> Iterator[None]:
         """Instructions in this block come from this node."""
         self._parts += 1
-        if self._parts > MOST_PARTS:
-            self.fail(node, "is one part too many, because the text of the function is written out with all turns and calls: write "
-                            "fewer of them")
-        before, self.to.place = self.to.place, self.place(node)
+        if self._parts > MAX_PARTS:
+            self.fail(
+                node, "is one part too many, because the text of the function is written out with all turns and calls: "
+                "write fewer of them"
+            )
+        before, self.emitter.place = self.emitter.place, self.place(node)
         yield
-        self.to.place = before
+        self.emitter.place = before
 
     def new_variable(self, name: str) -> Variable:
         return Variable(name, next(self._variables), self.attempt)
@@ -126,7 +139,7 @@ class Names:
             variables[name] = self.new_variable(name)
         return variables[name]
 
-    def read(self, variable: Variable) -> Value:
+    def value_of(self, variable: Variable) -> Value:
         if variable.is_flag:
             return Flag(variable.plus)
         return Number(variable.plus, variable.minus or 0, variable.why)
@@ -136,9 +149,9 @@ class Names:
         frame, name = self.frames[-1], node.id
         if name in frame.assigned:
             variable = self.variable(name)
-            if self.to.is_live and variable not in self.to.assigned:
+            if self.emitter.is_live and variable not in self.emitter.assigned:
                 self.fail(node, "may have no value here: assign one on every path to this line")
-            return self.read(variable)
+            return self.value_of(variable)
         if name in frame.constants:
             return frame.constants[name]
         if name in frame.counters:
@@ -163,19 +176,19 @@ class Names:
 
     def constant(self, node: ast.expr) -> Any:
         """The value of an expression of constants, as Python calculates it; None if it depends on the car."""
-        found = _names_in(node)
-        if found is None:
+        nodes = _names_in(node)
+        if nodes is None:
             return None
-        names = {it.id: plain(self.named(it)) for it in found}
-        if any(isinstance(it, (Car, Function, Number, Flag)) for it in names.values()):
+        values = {name.id: plain(self.named(name)) for name in nodes}
+        if any(isinstance(value, (Car, Function, Number, Flag)) for value in values.values()):
             return None
-        if any(it is UNKNOWN for it in names.values()):
+        if any(value is UNKNOWN for value in values.values()):
             self.fail(node, "is not known before the run: give it a number in the file, or make it a parameter")
         try:
-            value = plain(_calculated(node, names))
+            value = plain(_calculated(node, values))
             bool(value)  # an array has no truth value
         except (ArithmeticError, TypeError, ValueError) as error:
-            if self.to.is_live:
+            if self.emitter.is_live:
                 self.fail(node, f"cannot be calculated: {error}")
             return 0
         return value
@@ -189,7 +202,7 @@ def _first_line_of(node: ast.AST) -> str:
 @lru_cache(maxsize=4096)
 def _names_in(node: ast.AST) -> Optional[list[ast.Name]]:
     """The names in an expression; None if it has more than operators, names and constants."""
-    parts = [_names_in(it) for it in ast.iter_child_nodes(node)] if isinstance(node, _OPERATORS) else [None]
+    parts = [_names_in(child) for child in ast.iter_child_nodes(node)] if isinstance(node, _OPERATORS) else [None]
     own = [node] if isinstance(node, ast.Name) else []
     return None if None in parts else own + [name for part in parts for name in part or []]
 
@@ -198,8 +211,8 @@ def _calculated(node: ast.expr, names: dict[str, Any]) -> Any:
     """The value of an expression with these names. A text has no calculations, because it could become very long."""
     if isinstance(node, (ast.Constant, ast.Name)):
         return node.value if isinstance(node, ast.Constant) else names[node.id]
-    leaves = [it for operation in ast.walk(node) if isinstance(operation, ast.BinOp) for it in ast.walk(operation)]
-    values = [names[it.id] if isinstance(it, ast.Name) else getattr(it, "value", None) for it in leaves]
-    if any(isinstance(it, (str, bytes)) for it in values):
+    leaves = [leaf for operation in ast.walk(node) if isinstance(operation, ast.BinOp) for leaf in ast.walk(operation)]
+    values = [names[leaf.id] if isinstance(leaf, ast.Name) else getattr(leaf, "value", None) for leaf in leaves]
+    if any(isinstance(value, (str, bytes)) for value in values):
         raise TypeError("a text is not a number")
     return eval(compile(ast.Expression(node), "constant", "eval"), {"__builtins__": {}}, names)

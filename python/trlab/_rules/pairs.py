@@ -1,7 +1,8 @@
 """Whole numbers as pairs, because a register holds no negative number.
 
-A number is the difference of a positive and a negative part, of which one is always 0. A part that is known to be 0 costs
-nothing. So `max(x, 0)` is the positive part, `min` and `max` are taken part by part, and sums and comparisons are exact below 0."""
+A number is the difference of a positive and a negative part, of which one is always 0. A part that is known to be 0
+costs nothing. So `max(x, 0)` is the positive part, `min` and `max` are taken part by part, and sums and comparisons are
+exact below 0."""
 from __future__ import annotations
 
 import ast
@@ -34,32 +35,33 @@ class Sum(NamedTuple):
 ZERO = Sum((), (), 0)
 
 
-def whole(number: int) -> Number:
-    """A constant."""
+def constant(number: int) -> Number:
+    """A constant as a pair: 3 is (3, 0), and -3 is (0, 3)."""
     return Number(max(number, 0), max(-number, 0))
 
 
 def summand(number: Number) -> Sum:
     """A number as a sum."""
-    plus, minus = (() if isinstance(it, int) else (it,) for it in number[:2])
-    constant = sum(sign * it for sign, it in ((1, number.plus), (-1, number.minus)) if isinstance(it, int))
-    return Sum(plus, minus, constant)
+    plus, minus = (() if isinstance(part, int) else (part,) for part in (number.plus, number.minus))
+    offset = sum(sign * part for sign, part in ((1, number.plus), (-1, number.minus)) if isinstance(part, int))
+    return Sum(plus, minus, offset)
 
 
 class Arithmetic:
-    """Instructions for numbers. `below` are the differences that may be negative: each other difference is one `sub`."""
+    """Instructions for numbers. `below` are the differences that may be negative: each other difference is one
+    `sub`."""
 
     def __init__(self, emitter: Emitter, below: Container[int]) -> None:
-        self._to, self._below, self._differences = emitter, below, count()
+        self._emitter, self._below, self._differences = emitter, below, count()
 
     def total(self, registers: Sequence[Register], number: int) -> Operand:
         """The sum of registers and a number that is not negative."""
         if not registers:
             return number
-        found = registers[0]
+        sum_so_far = registers[0]
         for other in registers[1:]:
-            found = self._to.new("add", found, other)
-        return self._to.new("add", found, number) if number else found
+            sum_so_far = self._emitter.new("add", sum_so_far, other)
+        return self._emitter.new("add", sum_so_far, number) if number else sum_so_far
 
     def sides(self, terms: Sum) -> tuple[Operand, Operand]:
         """The two numbers whose difference is this sum."""
@@ -67,25 +69,25 @@ class Arithmetic:
 
     def difference(self, terms: Sum) -> Number:
         """A sum as a pair."""
-        this = next(self._differences)
+        number = next(self._differences)
         plus, minus = self.sides(terms)
         if plus == 0 or minus == 0:
-            return Number(plus, minus, self._to.place)
-        if this not in self._below:
-            return Number(self._to.new("sub", plus, minus, difference=this))
-        return Number(self.excess(plus, minus), self.excess(minus, plus), self._to.place)
+            return Number(plus, minus, self._emitter.place)
+        if number not in self._below:
+            return Number(self._emitter.new("sub", plus, minus, difference=number))
+        return Number(self.excess(plus, minus), self.excess(minus, plus), self._emitter.place)
 
     def excess(self, first: Operand, second: Operand) -> Register:
         """How much the first is above the second, or 0, in a form that the verifier always accepts."""
-        return self._to.new("sub", first, self._to.new("min", second, first))
+        return self._emitter.new("sub", first, self._emitter.new("min", second, first))
 
     def product(self, number: Number, factor: int) -> Number:
-        plus, minus = (self._by("mul", it, abs(factor)) for it in number[:2])
-        return Number(plus, minus, number.why) if factor >= 0 else Number(minus, plus, self._to.place)
+        plus, minus = (self._by("mul", part, abs(factor)) for part in (number.plus, number.minus))
+        return Number(plus, minus, number.why) if factor >= 0 else Number(minus, plus, self._emitter.place)
 
     def quotient(self, number: Number, by: int) -> Number:
         """The quotient, rounded down: a negative part is rounded up."""
-        minus = 0 if number.minus == 0 else self._by("div", self.total([self._to.held(number.minus)], by - 1), by)
+        minus = 0 if number.minus == 0 else self._by("div", self.total([self._emitter.held(number.minus)], by - 1), by)
         return Number(self._by("div", number.plus, by), minus, number.why)
 
     def remainder(self, number: Number, by: int) -> Number:
@@ -100,29 +102,30 @@ class Arithmetic:
             return operand * by if name == "mul" else operand // by
         if by == 0:
             return 0
-        return operand if by == 1 else self._to.new(name, operand, rest=[by])
+        return operand if by == 1 else self._emitter.new(name, operand, rest=[by])
 
     def extreme(self, name: str, numbers: Sequence[Number]) -> Number:
         """The smallest or the largest number."""
         other = "max" if name == "min" else "min"
-        plus, minus = self._best(name, [it.plus for it in numbers]), self._best(other, [it.minus for it in numbers])
-        return Number(plus, minus, next((it.why for it in numbers if it.minus != 0), None))
+        plus = self._best(name, [number.plus for number in numbers])
+        minus = self._best(other, [number.minus for number in numbers])
+        return Number(plus, minus, next((number.why for number in numbers if number.minus != 0), None))
 
     def size(self, number: Number) -> Operand:
         """The distance to 0."""
-        return self._best("max", number[:2])
+        return self._best("max", (number.plus, number.minus))
 
     def _best(self, name: str, parts: Sequence[Operand]) -> Operand:
-        constants = [it for it in parts if isinstance(it, int)]
-        registers = [it for it in parts if isinstance(it, Register)]
+        constants = [part for part in parts if isinstance(part, int)]
+        registers = [part for part in parts if isinstance(part, Register)]
         best = [{"min": min, "max": max}[name](constants)] if constants else []
         if not registers or name == "min" and best == [0]:
             return best[0]
-        found = registers[0]
+        best_so_far = registers[0]
         rest: list[Operand] = [*registers[1:], *(best if best != [0] else [])]
         for other in rest:
-            found = self._to.new(name, found, other)
-        return found
+            best_so_far = self._emitter.new(name, best_so_far, other)
+        return best_so_far
 
     def compare(self, operator: ast.cmpop, terms: Sum, target: Label, when: bool) -> None:
         """Jumps if `left operator right` is `when`; the terms are right - left."""
@@ -135,7 +138,7 @@ class Arithmetic:
         skip = Label()
         self.jump(low, high, True, skip if when else target, False)
         self.jump(high, low, True, target, when)
-        self._to.label(skip)
+        self._emitter.label(skip)
 
     def jump(self, low: Operand, high: Operand, may_be_equal: bool, target: Label, when: bool) -> None:
         """Jumps if `low` < `high`, or <= if they may be equal, is `when`. A comparison with a constant is always
@@ -146,8 +149,8 @@ class Arithmetic:
             low, may_be_equal = low + (not may_be_equal), True
             if low <= 0 or isinstance(high, int):
                 if (low <= 0 or isinstance(high, int) and low <= high) == when:
-                    self._to.emit("jump", target=target)
+                    self._emitter.emit("jump", target=target)
                 return None
         if when:
-            return self._to.emit("jle" if may_be_equal else "jlt", None, low, high, target=target)
-        return self._to.emit("jlt" if may_be_equal else "jle", None, high, low, target=target)
+            return self._emitter.emit("jle" if may_be_equal else "jlt", None, low, high, target=target)
+        return self._emitter.emit("jlt" if may_be_equal else "jle", None, high, low, target=target)

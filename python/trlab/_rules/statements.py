@@ -8,7 +8,7 @@ from typing import Optional
 from .calls import Calls
 from .emission import Label
 
-MOST_TURNS = 64
+MAX_TURNS = 64
 """The most turns of a loop: each of them takes instructions of a program, which has at most 128."""
 
 
@@ -38,7 +38,9 @@ class Translation(Calls):
         elif isinstance(node, ast.Return):
             self._return(node)
         else:
-            self.reject(node, node, "is not possible: a rule has assignments to a name, `if`, `for i in range(n)` and `return`")
+            self.reject(
+                node, node, "is not possible: a rule has assignments to a name, `if`, `for i in range(n)` and `return`"
+            )
 
     def _assign(self, target: ast.expr, node: ast.expr) -> None:
         if not isinstance(target, ast.Name):
@@ -54,8 +56,8 @@ class Translation(Calls):
             self.fail(node, "is not possible: write `for i in range(n)` with constants, and without `else`")
         if target.id in frame.assigned or target.id in frame.constants:
             self.fail(node, f"uses `{target.id}`, which has another value outside: take another name")
-        if turns[MOST_TURNS:]:
-            self.fail(node, f"has too many turns: at most {MOST_TURNS} are possible")
+        if turns[MAX_TURNS:]:
+            self.fail(node, f"has too many turns: at most {MAX_TURNS} are possible")
         for turn in turns:
             frame.constants[target.id] = turn
             self.block(node.body)
@@ -63,10 +65,12 @@ class Translation(Calls):
 
     def _turns(self, node: ast.expr) -> Optional[range]:
         """The range of a loop, if it is one of constants."""
-        if not isinstance(node, ast.Call) or not isinstance(node.func, ast.Name) or not self.is_own("range") or node.func.id != "range":
+        if not isinstance(node, ast.Call) or not isinstance(node.func, ast.Name):
+            return None
+        if node.func.id != "range" or not self.is_own("range"):
             return None
         try:
-            return range(*(self.constant(it) for it in node.args)) if not node.keywords else None
+            return range(*(self.constant(argument) for argument in node.args)) if not node.keywords else None
         except (TypeError, ValueError):
             return None
 
@@ -76,20 +80,20 @@ class Translation(Calls):
             self.fail(node, "needs a value")
         if frame.end is not None and frame.result is not None:
             self.assign(frame.result, self.value(node.value))
-            self.to.emit("jump", target=frame.end)
+            self.emitter.emit("jump", target=frame.end)
         elif self.kind == "change":
             stay = Label()
             self.branch(node.value, stay, False)
-            self.to.emit("cross")
-            self.to.label(stay)
-            self.to.emit("stay")
+            self.emitter.emit("cross")
+            self.emitter.label(stay)
+            self.emitter.emit("stay")
         else:
             self._go(node, node.value)
 
     def _go(self, node: ast.Return, speed: ast.expr) -> None:
         value = self.number(speed)
-        if value.minus != 0 and self.to.is_live:
+        if value.minus != 0 and self.emitter.is_live:
             why = value.why or self.place(speed)
             where = "" if why.line == node.lineno else f", and so may the speed of line {node.lineno}"
             why.fail(f"`{why.text}` may be below 0{where}: write `max({why.text}, 0)`, or `return car.safe(..)`")
-        self.to.emit("go", None, value.plus)
+        self.emitter.emit("go", None, value.plus)

@@ -7,10 +7,10 @@ from typing import Any, NamedTuple, NoReturn, Optional, Union
 from .emission import Instruction, Place
 from .names import Attempt, Car, Frame
 from .reading import Function, plain
-from .registers import MOST_INSTRUCTIONS, TooLongError, TooManyError, written
+from .registers import MAX_INSTRUCTIONS, TooLongError, TooManyError, written
 from .statements import Translation
 
-LONGEST_VALUE = 60
+MAX_VALUE = 60
 """The most characters of a parameter's value in the title of a program."""
 
 NEGATIVE = 9
@@ -36,8 +36,9 @@ Verify = Callable[[str], Union[int, Refusal]]
 
 
 class Program(str):
-    """The text of a driver program that was a function. `budget` is its maximum number of instructions per car and step, `words`
-    are the random words that it uses, and `counted` those of them that got their numbers by their order."""
+    """The text of a driver program that was a function. `budget` is its maximum number of instructions per car and
+    step, `words` are the random words that it uses, and `counted` those of them that got their numbers by their
+    order."""
 
     budget: int
     words: frozenset[int]
@@ -53,39 +54,42 @@ def compiled(kind: str, function: Function, named: Mapping[str, Any], verify: Ve
         except TooManyError as error:
             full = error
     assert full is not None
-    full.place.fail(f"`{full.place.text}` needs more than eight registers: calculate fewer values before this line, or some of "
-                    f"them after it ({', '.join(full.names)})")
+    names = ", ".join(full.names)
+    full.place.fail(
+        f"`{full.place.text}` needs more than eight registers: calculate fewer values before this line, or some of "
+        f"them after it ({names})"
+    )
 
 
 def _compiled(kind: str, function: Function, named: Mapping[str, Any], verify: Verify, attempt: Attempt) -> Program:
-    given = [f"{name}={_shown(value)}" for name, value in function.bound([Car()], named).items()]
-    title = f"{function.node.name}({', '.join(given[1:])})".encode("ascii", "replace").decode()
+    arguments = [f"{name}={_shown(value)}" for name, value in function.bound([Car()], named).items()]
+    title = f"{function.node.name}({', '.join(arguments[1:])})".encode("ascii", "replace").decode()
     while True:
         forms = attempt.forms()
         translation, place = _translated(kind, function, named, attempt)
         if attempt.forms() > forms:
             continue
         try:
-            program = written(translation.to.items(place))
+            program = written(translation.emitter.items(place))
         except TooLongError as error:
             place.fail(f"`{function.node.name}` needs at least {error.count} instructions, and a program has at most "
-                       f"{MOST_INSTRUCTIONS}: write fewer turns of loops, or a simpler rule")
+                       f"{MAX_INSTRUCTIONS}: write fewer turns of loops, or a simpler rule")
         text = Program(program.text(kind, title))
-        found = verify(text)
-        if isinstance(found, int):
-            text.budget, text.words = found, frozenset(translation.words)
+        verdict = verify(text)
+        if isinstance(verdict, int):
+            text.budget, text.words = verdict, frozenset(translation.words)
             text.counted = frozenset(word for word, is_given in translation.words.items() if not is_given)
             return text
-        refused = program.instructions[found.pc]
-        if found.reason != NEGATIVE or refused.difference is None:
-            _explain(refused, found.reason)
-        attempt.below.add(refused.difference)
+        rejected = program.instructions[verdict.pc]
+        if verdict.reason != NEGATIVE or rejected.difference is None:
+            _explain(rejected, verdict.reason)
+        attempt.below.add(rejected.difference)
 
 
 def _shown(value: Any) -> str:
     """The value of a parameter, on one line. Addresses of objects would be others in each run."""
     shown = " ".join(repr(plain(value)).split())
-    return "?" if " at 0x" in shown or len(shown) > LONGEST_VALUE else shown
+    return "?" if " at 0x" in shown or len(shown) > MAX_VALUE else shown
 
 
 def _translated(kind: str, function: Function, named: Mapping[str, Any], attempt: Attempt) -> tuple[Translation, Place]:
@@ -95,12 +99,14 @@ def _translated(kind: str, function: Function, named: Mapping[str, Any], attempt
     place = translation.place(function.node)._replace(text="constants")
     translation.enter(function.bound([Car()], named))
     translation.block(function.node.body)
-    if translation.to.is_live:
+    if translation.emitter.is_live:
         place.fail(f"`{function.node.name}` can end without `return`: return a value on every path")
     return translation, place
 
 
-def _explain(refused: Instruction, reason: int) -> NoReturn:
-    advice = _ADVICE.get(reason, f"is rejected by the verifier for reason {reason}: this is an error of the translation, please "
-                                 "report it")
-    refused.place.fail(f"`{refused.place.text}` {advice}")
+def _explain(rejected: Instruction, reason: int) -> NoReturn:
+    advice = _ADVICE.get(
+        reason,
+        f"is rejected by the verifier for reason {reason}: this is an error of the translation, please " "report it",
+    )
+    rejected.place.fail(f"`{rejected.place.text}` {advice}")

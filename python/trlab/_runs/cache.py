@@ -10,13 +10,13 @@ from pathlib import Path
 from collections.abc import Iterator
 from typing import IO, Optional, Union
 
-from .location import asked, find_program, sha256_of_program
+from .location import find_program, printed_by, sha256_of_program
 from .ownership import new_path, owned, remove_left
 from .._errors import IncompleteOutputError, ParameterError, ResultFilesError, TrlabWarning
 from .processes import run
 from .requests import Length, Request
 
-_HEADING = len(f"trlab-output-1 {64 * '0'} {64 * '0'}\n")
+_HEADING_LENGTH = len(f"trlab-output-1 {64 * '0'} {64 * '0'}\n")
 _BLOCK = 1 << 20
 _READ_ONLY = (errno.EACCES, errno.EPERM, errno.EROFS)
 
@@ -24,10 +24,10 @@ _READ_ONLY = (errno.EACCES, errno.EPERM, errno.EROFS)
 class Cache:
     """A folder with one file for each call of the program.
 
-    A file is named after its key, the SHA-256 of the program's arguments, the input and the program. Its first line has the key
-    and the SHA-256 of the output, which follows and is complete. A file that does not match its first line, its name or its input
-    is never used, and is replaced. Several processes, on several machines too, can use one folder at the same time. If a folder
-    cannot be written to, no new outputs are kept in it."""
+    A file is named after its key, the SHA-256 of the program's arguments, the input and the program. Its first line has
+    the key and the SHA-256 of the output, which follows and is complete. A file that does not match its first line, its
+    name or its input is never used, and is replaced. Several processes, on several machines too, can use one folder at
+    the same time. If a folder cannot be written to, no new outputs are kept in it."""
 
     def __init__(self, folder: Union[str, Path]) -> None:
         if not isinstance(folder, (str, os.PathLike)):
@@ -41,7 +41,9 @@ class Cache:
         try:
             self.folder.mkdir(parents=True, exist_ok=True)
         except (FileExistsError, NotADirectoryError):
-            raise ParameterError(f"the cache needs the path of a folder, and {self.folder} is a file, or below one") from None
+            raise ParameterError(
+                f"the cache needs the path of a folder, and {self.folder} is a file, or below one"
+            ) from None
         remove_left(self.folder)
 
     def path(self, key: str) -> Path:
@@ -62,13 +64,13 @@ class Cache:
             try:
                 file = open(path, "x+b")
             except OSError as fault:
-                _say_that_nothing_is_kept(self.folder, fault)
+                _warn_that_nothing_is_kept(self.folder, fault)
                 yield from run(request)
                 return
             with file:
                 _write(file, key, request)
                 self._move(path, key)
-                file.seek(_HEADING)
+                file.seek(_HEADING_LENGTH)
                 yield from _rest(file)
 
     def _kept(self, key: str, request: Request) -> Optional[IO[bytes]]:
@@ -81,8 +83,8 @@ class Cache:
             file = open(path, "rb", opener=lambda name, flags: os.open(name, flags | getattr(os, "O_NONBLOCK", 0)))
         except OSError:
             return None
-        if file.read(_HEADING) == _heading(key, _digest(file, request)):
-            file.seek(_HEADING)
+        if file.read(_HEADING_LENGTH) == _heading(key, _digest(file, request)):
+            file.seek(_HEADING_LENGTH)
             return file
         file.close()
         return None
@@ -94,14 +96,14 @@ class Cache:
         except IsADirectoryError:
             raise ResultFilesError(f"{self.path(key)} is a folder, and the cache needs this name: remove it") from None
         except OSError as fault:
-            _say_that_nothing_is_kept(self.folder, fault)
+            _warn_that_nothing_is_kept(self.folder, fault)
 
 
 def key_of(request: Request) -> str:
     """The key of a call: the SHA-256 of the program's version, its own SHA-256, the arguments and the input, each of
     them after its length in bytes and a colon."""
     digest = hashlib.sha256()
-    for part in [*map(str.encode, program_identity()), "\0".join(request.words).encode(), request.content()]:
+    for part in [*map(str.encode, program_identity()), "\0".join(request.arguments).encode(), request.content()]:
         digest.update(b"%d:" % len(part) + part)
     return digest.hexdigest()
 
@@ -109,27 +111,27 @@ def key_of(request: Request) -> str:
 def program_identity() -> tuple[str, str]:
     """The version of the program and its SHA-256."""
     path = find_program()
-    now = os.stat(path)
-    return _identity(path, now.st_mtime_ns, now.st_size, now.st_ino)
+    stat = os.stat(path)
+    return _identity(path, stat.st_mtime_ns, stat.st_size, stat.st_ino)
 
 
 @functools.lru_cache(maxsize=None)
-def _identity(path: str, changed: int, size: int, number: int) -> tuple[str, str]:
+def _identity(path: str, modified: int, size: int, inode: int) -> tuple[str, str]:
     """The version and SHA-256 of a program, which is read once as long as the file does not change."""
-    return (asked(path, "--version") or "").split("\n")[0], sha256_of_program(path)
+    return (printed_by(path, "--version") or "").split("\n")[0], sha256_of_program(path)
 
 
-def _say_that_nothing_is_kept(folder: Path, fault: OSError) -> None:
+def _warn_that_nothing_is_kept(folder: Path, fault: OSError) -> None:
     """Warns that outputs are not kept in a folder that cannot be written to. Raises any other fault."""
     if fault.errno not in _READ_ONLY:
         raise fault
-    said = f"new outputs are not kept, because {folder} cannot be written to: {fault.strerror}"
-    warnings.warn(said, TrlabWarning, stacklevel=2)
+    message = f"new outputs are not kept, because {folder} cannot be written to: {fault.strerror}"
+    warnings.warn(message, TrlabWarning, stacklevel=2)
 
 
 def _write(file: IO[bytes], key: str, request: Request) -> None:
     """Writes the heading and the whole output of the program."""
-    file.write(bytes(_HEADING))
+    file.write(bytes(_HEADING_LENGTH))
     digest = hashlib.sha256()
     for block in run(request):
         file.write(block)

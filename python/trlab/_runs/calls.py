@@ -9,41 +9,40 @@ from typing import NamedTuple
 
 from .location import find_program, sha256_of_program
 from .._errors import OutputFormatError, ProgramError, RejectedInputError
-from .processes import RejectionError, output_of, run
+from .processes import REJECTED, RejectionError, output_of, run
 from .requests import Request
 
-REJECTED = 1
 # `explain` reads a rejected input as one of these commands does.
 _READ_AS = {"series": "run"}
 
 
-def ask(words: Sequence[str], text: str) -> str:
+def ask(arguments: Sequence[str], text: str) -> str:
     """The output of the program for these arguments and this input."""
-    return _decoded(ask_for_bytes(words, text))
+    return _decoded(ask_for_bytes(arguments, text))
 
 
-def ask_for_bytes(words: Sequence[str], text: str) -> bytes:
+def ask_for_bytes(arguments: Sequence[str], text: str) -> bytes:
     """The same output as bytes."""
-    return b"".join(_output_of(words, text))
+    return b"".join(_output_of(arguments, text))
 
 
-def ask_by_line(words: Sequence[str], text: str) -> Iterator[str]:
+def ask_by_line(arguments: Sequence[str], text: str) -> Iterator[str]:
     """Iterate over the lines of the output while the program runs, keeping few of them at a time."""
-    begun = b""
-    with closing(_output_of(words, text)) as blocks:
+    unfinished = b""
+    with closing(_output_of(arguments, text)) as blocks:
         for block in blocks:
             end = block.rfind(b"\n") + 1
             if end:
-                yield from io.StringIO(_decoded(begun + block[:end]))
-                begun = b""
-            begun += block[end:]
-    if begun:
-        yield _decoded(begun)
+                yield from io.StringIO(_decoded(unfinished + block[:end]))
+                unfinished = b""
+            unfinished += block[end:]
+    if unfinished:
+        yield _decoded(unfinished)
 
 
-def _output_of(words: Sequence[str], text: str) -> Generator[bytes, None, None]:
+def _output_of(arguments: Sequence[str], text: str) -> Generator[bytes, None, None]:
     """The output in blocks. Raises `RejectedInputError` if the input is rejected."""
-    request = Request(tuple(words), text)
+    request = Request(tuple(arguments), text)
     try:
         yield from output_of(request)
     except RejectionError as rejection:
@@ -52,11 +51,12 @@ def _output_of(words: Sequence[str], text: str) -> Generator[bytes, None, None]:
 
 def _explanation(request: Request, rejection: ProgramError) -> Exception:
     """The error for an input that the program rejects."""
-    word = _READ_AS.get(request.words[0], request.words[0])
-    explanation = explained(request.text, "--json", word)
+    command = _READ_AS.get(request.arguments[0], request.arguments[0])
+    explanation = explained(request.text, "--json", command)
     if explanation.returncode != REJECTED:
-        return ProgramError(rejection.status, f"it rejects an input that `trlab explain {word}` accepts: {rejection.message}")
-    return RejectedInputError(explained(request.text, word).stdout.rstrip("\n"), json.loads(explanation.stdout))
+        message = f"it rejects an input that `trlab explain {command}` accepts: {rejection.message}"
+        return ProgramError(rejection.status, message)
+    return RejectedInputError(explained(request.text, command).stdout.rstrip("\n"), json.loads(explanation.stdout))
 
 
 class Explanation(NamedTuple):
@@ -66,12 +66,13 @@ class Explanation(NamedTuple):
     returncode: int
 
 
-def explained(text: str, *words: str) -> Explanation:
-    """The explanation of an input, read as for this command, or as its first word says."""
+def explained(text: str, *arguments: str) -> Explanation:
+    """The explanation of an input for these arguments: a command that would read it (by default the one that the first
+    line of the input is for), and `--json` for the form."""
     status: list[int] = []
 
     def blocks() -> Iterator[bytes]:
-        status.append((yield from run(Request(("explain", *words), text))))
+        status.append((yield from run(Request(("explain", *arguments), text))))
 
     return Explanation(_decoded(b"".join(blocks())), status[0])
 

@@ -11,16 +11,17 @@ from typing import Any, Literal, NamedTuple, Optional, Union, overload
 
 from .._errors import ParameterError, ProgramNotFoundError, ResultFilesError
 from .._inputs.jobs import Job
-from .._inputs.numbers import whole
+from .._inputs.numbers import checked_int
 from .._inputs.sweeps import Sweep
 from .._results.tables import Point, Row, Table, Window
 from .cluster_script import script_of
-from .location import asked, find_program
+from .location import find_program, printed_by
 from .ownership import new_path
 from .parts import joined, kind_of, requests_of
 from .requests import Request
 
 _PART = re.compile(r"(.+)~([0-9]+)of([0-9]+)")
+_ARGUMENT = re.compile("[a-zA-Z0-9=-]+")
 
 
 class _File(NamedTuple):
@@ -31,16 +32,20 @@ class _File(NamedTuple):
 
     @property
     def input(self) -> str:
-        return f"{self.name}.{'sweep' if self.request.words[0] == 'sweep' else 'job'}"
+        return f"{self.name}.{'sweep' if self.request.arguments[0] == 'sweep' else 'job'}"
 
     @property
     def result(self) -> str:
-        return f"{self.name}.{'out' if self.request.words[0] == 'run' else 'csv'}"
+        return f"{self.name}.{'out' if self.request.arguments[0] == 'run' else 'csv'}"
+
+    def with_arguments(self, arguments: tuple[str, ...]) -> _File:
+        """The file of the same input for other arguments."""
+        return self._replace(request=self.request._replace(arguments=arguments))
 
     def line(self) -> str:
         """The line of array.txt."""
         endings = [name.rpartition(".")[2] for name in (self.input, self.result)]
-        return "\t".join([str(self.request.lines()), *endings, " ".join(self.request.words), self.name]) + "\n"
+        return "\t".join([str(self.request.lines()), *endings, " ".join(self.request.arguments), self.name]) + "\n"
 
 
 def write_inputs(
@@ -50,43 +55,46 @@ def write_inputs(
     program: Optional[str] = None,
     per_task: int = 1,
 ) -> Path:
-    """Write each input as `folder/NAME.sweep` (`folder/NAME.job` for other words), and a script for a Slurm array, whose
-    path is returned:
+    """Write each input as `folder/NAME.sweep` (`folder/NAME.job` for other words), and a script for a Slurm array,
+    whose path is returned:
 
         sbatch folder/array.sh
 
     A task passes `per_task` inputs to the program with these words, for example `["series", "--every", "100"]`, and
-    writes `folder/NAME.csv` (`folder/NAME.out` for `run`). A result is complete or absent, even if a task is killed;
-    a restarted task skips finished inputs. Slurm's messages go to `folder/slurm-*.out`, and `folder/NAME.error` says why
-    an input has no result. If the cluster limits the number of tasks, often to 1001, increase `per_task`. Without Slurm,
-    `sh folder/array.sh` runs all inputs in sequence, and GNU parallel runs N tasks side by side (the script names N):
+    writes `folder/NAME.csv` (`folder/NAME.out` for `run`). A result is complete or absent, even if a task is killed; a
+    restarted task skips finished inputs. Slurm's messages go to `folder/slurm-*.out`, and `folder/NAME.error` says why
+    an input has no result. If the cluster limits the number of tasks, often to 1001, increase `per_task`. Without
+    Slurm, `sh folder/array.sh` runs all inputs in sequence, and GNU parallel runs N tasks side by side (the script
+    names N):
 
         seq N | parallel SLURM_ARRAY_TASK_ID={} sh folder/array.sh
 
-    A sweep that does not fit in a single file, because it is long or starts from another state than `even`, is written as several
-    files, such as `folder/NAME~3of20.job`, and `read_tables` joins their results to one table.
+    A sweep that does not fit in a single file, because it is long or starts from another state than `even`, is written
+    as several files, such as `folder/NAME~3of20.job`, and `read_tables` joins their results to one table.
 
-    `program` is the path of trlab on the tasks' machines, by default its path here. All results of a folder come from one
-    program: `array.program` has its version and SHA-256, and a task that finds another program ends with an error. Raises
-    `ResultFilesError` if the folder has a result of another program, of another input or of other words under one of the names,
-    and `ParameterError` for invalid file names."""
-    place = _place(folder)
-    count = whole("per_task", per_task, 1, 10**9)
-    found = program or find_program()
-    files = [file for name, given in inputs.items() for file in _files(_checked(name), given, _checked_words(words))]
+    `program` is the path of trlab on the tasks' machines, by default its path here. All results of a folder come from
+    one program: `array.program` has its version and SHA-256, and a task that finds another program ends with an error.
+    Raises `ResultFilesError` if the folder has a result of another program, of another input or of other words under
+    one of the names, and `ParameterError` for invalid file names."""
+    place = _checked_folder(folder)
+    count = checked_int("per_task", per_task, 1, 10**9)
+    program_path = program or find_program()
+    arguments = _checked_arguments(words)
+    files = [file for name, input in inputs.items() for file in _files(_checked(name), input, arguments)]
     if len({file.name for file in files}) < len(files):
         raise ParameterError("two inputs have the same file name")
     place.mkdir(parents=True, exist_ok=True)
-    before = _words_in(place)
+    before = _arguments_in(place)
     _check_results(place, files, before)
-    _keep_identity(place, _identity(found))
+    _keep_identity(place, _identity(program_path))
     for file in files:
         _write(place / file.input, file.request.text)
         (place / f"{file.name}.error").unlink(missing_ok=True)
-    told = {**before, **{file.name: file.request.words for file in files}}
-    _write(place / "array.words", "".join(f"{name}\t{' '.join(words)}\n" for name, words in told.items()))
+    arguments_of = {**before, **{file.name: file.request.arguments for file in files}}
+    lines = [f"{name}\t{' '.join(arguments_of[name])}\n" for name in arguments_of]
+    _write(place / "array.words", "".join(lines))
     _write(place / "array.txt", "".join(file.line() for file in files))
-    _write(place / "array.sh", script_of(place, found, len(files), count))
+    _write(place / "array.sh", script_of(place, program_path, len(files), count))
     return place / "array.sh"
 
 
@@ -115,31 +123,31 @@ def read_tables(
     inputs: Optional[Mapping[str, Union[Job, Sweep]]] = None,
     errors: str = "raise",
 ) -> dict[str, Any]:
-    """Read the tables of a folder of `write_inputs`, by name; `kind` is `Point` for sweeps and `Window` for series. With the
-    `inputs` of `write_inputs` the tables are in their order, and each must be the complete table of its input. Without them every
-    table of the folder is read, and one that ends after a whole row counts as complete.
+    """Read the tables of a folder of `write_inputs`, by name; `kind` is `Point` for sweeps and `Window` for series.
+    With the `inputs` of `write_inputs` the tables are in their order, and each must be the complete table of its input.
+    Without them every table of the folder is read, and one that ends after a whole row counts as complete.
 
-    One `ResultFilesError` names every table that is missing, empty, short, damaged, impossible or of another input. With
-    `errors="keep"` each of these tables is a `ResultFilesError` in the result, so that the others can be used, for
+    One `ResultFilesError` names every table that is missing, empty, short, damaged, impossible or of another input.
+    With `errors="keep"` each of these tables is a `ResultFilesError` in the result, so that the others can be used, for
     example by `Grid.frame`."""
     if errors not in ("raise", "keep"):
         raise ParameterError(f'errors must be "raise" or "keep", not {errors!r}')
     place = Path(folder).expanduser()
-    found: dict[str, Any] = {}
+    tables: dict[str, Any] = {}
     faults: list[str] = []
-    for name, files in _wanted(place, kind, inputs).items():
+    for name, files in _expected_files(place, kind, inputs).items():
         try:
-            found[name] = joined(kind, [_read(place, file) for file in files])
+            tables[name] = joined(kind, [_read(place, file) for file in files])
         except ResultFilesError as fault:
-            found[name] = fault
+            tables[name] = fault
             faults.append(str(fault))
     if faults and errors == "raise":
         shown = "\n".join(f"  {fault}" for fault in faults)
-        raise ResultFilesError(f"{len(faults)} of {len(found)} tables in {place} cannot be used:\n{shown}")
-    return found
+        raise ResultFilesError(f"{len(faults)} of {len(tables)} tables in {place} cannot be used:\n{shown}")
+    return tables
 
 
-def _place(folder: Union[str, Path]) -> Path:
+def _checked_folder(folder: Union[str, Path]) -> Path:
     """A folder that a line of a script can name."""
     place = Path(folder).expanduser().resolve()
     if not str(folder) or not str(place).isprintable():
@@ -151,43 +159,50 @@ def _checked(name: str) -> str:
     """A name that is the beginning of a file name, and one line."""
     is_name = isinstance(name, str) and name != "" and name.isprintable() and "/" not in name and name[0] != "."
     if not is_name or _PART.fullmatch(name):
-        raise ParameterError(f"{name!r} cannot be the name of a file: no slash, control character, leading dot or end like ~1of2")
+        raise ParameterError(
+            f"{name!r} cannot be the name of a file: no slash, control character, leading dot or end like ~1of2"
+        )
     return name
 
 
-def _checked_words(words: Sequence[str]) -> list[str]:
-    """Words of the command line, which a shell reads as they are."""
-    found = list(words)
-    if isinstance(words, str) or not found or not all(re.fullmatch("[a-zA-Z0-9=-]+", word) for word in found):
-        raise ParameterError(f'words must be a list such as ["series", "--every", "100"], not {words!r}')
-    return found
+def _checked_arguments(arguments: Sequence[str]) -> list[str]:
+    """A command of the program and its options, which a shell reads as they are."""
+    checked = list(arguments)
+    if isinstance(arguments, str) or not checked or not all(_ARGUMENT.fullmatch(argument) for argument in checked):
+        raise ParameterError(f'words must be a list such as ["series", "--every", "100"], not {arguments!r}')
+    return checked
 
 
-def _files(name: str, given: Union[Job, Sweep], words: Sequence[str]) -> list[_File]:
+def _files(name: str, input: Union[Job, Sweep], arguments: Sequence[str]) -> list[_File]:
     """The files of an input."""
-    requests = requests_of(given, words)
+    requests = requests_of(input, arguments)
     several = len(requests) > 1
     return [
-        _File(f"{name}~{number}of{len(requests)}" if several else name, request) for number, request in enumerate(requests, 1)
+        _File(f"{name}~{number}of{len(requests)}" if several else name, request)
+        for number, request in enumerate(requests, 1)
     ]
 
 
-def _words_in(place: Path) -> dict[str, tuple[str, ...]]:
-    """The words for each file that a folder was written with."""
+def _arguments_in(place: Path) -> dict[str, tuple[str, ...]]:
+    """The arguments of the program for each file that a folder was written with."""
     try:
         lines = (place / "array.words").read_text("utf-8").splitlines()
     except FileNotFoundError:
         return {}
-    return {name: tuple(words.split(" ")) for name, tab, words in (line.partition("\t") for line in lines) if tab}
+    return {
+        name: tuple(arguments.split(" ")) for name, tab, arguments in (line.partition("\t") for line in lines) if tab
+    }
 
 
 def _check_results(place: Path, files: Sequence[_File], before: Mapping[str, tuple[str, ...]]) -> None:
-    """Raises `ResultFilesError` if there are results that other inputs or other words gave."""
+    """Raises `ResultFilesError` if there are results that other inputs or other arguments gave."""
     for file in files:
         if (place / file.result).exists() and (
-            before.get(file.name) != file.request.words or _content(place / file.input) != file.request.text
+            before.get(file.name) != file.request.arguments or _content(place / file.input) != file.request.text
         ):
-            raise ResultFilesError(f"{place / file.result} is the result of another input: remove it, or take another folder")
+            raise ResultFilesError(
+                f"{place / file.result} is the result of another input: remove it, or take another folder"
+            )
 
 
 def _identity(program: str) -> Optional[str]:
@@ -195,7 +210,7 @@ def _identity(program: str) -> Optional[str]:
     path = shutil.which(program)
     if path is None:
         return None
-    version = (asked(path, "--version") or "").split("\n")[0]
+    version = (printed_by(path, "--version") or "").split("\n")[0]
     if not version.startswith("trlab "):
         raise ProgramNotFoundError(f"{path} is not trlab: it does not answer to --version as trlab does")
     return f"{version} {hashlib.sha256(Path(path).read_bytes()).hexdigest()}"
@@ -232,39 +247,43 @@ def _write(file: Path, content: str) -> None:
     os.replace(new, file)
 
 
-def _wanted(place: Path, kind: Any, inputs: Optional[Mapping[str, Union[Job, Sweep]]]) -> dict[str, list[_File]]:
+def _expected_files(place: Path, kind: Any, inputs: Optional[Mapping[str, Union[Job, Sweep]]]) -> dict[
+    str, list[_File]
+]:
     """The files whose results are the tables, by the names of the tables."""
-    before = _words_in(place)
+    before = _arguments_in(place)
     if inputs is None:
-        return _all_in(place, kind, before)
-    found: dict[str, list[_File]] = {}
-    for name, given in inputs.items():
-        if kind is not (Point if isinstance(given, Sweep) else Window):
-            raise ParameterError(f"{name!r} is a {type(given).__name__}: sweeps have tables of kind Point, jobs of kind Window")
-        files = _files(name, given, ["sweep"] if isinstance(given, Sweep) else ["series"])
-        if isinstance(given, Job):
+        return _all_files_in(place, kind, before)
+    expected: dict[str, list[_File]] = {}
+    for name, input in inputs.items():
+        if kind is not (Point if isinstance(input, Sweep) else Window):
+            raise ParameterError(
+                f"{name!r} is a {type(input).__name__}: sweeps have tables of kind Point, jobs of kind Window"
+            )
+        files = _files(name, input, ["sweep"] if isinstance(input, Sweep) else ["series"])
+        if isinstance(input, Job):
             # Only the folder records which windows of a job were requested.
-            files = [_File(it.name, it.request._replace(words=before.get(it.name, it.request.words))) for it in files]
-        found[name] = files
-    return found
+            files = [file.with_arguments(before.get(file.name, file.request.arguments)) for file in files]
+        expected[name] = files
+    return expected
 
 
-def _all_in(place: Path, kind: Any, before: Mapping[str, tuple[str, ...]]) -> dict[str, list[_File]]:
+def _all_files_in(place: Path, kind: Any, before: Mapping[str, tuple[str, ...]]) -> dict[str, list[_File]]:
     """As `_wanted`, for all tables of a folder, whose inputs are unknown."""
-    found: dict[str, list[_File]] = {}
+    files: dict[str, list[_File]] = {}
     for name in sorted(file.stem for file in place.glob("[!.]*.csv")):
         part = _PART.fullmatch(name)
         names = [f"{part[1]}~{number}of{part[3]}" for number in range(1, int(part[3]) + 1)] if part else [name]
-        unsaid = ("sweep",) if kind is Point else ("series",)
-        found[part[1] if part else name] = [_File(it, Request(before.get(it, unsaid), "")) for it in names]
-    return found
+        default = ("sweep",) if kind is Point else ("series",)
+        files[part[1] if part else name] = [_File(stem, Request(before.get(stem, default), "")) for stem in names]
+    return files
 
 
 def _read(place: Path, file: _File) -> Table[Any]:
     """A table; raises `ResultFilesError` with its fault. An empty text means an unknown input."""
     content = _content_of_result(place, file)
     try:
-        table: Table[Any] = Table.read(kind_of(file.request.words), content)
+        table: Table[Any] = Table.read(kind_of(file.request.arguments), content)
     except (TypeError, ValueError) as error:
         raise ResultFilesError(f"{file.result} is damaged: {error}") from None
     for fault in _differences(place, file, table) if file.request.text else ():
@@ -314,9 +333,9 @@ def _differences_of_windows(request: Request, table: Table[Any]) -> Iterator[str
     if ends[-1] > steps or any(end + row.steps != row.step for end, row in zip(ends, table[1:])):
         yield "has other windows than its job"
     lanes = re.findall("^lane (.+)$", request.text, re.M)
-    road = sum(map(len, lanes)), sum(len(lane) - lane.count(".") for lane in lanes)
-    if any((row.cells, row.cars) != road for row in table):
+    cells, cars = sum(map(len, lanes)), sum(len(lane) - lane.count(".") for lane in lanes)
+    if any(row.cells != cells or row.cars != cars for row in table):
         yield "has another road than its job"
     every, first = request.windows()
-    if len(request.words) > 1 and (table[0].steps, ends[0]) != (every, first + every):
+    if len(request.arguments) > 1 and (table[0].steps != every or ends[0] != first + every):
         yield f"has other windows than `{request}`"

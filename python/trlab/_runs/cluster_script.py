@@ -9,8 +9,8 @@ _SCRIPT = """#!/bin/sh
 # Task i of the array runs up to {per_task} of the {inputs} inputs that array.txt lists. Without a task number this
 # script runs all of them, one after the other. With GNU parallel:
 #     seq {tasks} | parallel SLURM_ARRAY_TASK_ID={{}} sh {script}
-# A result is complete or absent: trlab writes to a hidden file, which is moved into place if trlab ends with status 0 and
-# the file has all lines of this input. Inputs that have a result are skipped. NAME.error says why another has none.
+# A result is complete or absent: trlab writes to a hidden file, which is moved into place if trlab ends with status 0
+# and the file has all lines of this input. Inputs that have a result are skipped. NAME.error says why another has none.
 cd -- {folder} || exit 1
 program={program}
 tab=$(printf '\\t')
@@ -42,10 +42,10 @@ if [ "$(cat array.program)" != "$identity" ]; then
 fi
 # Why there is no result, from the exit status and the first line that trlab wrote.
 reason() {{
-    said=$(head -n 1 -- "$new" | cut -c 1-200)
+    message=$(head -n 1 -- "$new" | cut -c 1-200)
     case $1 in
         0) echo "trlab wrote $(wc -l < "$new") of $lines lines" ;;
-        1) echo "trlab ended with status 1: $said" ;;
+        1) echo "trlab ended with status 1: $message" ;;
         2) echo "trlab ended with status 2: the words are invalid: $words" ;;
         3) echo "trlab ended with status 3: memory ran out" ;;
         4) echo "trlab ended with status 4: reading the input or writing the output failed" ;;
@@ -58,12 +58,12 @@ while IFS="$tab" read -r lines kind result words name; do
     "$program" $words < "$name.$kind" > "$new" &
     running=$!
     wait "$running"
-    ended=$?
-    if [ "$ended" -eq 0 ] && [ "$(wc -l < "$new")" -eq "$lines" ] && mv -f -- "$new" "$name.$result"; then
+    code=$?
+    if [ "$code" -eq 0 ] && [ "$(wc -l < "$new")" -eq "$lines" ] && mv -f -- "$new" "$name.$result"; then
         rm -f -- ".$name.new."* "$name.error"
     else
-        [ "$ended" -eq 0 ] && status=1 || status=$ended
-        why=$(reason "$ended")
+        [ "$code" -eq 0 ] && status=1 || status=$code
+        why=$(reason "$code")
         echo "$name.$kind has no result, $why" >&2
         echo "$why" > "$name.error"
         rm -f -- "$new"
@@ -77,7 +77,8 @@ exit $status
 
 
 def script_of(folder: Path, program: str, inputs: int, per_task: int) -> str:
-    """The script for this number of inputs, of which a task runs up to `per_task`. The folder has a name of one line."""
+    """The script for this number of inputs, of which a task runs up to `per_task`. The folder has a name of one
+    line."""
     return _SCRIPT.format(
         folder=shlex.quote(str(folder)),
         # Slurm replaces a percent sign and the character after it.

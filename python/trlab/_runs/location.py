@@ -26,8 +26,8 @@ _SCRIPT = _HERE.parents[1] / "trlab"
 # The features of each processor level beyond the first x86-64 processors, in the words of Linux.
 FEATURES_OF_V2 = set("cx16 lahf_lm pni popcnt sse4_1 sse4_2 ssse3".split())
 FEATURES_OF_V3 = FEATURES_OF_V2 | set("abm avx avx2 bmi1 bmi2 f16c fma movbe xsave".split())
-_LONGEST_ANSWER = 65536
-_PATIENCE = 60.0
+_MAX_OUTPUT = 65536
+_TIME_LIMIT = 60.0
 """How long a program may take to print its version, in seconds."""
 # Set while the command `trlab` runs a program that it found on the PATH, which may be this command again.
 _ON_PATH = "TRLAB_FOUND_ON_PATH"
@@ -49,8 +49,8 @@ def find_program() -> str:
 
 
 def sha256_of_program(path: str) -> str:
-    """The SHA-256 of a program, 64 hexadecimal digits. For a script such as `./trlab` it is that of the program which the script
-    runs, and for a script for Node that of the module of WebAssembly."""
+    """The SHA-256 of a program, 64 hexadecimal digits. For a script such as `./trlab` it is that of the program which
+    the script runs, and for a script for Node that of the module of WebAssembly."""
     if is_for_node(path):
         return sha256_of_module(path)
     return hashlib.sha256(_program_behind(path).read_bytes()).hexdigest()
@@ -61,27 +61,30 @@ def _program_behind(path: str) -> Path:
     with open(path, "rb") as file:
         if file.read(2) != b"#!":
             return Path(path)
-    named = Path((asked(path, "--where") or "").rstrip("\n"))
+    named = Path((printed_by(path, "--where") or "").rstrip("\n"))
     return named if named.is_absolute() and named.is_file() else Path(path)
 
 
-def asked(path: str, word: str) -> Optional[str]:
-    """The output of a program for `--version` or `--where`, or None if it cannot be run, ends with an error or does not end."""
+def printed_by(path: str, option: str) -> Optional[str]:
+    """The output of a program for `--version` or `--where`, or None if it cannot be run, ends with an error or does not
+    end."""
     try:
-        process = subprocess.Popen([*command_of(path), word], stdin=subprocess.DEVNULL, stdout=subprocess.PIPE, stderr=subprocess.DEVNULL)
+        process = subprocess.Popen(
+            [*command_of(path), option], stdin=subprocess.DEVNULL, stdout=subprocess.PIPE, stderr=subprocess.DEVNULL
+        )
     except OSError:
         return None
-    alarm = threading.Timer(_PATIENCE, process.kill)
+    alarm = threading.Timer(_TIME_LIMIT, process.kill)
     alarm.daemon = True
     alarm.start()
     with process:
         assert process.stdout is not None
-        answer = process.stdout.read(_LONGEST_ANSWER + 1)
-        if len(answer) > _LONGEST_ANSWER:
+        output = process.stdout.read(_MAX_OUTPUT + 1)
+        if len(output) > _MAX_OUTPUT:
             process.kill()
         process.wait()
     alarm.cancel()
-    return os.fsdecode(answer) if process.returncode == 0 and len(answer) <= _LONGEST_ANSWER else None
+    return os.fsdecode(output) if process.returncode == 0 and len(output) <= _MAX_OUTPUT else None
 
 
 def _named(name: str) -> str:
@@ -91,14 +94,16 @@ def _named(name: str) -> str:
     if not is_for_node(name) and not os.access(path, os.X_OK):
         raise ProgramNotFoundError(f"TRLAB is {name!r}, and {path} is not executable")
     if not _is_trlab(str(path), path.stat().st_mtime_ns):
-        raise ProgramNotFoundError(f"TRLAB is {name!r}, and {path} is not trlab: it does not answer to --version as trlab does")
+        raise ProgramNotFoundError(
+            f"TRLAB is {name!r}, and {path} is not trlab: it does not answer to --version as trlab does"
+        )
     return str(path)
 
 
 @functools.lru_cache(maxsize=None)
-def _is_trlab(path: str, changed: int) -> bool:
+def _is_trlab(path: str, modified: int) -> bool:
     """Whether a program, which was changed last at this time, says that it is trlab."""
-    return (asked(path, "--version") or "").startswith("trlab ")
+    return (printed_by(path, "--version") or "").startswith("trlab ")
 
 
 @functools.lru_cache(maxsize=None)
@@ -107,12 +112,15 @@ def _packed() -> Optional[str]:
     if not (fits_native_programs() and any(_PACKED.glob("trlab-x86-64-v*.gz"))):
         return None
     level = "x86-64-v3" if FEATURES_OF_V3 <= _features() else "x86-64-v2"
-    released = dict(line.split() for line in (_PACKED / "release.txt").read_text("utf-8").splitlines() if line[:1] != "#")
+    lines = (_PACKED / "release.txt").read_text("utf-8").splitlines()
+    released = dict(line.split() for line in lines if not line.startswith("#"))
     for folder in _folders():
         path = folder / f"trlab-{level}-{released[level]}"
         if _has_sum(path, released[level]) or _unpacked(_PACKED / f"trlab-{level}.gz", path, released[level]):
             return str(path)
-    raise ProgramNotFoundError(f"the program in {_PACKED} is damaged, or no folder can hold its copy: install trlab again")
+    raise ProgramNotFoundError(
+        f"the program in {_PACKED} is damaged, or no folder can hold its copy: install trlab again"
+    )
 
 
 def _features() -> set[str]:
@@ -167,33 +175,37 @@ def _unpacked(packed: Path, path: Path, sha256: str) -> bool:
 
 @functools.lru_cache(maxsize=None)
 def _of_checkout() -> Optional[str]:
-    if not (fits_native_programs() and _SCRIPT.is_file() and os.access(_SCRIPT, os.X_OK) and (_SCRIPT.parent / "release").is_dir()):
+    if not fits_native_programs() or not (_SCRIPT.parent / "release").is_dir():
         return None
-    ran = subprocess.run([_SCRIPT, "--where"], stdin=subprocess.DEVNULL, stdout=subprocess.PIPE, stderr=subprocess.PIPE)
-    path = os.fsdecode(ran.stdout).rstrip("\n")
-    if ran.returncode != 0 or not path:
-        said = ran.stderr.decode("utf-8", "replace").strip()
-        raise ProgramNotFoundError(said or f"{_SCRIPT} ended with status {ran.returncode}")
+    if not _SCRIPT.is_file() or not os.access(_SCRIPT, os.X_OK):
+        return None
+    process = subprocess.run(
+        [_SCRIPT, "--where"], stdin=subprocess.DEVNULL, stdout=subprocess.PIPE, stderr=subprocess.PIPE
+    )
+    path = os.fsdecode(process.stdout).rstrip("\n")
+    if process.returncode != 0 or not path:
+        message = process.stderr.decode("utf-8", "replace").strip()
+        raise ProgramNotFoundError(message or f"{_SCRIPT} ended with status {process.returncode}")
     return path
 
 
 @functools.lru_cache(maxsize=None)
 def _for_node() -> Optional[str]:
     """The script that Node runs, if the program in WebAssembly is there, is whole, and Node is on the `PATH`."""
-    found = of_package()
-    if found is None or node() is None:
+    release = of_package()
+    if release is None or node() is None:
         return None
-    found.module()
-    return str(found.script)
+    release.module()
+    return str(release.script)
 
 
 def _on_path() -> Optional[str]:
     if _ON_PATH in os.environ:
         return None
-    found = shutil.which("trlab")
-    if found is None or not _is_trlab_from_path(found):
+    path = shutil.which("trlab")
+    if path is None or not _is_trlab_from_path(path):
         return None
-    return found
+    return path
 
 
 def _is_trlab_from_path(path: str) -> bool:
@@ -207,7 +219,9 @@ def _is_trlab_from_path(path: str) -> bool:
 def _nowhere() -> NoReturn:
     if of_package() is not None:
         raise ProgramNotFoundError(
-            "no native program of trlab fits this machine, and the one in WebAssembly needs Node: install Node 18 or later, so that "
-            "`node` is on the PATH"
+            "no native program of trlab fits this machine, and the one in WebAssembly needs Node: install Node 18 or "
+            "later, so that `node` is on the PATH"
         )
-    raise ProgramNotFoundError("trlab is not found: install it with pip, put it on the PATH, or name the program in TRLAB")
+    raise ProgramNotFoundError(
+        "trlab is not found: install it with pip, put it on the PATH, or name the program in TRLAB"
+    )

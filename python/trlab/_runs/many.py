@@ -18,7 +18,7 @@ from .processes import Processes, Setting, new_processes, set_to, setting
 from .systems import after_fork, processors
 from .._inputs.jobs import Job
 from .._inputs.sweeps import Sweep
-from .._inputs.numbers import whole
+from .._inputs.numbers import checked_int
 
 Input = TypeVar("Input")
 Name = TypeVar("Name")
@@ -29,9 +29,9 @@ _RUNS: dict[str, Processes] = {}
 after_fork(_RUNS.clear)
 
 
-def table_or_snapshots(it: Union[Job, Sweep]) -> Any:
+def table_or_snapshots(input: Union[Job, Sweep]) -> Any:
     """The table of a sweep, or the snapshots of a job."""
-    return it.sweep() if isinstance(it, Sweep) else it.run()
+    return input.sweep() if isinstance(input, Sweep) else input.run()
 
 
 @overload
@@ -85,8 +85,8 @@ def results(
       `mpi4py.futures.MPIPoolExecutor`, joblib's `get_reusable_executor()`), `call` must be a top-level function of a
       module, unless the executor can send others.
     - `progress=True` reports on standard error; a function is called with the numbers of finished and of all inputs.
-    - `errors="raise"` raises the first exception of a call, for example `RejectedInputError`; `errors="keep"` yields it as the
-      result and continues.
+    - `errors="raise"` raises the first exception of a call, for example `RejectedInputError`; `errors="keep"` yields it
+      as the result and continues.
     - `at_once` is the number of inputs that run at a time, by default one per processor, or as many as the executor
       takes.
 
@@ -97,30 +97,30 @@ def results(
     if errors not in ("raise", "keep"):
         raise ParameterError(f'errors must be "raise" or "keep", not {errors!r}')
     if at_once is not None:
-        at_once = whole("at_once", at_once, 1, 10**6)
+        at_once = checked_int("at_once", at_once, 1, 10**6)
     named = dict(inputs) if isinstance(inputs, Mapping) else dict(enumerate(inputs))
     if call is None:
-        for name, given in named.items():
-            if not isinstance(given, (Job, Sweep)):
-                raise ParameterError(f"input {name!r} is not a Job or a Sweep: {given!r}")
+        for name, input in named.items():
+            if not isinstance(input, (Job, Sweep)):
+                raise ParameterError(f"input {name!r} is not a Job or a Sweep: {input!r}")
     kept, report = _cache_for(cache), reporter(progress)
     return _results(named, call or table_or_snapshots, kept, executor, report, errors == "keep", at_once)
 
 
 def run_all(inputs: Iterable[Input], call: Callable[[Input], Result], at_once: Optional[int] = None) -> list[Result]:
-    """Apply `call` to every input and return the results in order, for example `run_all(sweeps, Sweep.sweep)`. `at_once` is
-    as in `results`. If a call raises an exception, the other calls are stopped and it is raised."""
+    """Apply `call` to every input and return the results in order, for example `run_all(sweeps, Sweep.sweep)`.
+    `at_once` is as in `results`. If a call raises an exception, the other calls are stopped and it is raised."""
     if callable(inputs) and not callable(call):
         raise ParameterError("the inputs come first: run_all(inputs, call)")
-    found = dict(results(list(inputs), call, at_once=at_once))
-    return [found[place] for place in range(len(found))]
+    results_by_place = dict(results(list(inputs), call, at_once=at_once))
+    return [results_by_place[place] for place in range(len(results_by_place))]
 
 
 def _cache_for(folder: Union[None, str, Path]) -> Optional[Cache]:
     """The cache in a folder; without a folder, the cache of the task in which this runs, if there is one."""
     if folder is None:
-        now = setting()
-        return None if now is None else now.cache
+        current = setting()
+        return None if current is None else current.cache
     cache = Cache(folder)
     cache.create()
     return cache
@@ -141,8 +141,8 @@ def _results(
     with _running(executor, cache, at_once, names) as (pool, lease, waiting):
 
         def submit(count: Optional[int]) -> None:
-            for name, given in itertools.islice(inputs, count):
-                future = pool.submit(_task, call, given, cache, lease)
+            for name, input in itertools.islice(inputs, count):
+                future = pool.submit(_task, call, input, cache, lease)
                 names[future] = name
                 future.add_done_callback(finished.put)
 
@@ -151,11 +151,11 @@ def _results(
             for done in range(1, len(named) + 1):
                 future = finished.get()
                 name = names.pop(future)
-                found = _found(future, are_errors_kept)
+                result = _result_of(future, are_errors_kept)
                 submit(1)
                 if report is not None:
                     report(done, len(named))
-                yield name, found
+                yield name, result
         finally:
             if isinstance(report, Line):
                 report.end()
@@ -166,11 +166,11 @@ def _running(
     executor: Optional[Executor], cache: Optional[Cache], at_once: Optional[int], futures: dict[Future[Any], Any]
 ) -> Iterator[tuple[Executor, Lease, Optional[int]]]:
     """The executor, the lease of the run, and how many inputs it gets at first. At the end nothing of it continues."""
-    now = setting()
+    current = setting()
     # A run inside a task of another run leaves the other processors to the other tasks.
-    count = at_once or (processors() if now is None else 1)
+    count = at_once or (processors() if current is None else 1)
     lease = Lease.new(None if cache is None else cache.folder)
-    with new_processes(None if now is None else now.processes) as processes:
+    with new_processes(None if current is None else current.processes) as processes:
         pool = executor or ThreadPoolExecutor(count, "trlab")
         _RUNS[lease.path] = processes
         running: list[Future[Any]] = []
@@ -190,7 +190,7 @@ def _running(
             del _RUNS[lease.path]
 
 
-def _found(future: Future[Any], are_errors_kept: bool) -> Any:
+def _result_of(future: Future[Any], are_errors_kept: bool) -> Any:
     """The result of a call, or its exception if these are kept; one of the executor itself is always raised."""
     error = future.exception()
     if are_errors_kept and isinstance(error, Exception) and not isinstance(error, BrokenExecutor):
@@ -198,10 +198,10 @@ def _found(future: Future[Any], are_errors_kept: bool) -> Any:
     return future.result()
 
 
-def _task(call: Callable[[Any], Any], given: Any, cache: Optional[Cache], lease: Lease) -> Any:
+def _task(call: Callable[[Any], Any], input: Any, cache: Optional[Cache], lease: Lease) -> Any:
     """Apply a call to an input, in the thread, process or machine that the executor chooses."""
     with _processes_of(lease) as processes, set_to(Setting(processes, cache)):
-        return call(given)
+        return call(input)
 
 
 @contextmanager
@@ -215,18 +215,18 @@ def _processes_of(lease: Lease) -> Iterator[Processes]:
         if not lease.can_be_seen():
             yield processes
             return
-        ended = threading.Event()
+        has_ended = threading.Event()
         with lease.task():
-            threading.Thread(target=_watch_lease, args=(lease, processes, ended), daemon=True).start()
+            threading.Thread(target=_watch_lease, args=(lease, processes, has_ended), daemon=True).start()
             try:
                 yield processes
             finally:
-                ended.set()
+                has_ended.set()
 
 
-def _watch_lease(lease: Lease, processes: Processes, ended: threading.Event) -> None:
+def _watch_lease(lease: Lease, processes: Processes, has_ended: threading.Event) -> None:
     """Stops processes when the run that they belong to has ended elsewhere."""
     while not lease.is_over():
-        if ended.wait(0.1):
+        if has_ended.wait(0.1):
             return
     processes.stop()

@@ -39,20 +39,21 @@ class InWebAssembly(NamedTuple):
 
 
 def module_in(page: str) -> bytes:
-    """The module of WebAssembly in a page: the element with the id `program`, which is compressed and then in base64."""
-    found = PROGRAM.search(page)
-    if found is None:
+    """The module of WebAssembly in a page: the element with the id `program`, which is compressed and then in
+    base64."""
+    match = PROGRAM.search(page)
+    if match is None:
         raise ValueError("the page contains no program")
-    return gzip.decompress(base64.b64decode(found[1]))
+    return gzip.decompress(base64.b64decode(match[1]))
 
 
 def of_package() -> Optional[InWebAssembly]:
     """The program in WebAssembly of the installed package, or of the checkout."""
     top = _HERE.parents[1]
     for scripts, pages in (_HERE / "node", _HERE / "programs"), (top / "node", top / "release"):
-        found = InWebAssembly(scripts / _NAME, pages / _PAGE)
-        if found.script.is_file() and found.page.is_file():
-            return found
+        release = InWebAssembly(scripts / _NAME, pages / _PAGE)
+        if release.script.is_file() and release.page.is_file():
+            return release
     return None
 
 
@@ -63,9 +64,9 @@ def is_for_node(program: str) -> bool:
 
 def sha256_of_module(script: str) -> str:
     """The SHA-256 of the program that a script for Node runs: its own, if it is not the one of this package."""
-    found = of_package()
-    is_ours = found is not None and Path(script).resolve() == found.script
-    content = found.module() if found is not None and is_ours else Path(script).read_bytes()
+    release = of_package()
+    is_ours = release is not None and Path(script).resolve() == release.script
+    content = release.module() if release is not None and is_ours else Path(script).read_bytes()
     return hashlib.sha256(content).hexdigest()
 
 
@@ -78,7 +79,7 @@ def command_of(program: str) -> list[str]:
     """How to start a program: a script for Node by Node."""
     if not is_for_node(program):
         return [program]
-    found = node()
-    if found is None:
+    path = node()
+    if path is None:
         raise ProgramNotFoundError(f"{program} needs Node 18 or later, and `node` is not on the PATH")
-    return [found, program]
+    return [path, program]

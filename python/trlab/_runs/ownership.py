@@ -1,4 +1,5 @@
-"""Files that belong to a process: those of a killed process are removed, and those of a running process show that it runs."""
+"""Files that belong to a process: those of a killed process are removed, and those of a running process show that it
+runs."""
 from __future__ import annotations
 
 import functools
@@ -14,7 +15,7 @@ from typing import NamedTuple, Optional
 
 from .systems import after_fork, is_running
 
-_SIGN = "-trlab-"
+_MARK = "-trlab-"
 
 # The files of this process that exist only as long as it works on them.
 _OWNED: set[Path] = set()
@@ -33,7 +34,7 @@ def machine() -> str:
 
 def new_path(folder: Path, kind: str) -> Path:
     """An unused hidden path of this process in a folder."""
-    return folder / f".{kind}{_SIGN}{machine()}-{os.getpid()}-{secrets.token_hex(8)}"
+    return folder / f".{kind}{_MARK}{machine()}-{os.getpid()}-{secrets.token_hex(8)}"
 
 
 @contextmanager
@@ -56,7 +57,7 @@ def remove_owned() -> None:
 
 def remove_left(folder: Path) -> None:
     """Removes the files of `new_path` whose processes were on this machine and have ended."""
-    for file in folder.glob(f".*{_SIGN}{machine()}-*-*"):
+    for file in folder.glob(f".*{_MARK}{machine()}-*-*"):
         if _is_left(file):
             # Those in a read-only folder stay.
             with suppress(OSError):

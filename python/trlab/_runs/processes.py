@@ -24,8 +24,11 @@ from .systems import after_fork
 if TYPE_CHECKING:
     from .cache import Cache
 
+REJECTED = 1
+"""The exit status of `trlab explain` for an input that the program rejects."""
+
 _BLOCK = 1 << 16
-_LONGEST_MESSAGE = 1 << 16
+_MAX_MESSAGE = 1 << 16
 _REJECTIONS = (b"fault ", b"refused ")
 _NOT_FOUND = (errno.ENOENT, errno.EACCES, errno.ENOEXEC, errno.ENOTDIR, errno.ELOOP)
 
@@ -45,12 +48,13 @@ class Processes:
         # A signal may come while the main thread holds it.
         self._lock, self._outer = threading.RLock(), outer
 
-    def start(self, request: Request, source: IO[bytes], said: IO[bytes]) -> Child:
+    def start(self, request: Request, source: IO[bytes], messages: IO[bytes]) -> Child:
         """A new process, which is killed if all were stopped before."""
         program = find_program()
         with self._lock:
             try:
-                process = Child([*command_of(program), *request.words], stdin=source, stdout=subprocess.PIPE, stderr=said)
+                command = [*command_of(program), *request.arguments]
+                process = Child(command, stdin=source, stdout=subprocess.PIPE, stderr=messages)
             except OSError as fault:
                 if fault.errno in _NOT_FOUND:
                     raise ProgramNotFoundError(f"{program} cannot be run: {fault.strerror}") from None
@@ -132,13 +136,13 @@ def setting() -> Optional[Setting]:
 
 
 @contextmanager
-def set_to(new: Setting) -> Iterator[None]:
+def set_to(value: Setting) -> Iterator[None]:
     """Has all calls of the program inside the block belong to a setting."""
-    before = _SETTING.set(new)
+    token = _SETTING.set(value)
     try:
         yield
     finally:
-        _SETTING.reset(before)
+        _SETTING.reset(token)
 
 
 def output_of(request: Request) -> Iterator[bytes]:
@@ -146,20 +150,21 @@ def output_of(request: Request) -> Iterator[bytes]:
 
     After the last block, these are raised: `RejectionError`, instead of the output, if the program rejects the input;
     `ProgramError` if it ended with another error; `IncompleteOutputError`, for any exit status, if the output does not
-    have the number of lines that follows from the input. If the iterator is closed early, the program is killed. With a cache the
-    program has ended before the first block."""
-    now = setting()
-    return run(request) if now is None or now.cache is None else now.cache.output_of(request)
+    have the number of lines that follows from the input. If the iterator is closed early, the program is killed. With a
+    cache the program has ended before the first block."""
+    current = setting()
+    return run(request) if current is None or current.cache is None else current.cache.output_of(request)
 
 
 def run(request: Request) -> Generator[bytes, None, int]:
-    """The same output, but not from a cache. The value at the end is the exit status, which is 0 unless it is an explanation."""
+    """The same output, but not from a cache. The value at the end is the exit status, which is 0 except for an
+    explanation of a rejected input."""
     need_exit_statuses()
-    with _processes_now() as processes, tempfile.TemporaryFile() as source, tempfile.TemporaryFile() as said:
+    with _processes_now() as processes, tempfile.TemporaryFile() as source, tempfile.TemporaryFile() as messages:
         source.write(request.content())
         source.seek(0)
         length = Length(request)
-        with processes.start(request, source, said) as process:
+        with processes.start(request, source, messages) as process:
             assert process.stdout is not None
             try:
                 rejection = yield from _blocks(process.stdout, request, length)
@@ -174,9 +179,9 @@ def run(request: Request) -> Generator[bytes, None, int]:
                 processes.remove(process)
         if rejection:
             raise RejectionError(status, rejection.decode(errors="replace"))
-        if status not in ((0, 1) if request.is_explanation() else (0,)):
-            said.seek(0)
-            raise ProgramError(status, said.read(_LONGEST_MESSAGE).decode(errors="replace"))
+        if status not in ((0, REJECTED) if request.is_explanation() else (0,)):
+            messages.seek(0)
+            raise ProgramError(status, messages.read(_MAX_MESSAGE).decode(errors="replace"))
         length.end()
         return status
 
@@ -184,9 +189,9 @@ def run(request: Request) -> Generator[bytes, None, int]:
 @contextmanager
 def _processes_now() -> Iterator[Processes]:
     """The processes of the task that runs now, or of one call."""
-    now = setting()
-    if now is not None:
-        yield now.processes
+    current = setting()
+    if current is not None:
+        yield current.processes
         return
     with new_processes() as processes:
         yield processes
@@ -196,7 +201,7 @@ def _blocks(output: IO[bytes], request: Request, length: Length) -> Generator[by
     """The blocks of an output; if it is a rejection there are none, and its text is returned."""
     block = output.read(max(map(len, _REJECTIONS)))
     if block.startswith(_REJECTIONS) and not request.is_explanation():
-        return block + output.read(_LONGEST_MESSAGE)
+        return block + output.read(_MAX_MESSAGE)
     while block:
         length.add(block)
         yield block

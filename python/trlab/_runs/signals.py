@@ -14,7 +14,8 @@ from .systems import ENDING_SIGNALS, after_fork, ignores_ends_of_children
 
 
 def need_exit_statuses() -> None:
-    """Raises `ExitStatusError` if SIGCHLD is ignored: Linux then forgets how a program ended, and Python calls it success."""
+    """Raises `ExitStatusError` if SIGCHLD is ignored: Linux then forgets how a program ended, and Python calls it
+    success."""
     if ignores_ends_of_children():
         raise ExitStatusError(
             "SIGCHLD is ignored, possibly since before Python started, so that a failed run would go unnoticed: "

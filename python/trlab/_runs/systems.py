@@ -49,12 +49,14 @@ def ignores_ends_of_children() -> bool:
 
 
 def can_ask_for_ends() -> bool:
-    """Whether the system says how a child process ended before it forgets it: not on Windows, and on macOS from Python 3.13 on."""
+    """Whether the system says how a child process ended before it forgets it: not on Windows, and on macOS from Python
+    3.13 on."""
     return hasattr(os, "waitid")
 
 
-def replace_process(words: list[str]) -> None:
-    """Run a command instead of this process. On Windows, where the caller would not wait for it, run it and end with its status."""
+def replace_process(command: list[str]) -> None:
+    """Run a command instead of this process. On Windows, where the caller would not wait for it, run it and end with
+    its status."""
     if os.name == "nt":
-        sys.exit(subprocess.call(words))
-    os.execv(words[0], words)
+        sys.exit(subprocess.call(command))
+    os.execv(command[0], command)

@@ -12,8 +12,8 @@ from .._errors import ParameterError
 
 
 def key_for(**parameters: Union[int, float, str, Fraction]) -> str:
-    """The key of named values, 64 hexadecimal digits: the SHA-256 of one line `name=value` for each parameter, sorted by
-    name, each with a line feed. A value is a fraction in lowest terms (`3`, `1/4`, also for 0.25), or a JSON string
+    """The key of named values, 64 hexadecimal digits: the SHA-256 of one line `name=value` for each parameter, sorted
+    by name, each with a line feed. A value is a fraction in lowest terms (`3`, `1/4`, also for 0.25), or a JSON string
     in ASCII. Raises `ParameterError` for other values."""
     lines = [f"{name}={written(name, value)}\n" for name, value in sorted(parameters.items())]
     return sha256("".join(lines).encode()).hexdigest()
@@ -24,7 +24,9 @@ def written(name: str, value: object) -> str:
     if isinstance(value, str):
         return json.dumps(value)
     if not isinstance(value, Real) or not math.isfinite(value):
-        raise ParameterError(f"{name} must have numbers or texts as values, or a mapping of names to values, not {value!r}")
+        raise ParameterError(
+            f"{name} must have numbers or texts as values, or a mapping of names to values, not {value!r}"
+        )
     return str(as_fraction(value))
 
 

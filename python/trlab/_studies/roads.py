@@ -46,8 +46,8 @@ def _own_roads(input: Union[Job, Sweep]) -> list[str]:
 
 
 def _about(input: Union[Job, Sweep], cells: int) -> list[object]:
-    """All that repetitions of an input have in common, besides the number of cars and the cells of roads that are given cell
-    by cell: everything but the key and the seed of random cells."""
+    """All that repetitions of an input have in common, besides the number of cars and the cells of roads that are given
+    cell by cell: everything but the key and the seed of random cells."""
     start = [input.start.placement, input.start.speed] if isinstance(input.start, InitialState) else "roads"
     if isinstance(input, Sweep):
         return [input.limit, input.lanes, cells, start, input.rule.lines(), [input.warm, input.measure]]
@@ -56,7 +56,8 @@ def _about(input: Union[Job, Sweep], cells: int) -> list[object]:
 
 
 def without_key(input: Union[Job, Sweep], roads: KnownRoads) -> Hashable:
-    """Equal for inputs with these roads that differ only in their key, and in a seed of random cells that is this key."""
+    """Equal for inputs with these roads that differ only in their key, and in a seed of random cells that is this
+    key."""
     start = cast(Hashable, input.start)
     if isinstance(start, InitialState) and start.seed == int(roads["key"], 16):
         start = start.placement, start.speed, "key"
@@ -69,7 +70,8 @@ def _draws(rule: Rule) -> bool:
 
 
 def all_of(input: Union[Job, Sweep], roads: KnownRoads) -> Hashable:
-    """Equal for inputs with these roads that give the same output: without random numbers the key makes no difference."""
+    """Equal for inputs with these roads that give the same output: without random numbers the key makes no
+    difference."""
     rules = [input.rule] if isinstance(input, Sweep) else [input.rule, *input.at.values()]
     key = roads["key"] if any(map(_draws, rules)) else ""
     return tuple(roads["ensembles"]), key, cast(Hashable, input.start)

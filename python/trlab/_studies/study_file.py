@@ -29,14 +29,19 @@ if TYPE_CHECKING:
     import pandas
 
 _FORMAT = "trlab study 1"
-_MOST_BYTES = 4 * 1024 * 1024
+_MAX_BYTES = 4 * 1024 * 1024
 """The maximum size of an input, which is also that of trlab."""
 _FILE = re.compile(r"inputs/[0-9]{6}(?:~[0-9]{4})?\.(?:job|sweep)")
 _WORD = re.compile("[a-zA-Z0-9=-]+")
-_FIXED = (1980, 1, 1, 0, 0, 0)
+_TIME = (1980, 1, 1, 0, 0, 0)
+"""The time of all members, so that the same study gives the same file: the earliest that a zip archive can have."""
+
+_UNIX, _READABLE = 3, 0o644 << 16
+"""The system of all members, and their permissions: a file that everybody may read."""
+
 _DAMAGED = (
-    zipfile.BadZipFile, zlib.error, ArithmeticError, EOFError, LookupError, NotImplementedError, OSError, RuntimeError, TypeError,
-    ValueError,
+    zipfile.BadZipFile, zlib.error, ArithmeticError, EOFError, LookupError, NotImplementedError, OSError, RuntimeError,
+    TypeError, ValueError,
 )
 
 
@@ -50,12 +55,15 @@ class StudyInput(NamedTuple):
     def table(self) -> Table[Any]:
         """Run the input: one row per point of a sweep, or per window of a series."""
         kind = kind_of(self.words)
-        return joined(Point if self.is_sweep else Window, [Table.read(kind, ask(self.words, text)) for text in self.texts])
+        return joined(
+            Point if self.is_sweep else Window, [Table.read(kind, ask(self.words, text)) for text in self.texts]
+        )
 
 
 class Study:
-    """A study that `read_study` read. `names` has the names of the parameters, and `inputs` maps each choice, a named tuple of
-    their values, to its input; `version` and `program`, its SHA-256, identify the program that wrote the study."""
+    """A study that `read_study` read. `names` has the names of the parameters, and `inputs` maps each choice, a named
+    tuple of their values, to its input; `version` and `program`, its SHA-256, identify the program that wrote the
+    study."""
 
     def __init__(self, about: Mapping[str, Any], inputs: Mapping[Any, StudyInput]) -> None:
         self.version: str = about["trlab"]
@@ -72,15 +80,16 @@ class Study:
         if options.get("call") is not None:
             raise ParameterError("a study file sets the measurement: leave out `call`")
         all_options: dict[str, Any] = {**options, "call": StudyInput.table}
-        found: Iterator[tuple[Any, Table[Any]]] = results_of(self.inputs, **all_options)
-        return found
+        tables: Iterator[tuple[Any, Table[Any]]] = results_of(self.inputs, **all_options)
+        return tables
 
     def run(self, **options: Any) -> pandas.DataFrame:
         """Run the study, with the options of `trlab.results`. The frame is that of `Grid.run`, to the last bit."""
         from .._analysis.frames import tidy
 
-        found = dict(self.results(**options))
-        frame = tidy({place: found[place] for place in self.inputs}, self.names, self._roads, options.get("errors") == "keep")
+        tables = dict(self.results(**options))
+        in_order = {place: tables[place] for place in self.inputs}
+        frame = tidy(in_order, self.names, self._roads, keep=options.get("errors") == "keep")
         frame.attrs["trlab"] = {"trlab": __version__, "program": program_identity()[1], "parameters": list(self.names)}
         return frame
 
@@ -89,23 +98,23 @@ def save(grid: Any, path: Union[str, Path], words: Sequence[str]) -> None:
     """See `Grid.save`."""
     choices: list[dict[str, Any]] = []
     texts: dict[str, str] = {}
-    for number, (place, given) in enumerate(grid.inputs.items()):
-        is_sweep = isinstance(given, Sweep)
-        requests = requests_of(given, ["sweep"] if is_sweep else list(words))
-        if requests[0].words[0] == "run":
+    for number, (place, input) in enumerate(grid.inputs.items()):
+        is_sweep = isinstance(input, Sweep)
+        requests = requests_of(input, ["sweep"] if is_sweep else list(words))
+        if requests[0].arguments[0] == "run":
             raise ParameterError('a study has tables, so its words begin with "series"')
-        ending = "sweep" if requests[0].words[0] == "sweep" else "job"
+        ending = "sweep" if requests[0].arguments[0] == "sweep" else "job"
         parts = [f"~{part:04}" for part in range(len(requests))] if len(requests) > 1 else [""]
         names = [f"inputs/{number:06}{part}.{ending}" for part in parts]
         texts.update(zip(names, (request.text for request in requests)))
-        values = [_written(value) for value in place]
         choices.append({
-            "values": values, "roads": grid._runs[place], "words": list(requests[0].words), "files": names, "is_sweep": is_sweep,
+            "values": [_written(value) for value in place], "roads": grid._runs[place],
+            "words": list(requests[0].arguments), "files": names, "is_sweep": is_sweep,
         })
     version, sha256 = program_identity()
     about = {
-        "format": _FORMAT, "trlab": __version__, "program_version": version, "program": sha256, "parameters": list(grid.names),
-        "choices": choices,
+        "format": _FORMAT, "trlab": __version__, "program_version": version, "program": sha256,
+        "parameters": list(grid.names), "choices": choices,
     }
     _write(Path(path).expanduser(), {**texts, "study.json": json.dumps(about, indent=1) + "\n"})
 
@@ -124,19 +133,21 @@ def _written(value: Any) -> Any:
 
 
 def _write(path: Path, texts: Mapping[str, str]) -> None:
-    """Writes a zip archive, always with the same bytes for the same texts: nothing is compressed, since libraries differ."""
+    """Writes a zip archive, always with the same bytes for the same texts: nothing is compressed, since libraries
+    differ."""
     with owned(new_path(path.parent, "study")) as new:
         with zipfile.ZipFile(new, "x") as file:
             for name, text in sorted(texts.items()):
-                member = zipfile.ZipInfo(name, _FIXED)
-                member.create_system, member.external_attr = 3, 0o644 << 16
+                member = zipfile.ZipInfo(name, _TIME)
+                member.create_system, member.external_attr = _UNIX, _READABLE
                 file.writestr(member, text.encode("utf-8"))
         os.replace(new, path)
 
 
 def read_study(path: Union[str, Path], any_program: bool = False) -> Study:
-    """Read a file that `Grid.save` wrote. Raises `StudyFileError` if the file is damaged, incomplete or something else, or if it
-    was written with another program than yours, whose results may differ: `any_program=True` reads it anyway."""
+    """Read a file that `Grid.save` wrote. Raises `StudyFileError` if the file is damaged, incomplete or something else,
+    or if it was written with another program than yours, whose results may differ: `any_program=True` reads it
+    anyway."""
     place = Path(path).expanduser()
     if place.exists() and not place.is_file():
         raise StudyFileError(f"{place} is not a file")
@@ -152,8 +163,8 @@ def read_study(path: Union[str, Path], any_program: bool = False) -> Study:
     version, here = program_identity()
     if study.program != here and not any_program:
         raise StudyFileError(
-            f"{place} was made with trlab {study.version}, program {study.program[:12]}, and yours is {version}, program "
-            f"{here[:12]}: install that version, or pass any_program=True"
+            f"{place} was made with trlab {study.version}, program {study.program[:12]}, and yours is {version}, "
+            f"program {here[:12]}: install that version, or pass any_program=True"
         )
     return study
 
@@ -172,18 +183,21 @@ def _study_in(file: zipfile.ZipFile, size: int) -> Study:
     listed = [name for choice in about["choices"] for name in choice["files"]]
     _need(sorted([*listed, "study.json"]) == sorted(names), "its members are not those that study.json lists")
     _need(all(_FILE.fullmatch(name) for name in listed), "an input has another name")
-    _need(all(file.getinfo(name).file_size <= _MOST_BYTES for name in listed), f"an input has more than {_MOST_BYTES} bytes")
+    _need(
+        all(file.getinfo(name).file_size <= _MAX_BYTES for name in listed), f"an input has more than {_MAX_BYTES} bytes"
+    )
     make: Any = namedtuple("Choice", about["parameters"])  # type: ignore[misc]
     inputs = {
         make(*map(_read_value, choice["values"])): StudyInput(
-            tuple(choice["words"]), tuple(file.read(name).decode("utf-8") for name in choice["files"]), choice["is_sweep"]
+            tuple(choice["words"]), tuple(file.read(name).decode("utf-8") for name in choice["files"]),
+            choice["is_sweep"]
         )
         for choice in about["choices"]
     }
     _need(len(inputs) == len(about["choices"]), "two choices have the same values")
-    for given in inputs.values():
-        for text in given.texts:
-            need_whole_windows(Request(given.words, text))
+    for input in inputs.values():
+        for text in input.texts:
+            need_whole_windows(Request(input.words, text))
     return Study(about, inputs)
 
 
@@ -221,8 +235,8 @@ def _read_value(value: Any) -> Union[str, int, float, Fraction]:
         _need(list(value) == ["fraction"] and isinstance(value["fraction"], str), "a parameter has no value")
         return Fraction(value["fraction"])
     _need(type(value) in (str, int) or (type(value) is float and math.isfinite(value)), "a parameter has no value")
-    found: Union[str, int, float] = value
-    return found
+    plain: Union[str, int, float] = value
+    return plain
 
 
 def _no_number(name: str) -> NoReturn:

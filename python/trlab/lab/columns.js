@@ -23,10 +23,10 @@ export const styleOf = (cells, count, sum, limit, isMark) => STYLES[mixed(cells,
 export const dotOf = (cells, count, sum, limit, isMark) => DOTS[mixed(cells, count, sum, limit, isMark)];
 
 /** The first cell of each of `dots` pixels, and the end. */
-const edgesOf = (length, dots) => Uint32Array.from({ length: dots + 1 }, (_, dot) => Math.ceil(dot * length / dots));
+const edgesOf = (length, dots) => new Uint32Array(dots + 1).map((_, dot) => Math.ceil(dot * length / dots));
 
 /** The numbers of cars and the sums of their speeds in the pixels of a step, lane by lane. */
-export function sumsOf({ length, lanes }, { cells }, dots) {
+export function sumsOf({ length, lanes }, cells, dots) {
   const counts = new Uint32Array(dots * lanes), sums = new Uint32Array(dots * lanes), edges = edgesOf(length, dots);
   for (let lane = 0, at = 0; lane < lanes; lane++) {
     for (let dot = 0; dot < dots; dot++, at++) {
@@ -46,7 +46,9 @@ export function sumsOf({ length, lanes }, { cells }, dots) {
  * step, and only those that come from another pixel or lane are counted for each frame. */
 export class Columns {
   constructor(film, step, dots) {
-    Object.assign(this, { film, step, dots, cells: film.of(step).cells, ...sumsOf(film, film.of(step), dots), comers: [], origins: [] });
+    const { counts, sums, edges: firsts } = film.sums(step, dots);
+    Object.assign(this, { film, step, dots, cells: film.of(step).cells, counts: counts.slice(), sums: sums.slice(), edges: firsts });
+    Object.assign(this, { comers: [], origins: [] });
     const { length, lanes, limit } = film, { cells, edges } = this, before = film.of(step - 1)?.cells;
     for (const k of film.changed(step)) {
       const lane = k < length ? 0 : 1;

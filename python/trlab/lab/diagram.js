@@ -14,9 +14,11 @@ const HIGH = 276, ROW = 16, ROWS = 5; // the height without the legend, that of 
 export const across = density => 34 + 316 * density;
 const safe = words => words.replace(/[&<>]/g, it => `&#${it.charCodeAt(0)};`);
 const words = (x, y, it, more) => tag("text", { x, y, fill: SOFT, "font-size": 11, ...more }, it);
+/** A row of the legend. A long one is squeezed to the width of the image, because the drawing cannot measure its words. */
+const legendWords = (y, it) => words(58, y, safe(it), { class: "legend-row", ...it.length > 50 && { textLength: 300, lengthAdjust: "spacingAndGlyphs" } });
 
 /** A road in words. Points of roads other than the present one differ in shape. */
-const roadOf = ({ limit, length, lanes }) => `v_max ${limit}, ${length} cells${lanes === 2 ? " on each lane" : ""}`;
+const roadOf = ({ limit, length, lanes }) => `v_max ${limit}, ${lanes === 2 ? "2 \u00d7 " : ""}${length} cells`;
 const OTHERS = [ // the outlines of such points
   (x, y) => `M${x - 3} ${y - 3}h6v6h-6z`, (x, y) => `M${x} ${y - 4.5}l4.5 4.5l-4.5 4.5l-4.5 -4.5z`,
   (x, y) => `M${x} ${y - 4}l4 7h-8z`, (x, y) => `M${x} ${y + 4}l4 -7h-8z`,
@@ -89,7 +91,7 @@ export function diagramOf(what) {
     `<title>Proved for every rule with maximum speed ${it}: the flow is never above this triangle</title>`);
   const known = exact && tag("polyline", { class: "exact", points: path(exact.points), fill: "none", stroke: EXACT, "stroke-width": 3, "stroke-linejoin": "round" },
     `<title>${PROVED[exact.kind]}</title>`);
-  const legend = legendOf(what).map((row, k) => row.sign(HIGH + ROW * k + 10) + words(58, HIGH + ROW * k + 14, safe(row.words), { class: "legend-row" }));
+  const legend = legendOf(what).map((row, k) => row.sign(HIGH + ROW * k + 10) + legendWords(HIGH + ROW * k + 14, row.words));
   return [
     known ?? "", ...limits.map(triangle), ...drawAxes({ up, ground, most, top, exact }),
     tag("path", { d: `M${across(density)} ${ground}V${up(Math.min(limit * density, 1 - density))}`, stroke: ACCENT, "stroke-dasharray": "1 3" }),

@@ -4,7 +4,7 @@
 
 import { clamp, upTo } from "./job.js";
 import { colour } from "./colours.js";
-import { Columns, dotOf, isTight, styleOf, sumsOf } from "./columns.js";
+import { Columns, dotOf, isTight, styleOf } from "./columns.js";
 import { mostOf, unitOf } from "./units.js";
 
 export const ACCENT = "#1d5f9e";
@@ -208,8 +208,14 @@ export function bandAt(view, width, height, x, y) {
 
 // The space-time diagram: a row for each step
 
+const HIGHEST = 8; // pixels of a row, unless the run is so short that there is room for more
+
+/** The height of a row, the number of rows, and the first step that has one. Cells are squares as far as possible. A run that almost
+ * fits has lower rows, because its first steps explain the others, and a short one fills the diagram. */
 export function rowsOf({ film, step }, width, height) {
-  const high = Math.max(film.lanes, clamp(Math.round(width / film.length), 1, 8)), rows = Math.max(1, Math.floor(height / high));
+  const square = Math.round(width / film.length), usual = clamp(square, 1, HIGHEST), fitting = Math.floor(height / (film.steps + 1));
+  const tall = 2 * fitting < usual ? usual : clamp(square, 1, fitting);
+  const high = Math.max(film.lanes, tall), rows = Math.max(1, Math.floor(height / high));
   return { high, rows, top: Math.max(film.first, step - rows + 1) };
 }
 /** Whether several cells share a pixel of the diagram. */
@@ -235,7 +241,7 @@ export class Rows {
     Object.assign(this.pen.canvas, { width: wide, height: rows * film.lanes });
   }
   row(step, rows, wide) {
-    const { film, image } = this, { counts, sums, edges } = sumsOf(film, film.of(step), wide), dots = new Uint32Array(image.data.buffer);
+    const { film, image } = this, { counts, sums, edges } = film.sums(step, wide), dots = new Uint32Array(image.data.buffer);
     const isMark = !isTight(film.length, wide);
     for (let lane = 0, at = 0; lane < film.lanes; lane++) {
       for (let dot = 0; dot < wide; dot++, at++) {
@@ -266,9 +272,9 @@ function drawPath(pen, width, high, top, { film, car, step }) {
 
 const CURVES = ["flow", "density", "speed", "stopped"];
 const SPAN = 25;
-/** Averages over the last 25 kept steps, from a step to another one. */
+/** Averages over the last 25 kept steps, from a step to another one; null for the flow of step 0, before which no car has moved. */
 export function smooth(film, name, from, to) {
-  const out = [], first = Math.max(film.first, from - SPAN);
+  const first = Math.max(film.first, from - SPAN, name === "flow" ? 1 : 0), out = from < first ? [null] : [];
   for (let n = first, sum = 0; n <= to; n++) {
     sum += film.of(n)[name] - (n >= first + SPAN ? film.of(n - SPAN)[name] : 0);
     if (n >= from) out.push(sum / Math.min(SPAN, n - first + 1));
@@ -284,7 +290,7 @@ export function drawCurves(pen, width, height, view, rows) {
     const curve = (style, values) => { // lines of one pixel are fast in every browser
       Object.assign(pen, { strokeStyle: style, lineWidth: 1 });
       pen.beginPath();
-      values.forEach((it, n) => pen.lineTo(left + 1 + (wide - 2) * it / most[name], (n + 0.5) * high));
+      values.forEach((it, n) => it === null || pen.lineTo(left + 1 + (wide - 2) * it / most[name], (n + 0.5) * high));
       pen.stroke();
     };
     pen.fillStyle = LINE;
@@ -321,7 +327,7 @@ export const FIGURES = {
     const pen = new SvgPen(), width = 1000, { film, step } = view, { high, top } = rowsOf(view, width, 300);
     const dots = isTight(film.length, width) ? width : film.length, wide = width / dots, tall = high / film.lanes;
     for (let now = top; now <= step; now++) {
-      const { counts, sums, edges } = sumsOf(film, film.of(now), dots);
+      const { counts, sums, edges } = film.sums(now, dots);
       counts.forEach((count, k) => {
         const dot = k % dots;
         if (!count) return;

@@ -9,7 +9,7 @@ from html import escape
 from collections.abc import Iterator
 from typing import TYPE_CHECKING, Optional
 
-from .._inputs.numbers import ALWAYS, MAX_SPEED, key_digits, parts, whole
+from .._inputs.numbers import ALWAYS, MAX_SPEED, checked_int, key_digits, parts
 from .._inputs.reading import job_of
 from .._inputs.states import SPEEDS
 from .._runs.calls import ask_by_line
@@ -53,7 +53,7 @@ def page_of(snapshots: Snapshots, limit: Optional[int] = None, title: str = "") 
         raise ValueError("a page needs the snapshots of a run from step 0 on")
     lines = (line for it in snapshots for line in (f"step {it.step}", *it.lanes))
     fastest = max([1, *(SPEEDS.find(sign) for snapshot in snapshots for sign in set().union(*snapshot.lanes))])
-    most = fastest if limit is None else whole("limit", limit, fastest, MAX_SPEED)
+    most = fastest if limit is None else checked_int("limit", limit, fastest, MAX_SPEED)
     return _page((line + "\n" for line in lines), most, title)
 
 

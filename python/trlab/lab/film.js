@@ -1,5 +1,6 @@
 // A run: its snapshots arrive as a stream, and the last ones are kept so that the page can step back.
 
+import { sumsOf } from "./columns.js";
 import { CARS, EMPTY, SPEEDS, clamp, speedOf, upTo } from "./job.js";
 
 const STOPPED = 48; // the byte `0`
@@ -72,7 +73,7 @@ export class Film {
       }
       shot.densities.push((shot.cars - before) / length);
     }
-    shot.flow = step ? distance / (length * lanes) : 0;
+    shot.flow = step ? distance / (length * lanes) : null;
     shot.speed = shot.cars ? distance / shot.cars : 0;
     shot.stopped = shot.cars ? stopped / shot.cars : 0;
     this.shots.push(shot);
@@ -99,9 +100,21 @@ export class Film {
     const { length, lanes } = this, places = [];
     if (lanes === 1 || !before) return places;
     for (let lane = 0, k = 0; lane < lanes; lane++) {
-      for (let x = 0; x < length; x++, k++) if (cells[k] !== EMPTY && this.origin(before, lane, x, SPEEDS[cells[k]]) !== lane) places.push(k);
+      for (let x = 0; x < length; x++, k++) { // `origin` written out, because calls for each cell of a long road take too long
+        const v = SPEEDS[cells[k]];
+        if (cells[k] !== EMPTY && before[x < v ? k - v + length : k - v] === EMPTY) places.push(k);
+      }
     }
     return places;
+  }
+  /** The cars in the pixels of a step, as `sumsOf` counts them, which are kept until another step is asked for: the straight road and the
+   * space-time diagram have the same pixels. */
+  sums(step, dots) {
+    const { cells } = this.of(step);
+    if (this.summed?.cells !== cells) this.summed = { cells, byDots: new Map() };
+    const { byDots } = this.summed;
+    if (!byDots.has(dots)) byDots.set(dots, sumsOf(this, cells, dots));
+    return byDots.get(dots);
   }
   /** The cars of a step by speed, of the whole road or of a part of it: their cell and lane, and the lane that they come from. */
   scene(step, from = 0, part = this.length) {

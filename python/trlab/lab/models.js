@@ -23,12 +23,13 @@ const MODELS = {
   },
 };
 
-/** Describe a model below the list from which it is chosen. */
+/** Describe a model below the list from which it is chosen. The place is not marked with `data-model`, because such parts are hidden
+ * when another model is chosen. */
 export function tellModel(name, place = document.getElementById("about")) {
-  if (place.dataset.model === name) return;
+  if (place.dataset.about === name) return;
   const { words, paper, link } = MODELS[name], anchor = document.createElement("a");
   Object.assign(anchor, { href: link, textContent: paper });
   if (!link.startsWith("#")) Object.assign(anchor, { target: "_blank", rel: "noopener noreferrer" });
-  place.dataset.model = name;
+  place.dataset.about = name;
   place.replaceChildren(`${words} `, anchor, ".");
 }

@@ -4,6 +4,9 @@ import { ALWAYS, decimalOf, parts } from "./checks.js";
 
 const WRITTEN = /^[-+]?(?:(\d+)\/(\d+)|(?:\d+\.?\d*|\.\d+)(?:e[-+]?\d{1,3})?)$/i;
 
+/** The characters of a decimal that the boxes show whole. */
+const LONGEST = 8;
+
 /** A text is not a valid number; the message names the numbers that are. */
 export class NumberError extends Error {}
 /** The number in a text. Raises a `NumberError` if it is not a number, or out of its range. */
@@ -28,6 +31,16 @@ export function probabilityOf(text) {
     throw new NumberError(`${shortened(text.trim())} would be ${nearest} in a file, which has multiples of 1 / 2^31: write ${nearest}.`);
   }
   return decimalOf(found, number);
+}
+/** A probability as you would write it: as a fraction, such as 1/3, if that is much shorter than its decimal. */
+export function probabilityText(number) {
+  const decimal = String(number), found = parts(number);
+  if (decimal.length <= LONGEST) return decimal;
+  for (let below = 3; below < 100; below++) {
+    const above = Math.round(number * below);
+    if (parts(above / below) === found) return `${above}/${below}`;
+  }
+  return decimal;
 }
 /** A random seed, as decimal digits: it may be too large for a number. */
 export function seedOf(text) {

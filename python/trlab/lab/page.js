@@ -7,7 +7,7 @@ import { jobFile, sweepFile } from "./jobs.js";
 import { jobOf } from "./reading.js";
 import { MOST_BYTES, textOfLink } from "./links.js";
 import { attempt, free, isKept, watch } from "./boxes.js";
-import { NumberError, numberOf, probabilityOf, seedOf } from "./numbers.js";
+import { NumberError, numberOf, probabilityOf, probabilityText, seedOf } from "./numbers.js";
 import { bytesBefore } from "./film.js";
 import { colour } from "./colours.js";
 import { FIGURES, rowsOf } from "./draw.js";
@@ -177,14 +177,17 @@ const fit = place => place.closest(".lead") && !CSS.supports("field-sizing: cont
 /** Show the job in the controls and in the sentence above them. A box that you type into keeps its text. */
 function show() {
   const rule = shown = inForce(), cells = job.length * job.lanes, own = rule.model === "own";
-  const values = { ...job, density: +(job.cars / cells).toFixed(6), model: rule.model, p: rule.p, q: rule.q };
+  const values = { ...job, density: +(job.cars / cells).toFixed(6), model: rule.model, p: probabilityText(rule.p), q: probabilityText(rule.q) };
   for (const place of document.querySelectorAll("[data-set]")) {
     if (isKept(place)) continue;
     place.value = values[place.dataset.set];
     fit(place);
   }
   $("cars").parentNode.querySelector("[type=range]").max = cells;
-  for (const slider of document.querySelectorAll("[data-range] [type=range]")) slider.value = values[slider.parentNode.querySelector("input").id];
+  for (const slider of document.querySelectorAll("[data-range] [type=range]")) {
+    const name = slider.parentNode.querySelector("input").id;
+    slider.value = rule[name] ?? values[name];
+  }
   for (const part of document.querySelectorAll("[data-model]")) part.hidden = !part.dataset.model.split(" ").includes(rule.model);
   $("carword").textContent = job.cars === 1 ? "car" : "cars";
   $("rings").textContent = job.lanes === 2 ? "two rings" : "a ring";
@@ -206,7 +209,10 @@ function show() {
 
 // Sweeps
 
-const nameOf = ({ model, p, q }) => ({ nasch: `p ${p}`, vdr: `p ${p}, ${q}`, rickert: `p ${p}, two lanes`, own: "own program" })[model];
+function nameOf({ model, ...rule }) {
+  const [p, q] = [rule.p, rule.q].map(probabilityText);
+  return { nasch: `p ${p}`, vdr: `p ${p}, ${q}`, rickert: `p ${p}, two lanes`, own: "own program" }[model];
+}
 const sweeps = new Sweeps((mark, csv) => {
   table = csv;
   $("savesweep").disabled = false;
@@ -245,7 +251,8 @@ function take(source) {
 
 // Files, examples and links
 
-async function load(name, source) {
+/** Open a file. `density` is the one of the road for a sweep file, which has many. */
+async function load(name, source, density = FIRST.density) {
   if (name.endsWith(".py")) return loadPython(source);
   const kind = name.endsWith(".rule") || /^(motion|change)\b/.test(source) ? "check" : /^sweep/i.test(source) ? "sweep" : "run";
   const found = await explain(kind, source);
@@ -260,10 +267,12 @@ async function load(name, source) {
     take(source);
     return judge();
   }
-  job = jobOf(source);
+  job = jobOf(source, density);
   await begin();
-  await sweeps.file(source, name.replace(".sweep", "").replaceAll("_", " "));
+  await sweeps.file(source, name.replace(".sweep", "").replaceAll("_", " ").slice(0, 40));
 }
+/** The steps of the run that an example begins. A program drives the road that the page has already. */
+const stepsOf = (name, found) => (found?.job ?? (/\.(job|sweep)$/.test(name) ? jobOf(examples[name]) : job)).steps;
 /** An example that has no file: set the controls, and sweep from moving and from jammed cars. */
 async function showBranches(what) {
   Object.assign(job, structuredClone(what));
@@ -300,7 +309,8 @@ async function openLink() {
   }
 }
 
-function listen() {
+/** Put a slider below each number that has a range. */
+function addSliders() {
   for (const field of document.querySelectorAll("[data-range]")) {
     const [least, most, step] = field.dataset.range.split(" "), [label, number] = field.children, slider = document.createElement("input");
     Object.assign(slider, { type: "range", min: least, max: most, step, ariaLabel: `${label.textContent}, slider` });
@@ -310,6 +320,9 @@ function listen() {
     });
     field.append(slider);
   }
+}
+/** Each control of the job sets its value, and the boxes of a sweep are checked while you type. */
+function watchControls() {
   for (const [k, place] of document.querySelectorAll("[data-set]").entries()) {
     const name = place.dataset.set;
     if (place.tagName === "SELECT") place.addEventListener("change", () => set(name, place.value));
@@ -320,6 +333,8 @@ function listen() {
   }
   for (const id in SWEEP) watch($(id), id, written => numberOf(written, SWEEP[id]), () => $(id).value = $(id).defaultValue);
   $("controls").addEventListener("submit", event => event.preventDefault());
+}
+function listen() {
   const click = {
     brake, newkey: () => again({ key: String(crypto.getRandomValues(new Uint32Array(1))[0]) }), clear: () => fundamental.clear(),
     open: () => $("file").click(), savejob: saving(file => save("traffic.job", [file], "text/plain")), savetable: saving(saveTable), savefilm: saving(saveFilm),
@@ -337,8 +352,9 @@ function listen() {
   $("file").onchange = event => event.target.files[0] && openFile(event.target.files[0]);
   $("example").onchange = event => {
     const name = event.target.value, found = tellExample(name);
+    player.setPace(stepsOf(name, found));
     if (found?.job) showBranches(found.job).catch(complain);
-    else if (name) load(name, examples[name]).catch(complain);
+    else if (name) load(name, examples[name], found?.density).catch(complain);
   };
   $("numbers").ontoggle = () => player.redraw();
   $("diagram").onclick = event => {
@@ -354,6 +370,8 @@ function listen() {
 async function start() {
   examples = await exampleInputs();
   listExamples($("example"), examples);
+  addSliders();
+  watchControls();
   listen();
   await openLink();
   if (!player.film) begin();

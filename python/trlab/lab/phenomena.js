@@ -1,6 +1,7 @@
 // The examples of the page, each with the name of the phenomenon that it shows and a sentence about it.
 
-/** An example opens a file of the package, or else sets the controls of the page to a `job`. */
+/** An example opens a file of the package, or else sets the controls of the page to a `job`. A sweep shows its phenomenon on a road of
+ * one `density`. */
 const GROUPS = {
   "Traffic": [
     {
@@ -58,7 +59,10 @@ const GROUPS = {
       name: "Two lanes", file: "two_lanes.sweep",
       words: "Flow per lane on two lanes, with lane changes after Rickert and others (1996).",
     },
-    { name: "Keep to one lane", file: "lane_rule.sweep", words: "Drivers overtake on lane 1 and return to lane 0." },
+    {
+      name: "Keep to one lane", file: "lane_rule.sweep", density: 0.06,
+      words: "Drivers overtake on lane 1 and return to lane 0, which has twice as many cars in light traffic.",
+    },
   ],
   "Rules of one's own": [
     {

@@ -5,12 +5,13 @@ import { clamp, upTo } from "./job.js";
 import { Film, Run } from "./film.js";
 import { colour } from "./colours.js";
 import { followedWords } from "./following.js";
-import { shownAs, speedWords, tellUnits, unitOf } from "./units.js";
+import { axesWords, shownAs, speedWords, tellUnits, unitOf } from "./units.js";
 import { RingPixels, RoadPixels } from "./pixels.js";
 import { Rows, bandAt, carNow, drawBands, drawCurves, drawRing, fresh, isMixed, ringAt, rowsOf, smooth } from "./draw.js";
 
 export const $ = id => document.getElementById(id);
 const calm = matchMedia("(prefers-reduced-motion: reduce)").matches;
+const FASTEST = 2000; // steps per second
 const REST = 5000; // After so long a pause, in milliseconds, a run ends; it is run again when needed.
 
 export class Player {
@@ -106,8 +107,9 @@ export class Player {
     if (this.drawn !== this.step) {
       const { pen, width, height } = fresh($("spacetime")), curves = fresh($("curves"));
       this.rows.draw(pen, width, height, view);
-      drawCurves(curves.pen, curves.width, curves.height, view, rowsOf(view, width, height));
-      this.tell();
+      const rows = rowsOf(view, width, height);
+      drawCurves(curves.pen, curves.width, curves.height, view, rows);
+      this.tell(rows.top);
       this.drawn = this.step;
       this.hear.moved?.(now);
     }
@@ -115,14 +117,15 @@ export class Player {
   }
   redraw() { Object.assign(this, { drawn: -1, stale: true }); }
 
-  tell() {
+  /** Write the numbers of the step that is shown, and the axes of the diagram, whose first row is that of the step `top`. */
+  tell(top) {
     const { film, step, car } = this, last = name => smooth(film, name, step, step)[0];
     const [flow, speed, stopped] = [shownAs("flow", last("flow")), shownAs("speed", last("speed")), `${Math.round(100 * last("stopped"))} %`];
     const followed = car && followedWords(film, car, this.hear.rule?.(car.step - 1));
     const words = {
       step, steps: `of ${film.steps} steps`, flow, speed, stopped, dense: shownAs("density", film.of(step).cars / (film.length * film.lanes)),
       kept: `The page keeps the last ${film.most.toLocaleString("en")} snapshots: back to step ${film.first.toLocaleString("en")}.`,
-      car: followed ?? (this.hint ??= $("car").textContent),
+      axes: axesWords(film.length, top, step), car: followed ?? (this.hint ??= $("car").textContent),
       mixed: isMixed(film, $("spacetime").clientWidth) ? "Colours of pixels are mean speeds, paler where there are fewer cars." : "",
     };
     for (const id in words) if ($(id).textContent !== String(words[id])) $(id).textContent = words[id];
@@ -157,9 +160,15 @@ export class Player {
     if (!now) this.redraw();
   }
   setRate() {
-    this.rate = Math.round(2000 ** ($("rate").value / 100));
+    this.rate = Math.round(FASTEST ** ($("rate").value / 100));
     $("rateout").textContent = this.rate;
     $("rate").setAttribute("aria-valuetext", `${this.rate} steps per second`);
+  }
+  /** Choose the steps per second for a run: a short one takes ten seconds, so that there is time to watch it. */
+  setPace(steps) {
+    const slider = $("rate"), rate = Math.max(1, steps / 10);
+    slider.value = Math.min(slider.defaultValue, 100 * Math.log(rate) / Math.log(FASTEST));
+    this.setRate();
   }
   one() {
     this.setPlaying(false);

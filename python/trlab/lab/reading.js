@@ -3,9 +3,10 @@
 import { FIRST } from "./job.js";
 import { decimalOf, need, rounded } from "./checks.js";
 
-/** The controls that a file has, and those of the first page for the others. A sweep file gives its road and its rule. */
-export function jobOf(text) {
-  const job = { ...FIRST, ...controlsOf(text) }, cells = job.length * job.lanes;
+/** The controls that a file has, and those of the first page for the others. A sweep file gives its road and its rule, but not the
+ * `density`. */
+export function jobOf(text, density = FIRST.density) {
+  const job = { ...FIRST, density, ...controlsOf(text) }, cells = job.length * job.lanes;
   if (!job.road) job.cars = rounded(job.density * cells);
   return { ...job, density: +(job.cars / cells).toFixed(4) };
 }

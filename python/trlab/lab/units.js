@@ -28,6 +28,11 @@ export const speedWords = number =>
 /** A number of cells as a length. */
 export const lengthWords = cells => units.now === "road" ? `${cells * METRES} m` : `${cells} cell${cells === 1 ? "" : "s"}`;
 
+/** The axes of a space-time diagram: the road across, and the steps down. */
+export const axesWords = (length, first, last) => units.now === "road"
+  ? `Across: 0 to ${lengthWords(length)}. Down: ${first * SECONDS} to ${last * SECONDS} s.`
+  : `Across: cells 0 to ${length - 1}. Down: steps ${first} to ${last}.`;
+
 /** The ticks of an axis from 0 to `most` of the model's unit: round numbers of the shown unit, each with its place. */
 export function ticks(kind, most, count = 6) {
   const { times } = unitOf(kind), high = most * times, rough = high / count, power = 10 ** Math.floor(Math.log10(rough));

@@ -1,8 +1,9 @@
 """Rows of series, which count the cars in windows and write no snapshots, and of the memory of a large sweep."""
 import os
+from collections.abc import Iterator
 
 from . import measuring
-from .rows import Row, a_move, wish
+from .rows import Programs, Row, a_move, wish
 
 WINDOWS = 500_000  # of one step each, the maximum of a series
 CELLS = 100_000
@@ -17,7 +18,7 @@ RULES = {
 LARGEST_SWEEP = 200, 200_000  # points, and cars per point
 
 
-def texts_of(rule, lanes, folder):
+def texts_of(rule: str, lanes: int, folder: str) -> list[str]:
     """Jobs of a road with evenly spaced cars, one of STEPS steps and one of none, and sweeps of the same road with one
     step more each."""
     cars = lanes * CARS
@@ -27,7 +28,7 @@ def texts_of(rule, lanes, folder):
     return [measuring.write(os.path.join(folder, f"text {k}"), text) for k, text in enumerate(jobs + sweeps)]
 
 
-def one_window(programs, rule, lanes, times, folder):
+def one_window(programs: Programs, rule: str, lanes: int, times: int, folder: str) -> Row:
     """The row of a series with one window, compared with a run, which writes snapshots, and a sweep, which does not."""
     job, still, points, first = texts_of(rule, lanes, folder)
     series = [programs.trlab, "series", "--every", str(STEPS)]
@@ -43,7 +44,7 @@ def one_window(programs, rule, lanes, times, folder):
     return row._replace(beside=beside, wanted=wanted)
 
 
-def many_windows(programs, times, folder):
+def many_windows(programs: Programs, times: int, folder: str) -> Row:
     """The row of a series whose windows are single steps of one car, compared with its run."""
     rule = "nasch 536870912"
     path = measuring.write(os.path.join(folder, "windows"), measuring.job(["0" + 9 * "."], rule, WINDOWS))
@@ -55,7 +56,7 @@ def many_windows(programs, times, folder):
     return row._replace(beside=f"a run {took['run'].cpu:.1f} ({ratio:.2f})", wanted=wanted)
 
 
-def memory(programs, folder):
+def memory(programs: Programs, folder: str) -> Row:
     """The row of the memory of the largest sweep."""
     points, cars = LARGEST_SWEEP
     rule = "nasch 536870912"
@@ -65,7 +66,7 @@ def memory(programs, folder):
     return row._replace(beside=f"{peak:.1f} MB in all", wanted=(wish("at most 150 MB", peak <= 150),))
 
 
-def rows(programs, is_quick, folder):
+def rows(programs: Programs, is_quick: bool, folder: str) -> Iterator[Row]:
     """All rows of series and of the memory of a sweep. Each has a wanted value."""
     times = 3 if is_quick else 10
     for rule, lanes in RULES.items():

@@ -8,16 +8,19 @@ import re
 import subprocess
 import sys
 import time
-from typing import NamedTuple
+from collections.abc import Callable, Hashable, Iterable, Mapping, Sequence
+from typing import Any, NamedTuple, Optional, TypeVar
 
 from .. import TOP
 from ..processes import peak_of
+
+Name = TypeVar("Name", bound=Hashable)
 
 BENCH = os.path.join(TOP, "tools", "bench")
 WITHOUT_PROOFS = ["plain", "interpreter"]
 LONGEST = 2  # the maximum number of turns, as a multiple of the planned number
 REPEATS = 5  # turns of a run that measures its own time
-SETTLED = []  # for each best time whether it was found twice
+SETTLED: list[bool] = []  # for each best time whether it was found twice
 
 
 class Time(NamedTuple):
@@ -27,14 +30,14 @@ class Time(NamedTuple):
     cpu: float
 
 
-def level(program):
+def level(program: str) -> str:
     """The processor level for which a program is compiled. Its message for older processors names this level."""
     with open(program, "rb") as file:
         named = re.search(rb"x86-64-v[1-4]", file.read())
     return named[0].decode() if named else "x86-64"
 
 
-def build(level, features=()):
+def build(level: str, features: Sequence[str] = ()) -> list[str]:
     """Builds the programs without proofs for a processor level; returns the paths of `plain` and `interpreter`."""
     folder = os.path.join(BENCH, "target", "-".join([level, *features]))
     words = ["cargo", "build", "--release", "--quiet", "--offline", "--target-dir", folder]
@@ -44,7 +47,7 @@ def build(level, features=()):
     return [os.path.join(folder, "release", name) for name in WITHOUT_PROOFS]
 
 
-def python_with(*modules):
+def python_with(*modules: str) -> Optional[str]:
     """A Python that has these modules: the one that runs this, or otherwise the system's; or None."""
     for python in (sys.executable, "/usr/bin/python3"):
         words = [python, "-c", f"import {', '.join(modules)}"]
@@ -53,14 +56,14 @@ def python_with(*modules):
     return None
 
 
-def machine():
+def machine() -> str:
     """A line about the machine."""
     with open("/proc/cpuinfo") as lines:
         name = next((line.partition(": ")[2].strip() for line in lines if line.startswith("model name")), "a processor")
     return f"{os.cpu_count()} processors ({name}), load {os.getloadavg()[0]:.1f} at the start"
 
 
-def spread(length, cars, seed=1):
+def spread(length: int, cars: int, seed: int = 1) -> str:
     """A lane of stopped cars in random cells."""
     cells = ["."] * length
     for place in random.Random(seed).sample(range(length), cars):
@@ -68,7 +71,7 @@ def spread(length, cars, seed=1):
     return "".join(cells)
 
 
-def even(length, cars, lanes=1):
+def even(length: int, cars: int, lanes: int = 1) -> list[str]:
     """The lanes of stopped cars, evenly spaced as in a sweep."""
     cells = [["."] * length for _ in range(lanes)]
     for number in range(cars):
@@ -77,25 +80,25 @@ def even(length, cars, lanes=1):
     return ["".join(lane) for lane in cells]
 
 
-def job(lanes, rule, steps):
+def job(lanes: Iterable[str], rule: str, steps: int) -> bytes:
     """A job."""
     lines = ["road 1", "key " + 64 * "0", "limit 5"] + ["lane " + lane for lane in lanes]
     return ("\n".join(lines + ["rule " + rule, f"steps {steps}"]) + "\n").encode()
 
 
-def sweep(rule, cells, points, steps, lanes=1):
+def sweep(rule: str, cells: int, points: Iterable[int], steps: int, lanes: int = 1) -> bytes:
     """A sweep whose points are numbers of cars, and which counts all steps."""
     lines = ["sweep 1", "key " + 64 * "0", "limit 5", f"length {cells}", f"lanes {lanes}", "rule " + rule, "warm 0"]
     return ("\n".join(lines + [f"measure {steps}"] + [f"cars {cars}" for cars in points]) + "\n").encode()
 
 
-def write(path, text):
+def write(path: str, text: bytes) -> str:
     with open(path, "wb") as file:
         file.write(text)
     return path
 
 
-def timed(command, path):
+def timed(command: Sequence[str], path: str) -> Time:
     """The time of a run on the input in a file, in seconds; its output is discarded."""
     with open(path, "rb") as text:
         began = time.perf_counter()
@@ -108,7 +111,7 @@ def timed(command, path):
     return Time(clock, used.ru_utime + used.ru_stime)
 
 
-def own_time(command, path):
+def own_time(command: Sequence[str], path: str) -> Time:
     """The best time of `REPEATS` turns, in seconds, which a program measures itself and prints on standard error."""
     env = {**os.environ, "TURNS": str(REPEATS)}
     with open(path, "rb") as text:
@@ -116,33 +119,34 @@ def own_time(command, path):
     return Time(*map(float, ran.stderr.split()))
 
 
-def once(command, path, measure=timed):
+def once(command: Sequence[str], path: str, measure: Callable[[Sequence[str], str], Time] = timed) -> Time:
     """The time of one run, as `measure` finds it."""
     return measure(command, path)
 
 
-def turns(runs, times):
+def turns(runs: Mapping[Name, tuple[Any, ...]], times: int) -> dict[Name, list[Time]]:
     """The times of runs, by their names. The runs alternate, `times` times each. A run is a command, the path of its input,
     and the function that measures it, if that is not `timed`."""
-    took = {name: [] for name in runs}
+    took: dict[Name, list[Time]] = {name: [] for name in runs}
     for _ in range(times):
         for name, run in runs.items():
             took[name].append(once(*run))
     return took
 
 
-def best(times):
+def best(times: Iterable[Time]) -> Time:
     """The minimum of several times: of the wall-clock times, and of the CPU times."""
-    return Time(*map(min, zip(*times)))
+    clocks, cpus = zip(*times)
+    return Time(min(clocks), min(cpus))
 
 
-def settled(times):
+def settled(times: Iterable[Time]) -> bool:
     """Whether the two smallest CPU times of a run agree to 2 percent or half a millisecond."""
     least, second = sorted(time.cpu for time in times)[:2]
     return second - least <= max(0.02 * least, 0.0005)
 
 
-def best_of(runs, count):
+def best_of(runs: Mapping[Name, tuple[Any, ...]], count: int) -> dict[Name, Time]:
     """The best times of runs, by their names. The runs alternate `count` times, and those whose two smallest times differ up
     to `LONGEST` times as often, because on a shared machine even the best of a few runs may be disturbed."""
     took = turns(runs, count)
@@ -154,12 +158,12 @@ def best_of(runs, count):
     return {name: best(times) for name, times in took.items()}
 
 
-def agreement():
+def agreement() -> str:
     """The number of best times so far that were found twice."""
     return f"{sum(SETTLED)} of {len(SETTLED)} best times were found twice, to 2 percent or 0.5 ms"
 
 
-def memory(command, path, output=os.devnull):
+def memory(command: Sequence[str], path: str, output: str = os.devnull) -> int:
     """The peak memory in bytes of a run on the input in a file."""
     peak = 0
     with open(path, "rb") as text, open(output, "wb") as out:
@@ -172,7 +176,7 @@ def memory(command, path, output=os.devnull):
     return peak
 
 
-def compare(commands, path, folder):
+def compare(commands: Sequence[Sequence[str]], path: str, folder: str) -> None:
     """Runs each command on an input once, and ends if two outputs differ."""
     outputs = [os.path.join(folder, f"output{k}") for k in range(len(commands))]
     for command, output in zip(commands, outputs):

@@ -1,9 +1,10 @@
 """Rows of one road each: trlab with one worker, compared with the programs without proofs; and its memory."""
 import os
-from typing import NamedTuple
+from collections.abc import Callable, Iterator
+from typing import Any, NamedTuple
 
 from . import measuring
-from .rows import Row, a_move, wish
+from .rows import Programs, Row, a_move, wish
 
 SECONDS = 0.05  # of a run; short runs are less often disturbed on a shared machine
 BYTES = 30_000_000  # of an output that is compared
@@ -20,7 +21,7 @@ LONG = 100000, 0.3
 WIDE, TUNED = "wide ", "tuned "
 HEAP = "rickert 536870912 1"
 # The wanted maximum of the time of trlab over the time of other programs, by rule, cells and density.
-WANTED = {
+WANTED: dict[tuple[str, tuple[int, float | None]], dict[str, float]] = {
     ("nasch 0", LONG): {"plain": 1.1, "numba": 0.55, "NumPy": 0.2},
     ("nasch 536870912", LONG): {"floor": 1.35, "NumPy": 0.85},
     ("vdr 33554432 1610612736", LONG): {"floor": 1.3},
@@ -41,34 +42,34 @@ class Road(NamedTuple):
     cells: int
     density: float | None
 
-    def pictures(self):
+    def pictures(self) -> list[str]:
         if self.density is None:
             return [self.cells * "0", self.cells * "."]
         cars = round(self.cells * self.density)
         return [measuring.spread(self.cells, cars, seed) for seed in range(1, self.lanes + 1)]
 
-    def cars(self):
+    def cars(self) -> int:
         return sum(len(picture) - picture.count(".") for picture in self.pictures())
 
-    def write(self, path, steps):
+    def write(self, path: str, steps: int) -> str:
         return measuring.write(path, measuring.job(self.pictures(), self.rule, steps))
 
-    def draws(self):
+    def draws(self) -> bool:
         return self.rule != "nasch 0"
 
-    def size(self):
+    def size(self) -> tuple[int, float | None]:
         return self.cells, self.density
 
-    def is_asked(self):
+    def is_asked(self) -> bool:
         """Whether it is also measured with eight words in parallel."""
         return self.size() in (SMALL_BLOCK_CARS, LONG)
 
-    def wanted(self):
+    def wanted(self) -> dict[str, float]:
         """The wanted maximum of the time of trlab over the time of other programs, by their names."""
         return WANTED_OF_FEW if self.size() == SMALL_BLOCK_CARS else WANTED.get((self.rule, self.size()), {})
 
 
-def roads(is_quick):
+def roads(is_quick: bool) -> Iterator[Road]:
     """The roads that are measured; a quick measurement takes only those with a wanted value."""
     sizes = [SMALL_BLOCK_CARS] + [(cells, density) for cells in CELLS for density in DENSITIES]
     for rule, lanes in LANES.items():
@@ -81,7 +82,7 @@ def roads(is_quick):
         yield Road(HEAP, 2, 16000, None)
 
 
-def fitting_steps(road, path, seconds_of, most=MAX_STEPS):
+def fitting_steps(road: Road, path: str, seconds_of: Callable[[str], float], most: int = MAX_STEPS) -> int:
     """The number of steps with which a run takes about SECONDS."""
     steps = 1
     while steps < most:
@@ -92,12 +93,12 @@ def fitting_steps(road, path, seconds_of, most=MAX_STEPS):
     return most
 
 
-def by_numba(command, path):
+def by_numba(command: list[str], path: str) -> dict[str, tuple[Any, ...]]:
     """The runs in numba, which measure their own times."""
     return {"numba": (command, path, measuring.own_time), TUNED + "numba": ([*command, "tuned"], path, measuring.own_time)}
 
 
-def by_numpy(programs, road, folder, times):
+def by_numpy(programs: Programs, road: Road, folder: str, times: int) -> measuring.Time:
     """The time per car and step in NumPy, with a number of steps of its own. Without random numbers its output is trlab's."""
     command, path = programs.numpy, os.path.join(folder, "for NumPy")
     steps = fitting_steps(road, path, lambda text: measuring.own_time(command, text).clock)
@@ -108,7 +109,7 @@ def by_numpy(programs, road, folder, times):
     return a_move(best, (0, 0), road.cars() * steps)
 
 
-def commands_of(programs, road):
+def commands_of(programs: Programs, road: Road) -> dict[str, list[str]]:
     """The commands that simulate a road and write the same bytes, by their names; for some roads also with eight words in
     parallel, if the processor has AVX2. The command in numba draws different random numbers."""
     commands = {"trlab": [programs.trlab, "run"], "plain": [programs.plain], "interpreter": [programs.interpreter]}
@@ -119,7 +120,7 @@ def commands_of(programs, road):
     return commands
 
 
-def measure(programs, road, times, folder):
+def measure(programs: Programs, road: Road, times: int, folder: str) -> Row:
     """The row of a road."""
     path, at_start = os.path.join(folder, "job"), os.path.join(folder, "no steps")
     commands = commands_of(programs, road)
@@ -135,18 +136,18 @@ def measure(programs, road, times, folder):
     whole = measuring.best_of({name: (command, path) for name, command in commands.items()}, times)
     if programs.numba and road.rule.startswith("nasch"):
         whole |= measuring.best_of(by_numba(programs.numba, path), times // measuring.REPEATS)
-        idle |= {"numba": (0, 0), TUNED + "numba": (0, 0)}
+        idle |= {"numba": measuring.Time(0, 0), TUNED + "numba": measuring.Time(0, 0)}
     took = {name: a_move(whole[name], idle[name], road.cars() * steps) for name in whole}
     if programs.numpy and road.rule.startswith("nasch"):
         took["NumPy"] = by_numpy(programs, road, folder, times)
     return row_of(road, took)
 
 
-def wish_of(what, bound, row, name):
+def wish_of(what: str, bound: float, row: Row, name: str) -> str:
     return wish(what, row.ratio(name) <= bound) if name in row.times else f"{what} (not measured)"
 
 
-def row_of(road, took):
+def row_of(road: Road, took: dict[str, measuring.Time]) -> Row:
     """The row of a road, with its wanted values."""
     what = f"`{road.rule}`" if road.density is not None else f"heap, `{road.rule}`"
     row = Row(what, road.lanes, road.cells, road.cars(), took)
@@ -160,7 +161,7 @@ def row_of(road, took):
     return row._replace(beside=beside, wanted=tuple(wanted))
 
 
-def growth(programs, times, folder):
+def growth(programs: Programs, times: int, folder: str) -> Row:
     """The row that shows how the time of a step grows with a heap: 64000 cells over 16000, with the same number of steps."""
     command, large, small = [programs.trlab, "run"], Road(HEAP, 2, 64000, None), Road(HEAP, 2, 16000, None)
     path = os.path.join(folder, "job")
@@ -178,7 +179,7 @@ def growth(programs, times, folder):
     return row._replace(beside=f"{ratio:.2f} times a step of 16000 cells", wanted=wanted)
 
 
-def memory(programs, times, folder):
+def memory(programs: Programs, times: int, folder: str) -> Row:
     """The row of the memory of a lane of 100000 cells with 30000 cars."""
     road = Road("nasch 536870912", 1, 100000, 0.3)
     path = road.write(os.path.join(folder, "job"), 300)
@@ -187,7 +188,7 @@ def memory(programs, times, folder):
     return row._replace(beside=f"{peak:.2f} MB in all", wanted=(wish("at most 3 MB", peak <= 3),))
 
 
-def rows(programs, is_quick, folder):
+def rows(programs: Programs, is_quick: bool, folder: str) -> Iterator[Row]:
     """All rows of one road."""
     times = 10 if is_quick else 20
     for road in roads(is_quick):

@@ -1,5 +1,6 @@
 """A row of the table, and the table as text: all of it as tab-separated values, a few rows of it in Markdown."""
 import re
+from collections.abc import Collection, Iterable
 from typing import NamedTuple
 
 from . import measuring
@@ -48,11 +49,11 @@ class Row(NamedTuple):
     beside: str = ""
     wanted: tuple[str, ...] = ()
 
-    def ratio(self, other):
+    def ratio(self, other: str) -> float:
         """The CPU time of trlab over that of another program."""
         return self.times["trlab"].cpu / self.times[other].cpu
 
-    def cell(self, column):
+    def cell(self, column: str) -> str:
         match column:
             case "what" | "lanes" | "cells" | "cars" | "beside":
                 return str(getattr(self, column))
@@ -64,43 +65,42 @@ class Row(NamedTuple):
                 return ", ".join(self.wanted)
             case other if other in self.times:
                 return f"{self.times[other].cpu:.1f} ({self.ratio(other):.2f})"
-            case _:
-                return ""
+        return ""
 
 
-def wish(what, is_met):
+def wish(what: str, is_met: bool) -> str:
     """The text of a wanted value, with a remark if the row misses it."""
     return what if is_met else f"{what} (missed)"
 
 
-def a_move(whole, idle, moves):
+def a_move(whole: tuple[float, float], idle: tuple[float, float], moves: int) -> measuring.Time:
     """The nanoseconds per car and step: the time of a run less that of a run of 0 steps, over its cars times its steps."""
     return measuring.Time(*((more - less) * 1e9 / moves for more, less in zip(whole, idle)))
 
 
-def heading(columns):
+def heading(columns: Collection[str]) -> list[str]:
     return [line(columns), "|" + len(columns) * "---|"]
 
 
-def line(cells):
+def line(cells: Iterable[str]) -> str:
     return "| " + " | ".join(cells) + " |"
 
 
-def rows_of(table):
+def rows_of(table: str) -> list[dict[str, str]]:
     """The rows of a printed table, each with its cells by column."""
     lines = [[cell.strip() for cell in text.strip().strip("|").split(" | ")] for text in table.splitlines() if text[:2] == "| "]
-    heading = next((cells for cells in lines if cells[0] == COLUMNS[0]), [])
+    heading: list[str] = next((cells for cells in lines if cells[0] == COLUMNS[0]), [])
     return [dict(zip(heading, cells)) for cells in lines if len(cells) == len(heading) and cells[0] != COLUMNS[0]]
 
 
-def as_data(rows):
+def as_data(rows: list[dict[str, str]]) -> str:
     """All rows as tab-separated values below a heading. Ratios are left out, because they follow from the times."""
     columns = [column for column in COLUMNS if column in rows[0]]
     values = [[RATIO.sub("", row[column]).replace("`", "") for column in columns] for row in rows]
     return "\n".join(map("\t".join, [columns, *values])) + "\n"
 
 
-def as_page(rows):
+def as_page(rows: list[dict[str, str]]) -> str:
     """The rows of the page in Markdown, below their heading, without columns that are empty."""
     found = [row for wanted in ROWS_OF_PAGE for row in rows if (row["what"], int(row["cells"] or 0), int(row["cars"] or 0)) == wanted]
     columns = [column for column in COLUMNS_OF_PAGE if any(row.get(column) for row in found)]

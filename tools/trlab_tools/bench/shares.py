@@ -4,10 +4,11 @@ import os
 import resource
 import statistics
 import subprocess
-from typing import NamedTuple
+from collections.abc import Iterator, Sequence
+from typing import NamedTuple, Optional
 
 from . import measuring
-from .rows import Row, a_move, wish
+from .rows import Programs, Row, a_move, wish
 
 SECONDS = 0.4
 MOVES = 6_000_000  # cars times steps of a sweep of one point
@@ -30,56 +31,56 @@ class Shared(NamedTuple):
     steps: int
     text: bytes
 
-    def by(self, program, count):
+    def by(self, program: str, count: int) -> list[str]:
         return [program, self.command, f"--{self.who}s", str(count)]
 
-    def name(self, count):
+    def name(self, count: int) -> str:
         return f"{count} {self.who}{'s' if count > 1 else ''}"
 
-    def a_move(self, took, runs=1):
+    def a_move(self, took: Sequence[measuring.Time], runs: int = 1) -> measuring.Time:
         """The nanoseconds per car and step in the best turn, with `runs` runs at once."""
         return a_move(measuring.best(took), (0, 0), self.cars * self.steps * runs)
 
 
-def a_sweep(points, cells, steps):
+def a_sweep(points: int, cells: int, steps: int) -> Shared:
     """A sweep of points with evenly spaced densities, without the empty and the full road."""
     cars = [cells * k // (points + 1) for k in range(1, points + 1)]
     text = measuring.sweep(BRAKING, cells, cars, steps)
     return Shared(f"sweep of {points} points, `{BRAKING}`", "sweep", "runner", 1, cells, sum(cars), steps, text)
 
 
-def a_run(rule, lanes, cells, steps):
+def a_run(rule: str, lanes: int, cells: int, steps: int) -> Shared:
     """A run with three cars per ten cells; `cells` is the total of all lanes."""
     each, cars = cells // lanes, cells // lanes * 3 // 10
     pictures = [measuring.spread(each, cars, seed) for seed in range(1, lanes + 1)]
     return Shared(f"`{rule}`", "run", "worker", lanes, each, lanes * cars, steps, measuring.job(pictures, rule, steps))
 
 
-def fitting_run(program, rule, lanes, cells, folder):
+def fitting_run(program: str, rule: str, lanes: int, cells: int, folder: str) -> Shared:
     """A run that takes one worker about SECONDS."""
     steps = TRIED_MOVES // (cells * 3 // 10)
     path = measuring.write(os.path.join(folder, "trial"), a_run(rule, lanes, cells, steps).text)
     return a_run(rule, lanes, cells, int(steps * SECONDS / measuring.timed([program, "run"], path).cpu))
 
 
-def without_threads():
+def without_threads() -> None:
     """Keeps the system from starting further threads for this process."""
     if os.getuid() == 0:
         os.setuid(NOBODY)
     resource.setrlimit(resource.RLIMIT_NPROC, (0, 0))
 
 
-def compare_without_threads(shared, program, path, folder):
+def compare_without_threads(shared: Shared, program: str, path: str, folder: str) -> None:
     """Stops if the output with 16 workers or runners is different when no thread can be started."""
     outputs = [os.path.join(folder, name) for name in ("threads", "none")]
     for output, limit in zip(outputs, (None, without_threads)):
         with open(path, "rb") as text, open(output, "wb") as out:
             subprocess.run(shared.by(program, 16), stdin=text, stdout=out, check=True, preexec_fn=limit)
-    if not filecmp.cmp(*outputs, shallow=False):
+    if not filecmp.cmp(outputs[0], outputs[1], shallow=False):
         raise SystemExit(f"{shared.what}: a different output without threads")
 
 
-def compared(shared, program, plain, counts, folder):
+def compared(shared: Shared, program: str, plain: list[str], counts: Sequence[int], folder: str) -> str:
     """The path of the input, after the outputs with all counts have been compared with the output of plain."""
     path = measuring.write(os.path.join(folder, "shared"), shared.text)
     measuring.compare([plain] + [shared.by(program, count) for count in counts], path, folder)
@@ -87,7 +88,9 @@ def compared(shared, program, plain, counts, folder):
     return path
 
 
-def rows_of(programs, shared, counts, bound, times, folder):
+def rows_of(
+    programs: Programs, shared: Shared, counts: Sequence[int], bound: Optional[float], times: int, folder: str
+) -> Iterator[Row]:
     """The rows for these counts of workers or runners. The first count is 1, and 4 should be at least `bound` times as fast."""
     plain = [programs.plain] + ["sweep"] * (shared.command == "sweep")
     path = compared(shared, programs.trlab, plain, counts, folder)
@@ -101,7 +104,10 @@ def rows_of(programs, shared, counts, bound, times, folder):
         yield row_of(shared, name, each, took[shared.name(1)], plain_time, bound)
 
 
-def row_of(shared, name, took, alone, plain_time, bound):
+def row_of(
+    shared: Shared, name: str, took: list[measuring.Time], alone: list[measuring.Time], plain_time: measuring.Time,
+    bound: Optional[float],
+) -> Row:
     """The row with this name. Its speed-up over one worker or runner is wall-clock time, the median of the turns."""
     runs = 4 if name == "four runs at once" else 1
     row = Row(f"{shared.what}, {name}", shared.lanes, shared.cells, shared.cars, {"trlab": shared.a_move(took, runs)})
@@ -114,7 +120,7 @@ def row_of(shared, name, took, alone, plain_time, bound):
     return row._replace(wanted=(wish(f"at least {bound} times", faster >= bound),))
 
 
-def sweep_over_run(programs, cells, cars, bound, times, folder):
+def sweep_over_run(programs: Programs, cells: int, cars: int, bound: float, times: int, folder: str) -> Row:
     """The row of a sweep of one road, whose CPU time is compared with that of a run of the road."""
     steps, runs = MOVES // cars, {}
     for count in (steps, 0):
@@ -133,12 +139,13 @@ def sweep_over_run(programs, cells, cars, bound, times, folder):
     return row._replace(beside=f"a run {other.cpu:.1f} ({ratio:.2f})", wanted=wanted)
 
 
-def rows(programs, is_quick, folder):
+def rows(programs: Programs, is_quick: bool, folder: str) -> Iterator[Row]:
     """All rows of work that is shared; a quick measurement takes only those with a wanted value."""
     times, counts = (3, [1, 4]) if is_quick else (7, [1, 2, 4])
-    for cells, cars, bound in (100, 30, 1.1), (1000, 300, 1.03):
-        yield sweep_over_run(programs, cells, cars, bound, times, folder)
-    for points, cells, steps, bound in (16, 200, 10000, 3), (7, 1000, 10000, 3), (16, 10000, 200, None):
+    for cells, cars, over in (100, 30, 1.1), (1000, 300, 1.03):
+        yield sweep_over_run(programs, cells, cars, over, times, folder)
+    sweeps: list[tuple[int, int, int, Optional[float]]] = [(16, 200, 10000, 3), (7, 1000, 10000, 3), (16, 10000, 200, None)]
+    for points, cells, steps, bound in sweeps:
         if bound or not is_quick:
             yield from rows_of(programs, a_sweep(points, cells, steps), counts, bound, times, folder)
     for rule, lanes in (BRAKING, 1), (CHANGING, 2):

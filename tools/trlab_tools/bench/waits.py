@@ -2,9 +2,12 @@
 import os
 import subprocess
 import time
+from collections.abc import Callable, Iterator, Sequence
 
 from . import measuring
-from .rows import Row, wish
+from .rows import Programs, Row, wish
+
+Process = subprocess.Popen[bytes]
 
 SECONDS = 1.0
 COUNTS = 1, 4
@@ -12,7 +15,7 @@ CELLS, CARS = 100_000, 30_000
 SWITCHES = "voluntary_ctxt_switches:", "nonvoluntary_ctxt_switches:"
 
 
-def switches_of(pid):
+def switches_of(pid: int) -> dict[str, int]:
     """The number of context switches of each thread of a process."""
     found = {}
     for thread in os.listdir(f"/proc/{pid}/task"):
@@ -22,7 +25,7 @@ def switches_of(pid):
     return found
 
 
-def settled(program, seconds):
+def settled(program: Process, seconds: float) -> tuple[int, int]:
     """Waits a little, then returns the number of context switches of a process in `seconds` seconds, and of its threads."""
     time.sleep(0.3)
     before = switches_of(program.pid)
@@ -31,24 +34,26 @@ def settled(program, seconds):
     return sum(after.values()) - sum(before.values()), len(after)
 
 
-def without_input(command):
+def without_input(command: Sequence[str]) -> Process:
     """A process that waits for the last line of its input."""
     program = subprocess.Popen(command, stdin=subprocess.PIPE, stdout=subprocess.DEVNULL)
+    assert program.stdin is not None
     text = measuring.job([measuring.spread(CELLS, CARS)], "nasch 536870912", 1)
     program.stdin.write(text[:-2])
     program.stdin.flush()
     return program
 
 
-def without_reader(command):
+def without_reader(command: Sequence[str]) -> Process:
     """A process whose output nobody reads."""
     program = subprocess.Popen(command, stdin=subprocess.PIPE, stdout=subprocess.PIPE)
+    assert program.stdin is not None
     program.stdin.write(measuring.job([measuring.spread(CELLS, CARS)], "nasch 536870912", 100))
     program.stdin.close()
     return program
 
 
-def row_of(programs, what, start, count):
+def row_of(programs: Programs, what: str, start: Callable[[Sequence[str]], Process], count: int) -> Row:
     """The row of a process with `count` workers that waits for a second."""
     program = start([programs.trlab, "run", "--workers", str(count)])
     try:
@@ -61,7 +66,7 @@ def row_of(programs, what, start, count):
     return row._replace(beside=beside, wanted=(wish("no context switches", switches == 0),))
 
 
-def rows(programs, is_quick, folder):
+def rows(programs: Programs, is_quick: bool, folder: str) -> Iterator[Row]:
     """All rows of a program that waits."""
     for what, start in ("its input", without_input), ("its reader", without_reader):
         for count in COUNTS:

@@ -4,9 +4,11 @@ import collections
 import glob
 import os
 import re
-from typing import NamedTuple
+from collections.abc import Iterator
+from typing import NamedTuple, Optional
 
 from .. import TOP
+from ..command import Verdicts
 from ..proofs.functions import functions_in
 
 PAGE = "docs/dev/CALLS.md"
@@ -20,9 +22,13 @@ class Row(NamedTuple):
     crate: str
 
 
-def bodies():
+# The bodies of the functions with a crate and a name, each with the owner of its function.
+Bodies = dict[tuple[str, str], list[tuple[str, str]]]
+
+
+def bodies() -> Bodies:
     """The bodies of all functions by crate and name; several methods of a trait may have the same name."""
-    found = collections.defaultdict(list)
+    found: Bodies = collections.defaultdict(list)
     crates = os.path.join(TOP, "crates")
     for path in glob.glob(os.path.join(crates, "*", "src", "**", "*.rt"), recursive=True):
         crate, _, file = os.path.relpath(path, crates).partition(os.sep)
@@ -33,15 +39,15 @@ def bodies():
     return found
 
 
-def bodies_of(row, every):
+def bodies_of(row: Row, every: Bodies) -> list[str]:
     """The bodies of the function of a row. A method of a trait is named by its type, or by its trait."""
     owner, _, name = row.name.rpartition("::")
     return [body for other, body in every[row.crate, name] if other == owner or owner and other.startswith(owner)]
 
 
-def rows(block):
+def rows(block: str) -> Iterator[tuple[Row, Optional[Row]]]:
     """The rows of a block, each with the row of its caller, or with None."""
-    above = []
+    above: list[Row] = []
     for line in block.splitlines():
         found = ROW.fullmatch(line)
         if not found or len(found[1]) % 2 or len(found[1]) // 2 > len(above):
@@ -53,7 +59,7 @@ def rows(block):
         yield above[-1], caller
 
 
-def verdicts():
+def verdicts() -> Verdicts:
     with open(os.path.join(TOP, PAGE), encoding="utf-8") as file:
         blocks = BLOCK.findall(file.read())
     every = bodies()

@@ -1,25 +1,43 @@
-"""Is each page for users short and in the index, and does README.md have the numbers of the pages that it cites?"""
+"""Is each page for users short and in the index, and does it have the numbers and the names of the sources that it cites?"""
+import json
 import re
 
+from ..command import Verdicts
+from ..finding import match_in
 from . import standing
 
 # For pages with many blocks, which do not count.
-MAX_WORDS_OUTSIDE_BLOCKS = {"README.md": 1020, "docs/TUTORIAL.md": 850, "docs/CHEATSHEET.md": 550, "docs/FAQ.md": 950}
+MAX_WORDS_OUTSIDE_BLOCKS = {"README.md": 1020, "docs/TUTORIAL.md": 850, "docs/CHEATSHEET.md": 550, "docs/FAQ.md": 980}
 INDEX = "docs/README.md"
 NUMBER = re.compile(r"\d+\.\d+")
 REPRODUCED = re.compile(r"^\| \[[^]]*\]\((studies/[^)]*)\): [^|]*\| (.*) \|$", re.M)
 # The row of the table of speeds that README.md cites.
 CITED_ROW = re.compile(r"^\| `nasch 536870912` \| 1 \| 100000 \| 30000 \| .*$", re.M)
+MODELS, PUBLISHED_RULES = "docs/MODELS.md", "examples/published_rules.py"
+# A row of a table in docs/MODELS.md that cites a study.
+MEASURED = re.compile(r"^\|.*\]\(\.\./(studies/\w+/README\.md)(?:#[\w-]+)?\).*\|$", re.M)
+RESULT = re.compile(r"\d+\.\d+|\d+(?= %)")
+RULE_FUNCTION = re.compile(r"^@trlab\.(?:motion|change)\ndef (\w+)", re.M)
+# The solutions of docs/COURSE.md, and numbers in them.
+COURSE, NOTEBOOK = "docs/COURSE.md", "examples/course.ipynb"
+SOLUTIONS = re.compile(r"^## Solutions$(.*?)^## ", re.M | re.S)
+# Fractions are settings; the numbers of headings and links are not results either.
+SOLUTION = re.compile(r"(?<![\w/.])\d+(?:\.\d+)?(?![\w/])")
+NO_RESULTS = re.compile(r"^#.*$|`[^`]*`|\]\([^)]*\)|\b\d+/\d+\b", re.M)
+ITALIC = re.compile(r"(?<![*\w])\*([^*]+)\*(?!\*)")
+LAB = "python/trlab/lab"
+# Names in the page of trlab-lab end like this, in its HTML and in its scripts.
+NAME_ON_PAGE = re.compile(r"[>\"]([^<>\"\n]+)[<\"]")
 
 
-def words_are_few():
+def words_are_few() -> Verdicts:
     """No page has more words outside its blocks than it may have."""
     for name, most in MAX_WORDS_OUTSIDE_BLOCKS.items():
         words = len(standing.FENCED.sub("", standing.content(name)).split())
         yield words <= most, f"{name} has {words} words outside its blocks, and may have {most} at most"
 
 
-def index_has_all_pages():
+def index_has_all_pages() -> Verdicts:
     """Each page of docs/ is in the index by task, and has a word limit."""
     for name in standing.documents():
         if name.startswith("docs/") and name != INDEX:
@@ -28,7 +46,7 @@ def index_has_all_pages():
             yield name in standing.MAX_WORDS, f"standing.py has no word limit for {name}"
 
 
-def reproduced_numbers_are_of_studies():
+def reproduced_numbers_are_of_studies() -> Verdicts:
     """Each number in a row of published figures in README.md is on the page of its study."""
     rows = REPRODUCED.findall(standing.content("README.md"))
     yield len(rows) >= 3, "README.md has no table of published figures"
@@ -37,16 +55,61 @@ def reproduced_numbers_are_of_studies():
             yield number in NUMBER.findall(standing.content(page)), f"README.md cites {number}, which is not in {page}"
 
 
-def speed_is_of_the_table():
+def speed_is_of_the_table() -> Verdicts:
     """The two numbers of README.md's section on speed are in one row of docs/SPEED.md."""
-    section = re.search(r"^## Speed\n(.*?)^## ", standing.content("README.md"), re.M | re.S)[1]
-    row = CITED_ROW.search(standing.content("docs/SPEED.md"))[0]
+    section = match_in(r"^## Speed\n(.*?)^## ", standing.content("README.md"), re.M | re.S)[1]
+    row = match_in(CITED_ROW, standing.content("docs/SPEED.md"))[0]
     cited = NUMBER.findall(section)
     yield len(cited) == 2, "README.md has to cite two speeds"
     for number in cited:
         yield number in NUMBER.findall(row), f"README.md cites the speed {number}, which is not in the row of docs/SPEED.md"
 
 
-def verdicts():
-    for tried in words_are_few, index_has_all_pages, reproduced_numbers_are_of_studies, speed_is_of_the_table:
+def measured_results_are_of_studies() -> Verdicts:
+    """Each number in a row of docs/MODELS.md that cites a study is on the page of this study."""
+    rows = list(MEASURED.finditer(standing.content(MODELS)))
+    yield len(rows) >= 6, f"{MODELS} has few rows that cite a study"
+    for row in rows:
+        for number in RESULT.findall(row[0]):
+            yield number in RESULT.findall(standing.content(row[1])), f"{MODELS} cites {number}, which is not in {row[1]}"
+
+
+def published_rules_are_listed() -> Verdicts:
+    """docs/MODELS.md names each function of the published rules."""
+    functions = RULE_FUNCTION.findall(standing.content(PUBLISHED_RULES))
+    yield len(functions) >= 6, f"{PUBLISHED_RULES} has few rules"
+    for name in functions:
+        yield f"`{name}`" in standing.content(MODELS), f"{MODELS} does not name the function {name} of {PUBLISHED_RULES}"
+
+
+def solutions_are_measured() -> Verdicts:
+    """Each number in the solutions of the course is in a stored output of its notebook, which ./test notebook runs."""
+    cells = json.loads(standing.content(NOTEBOOK))["cells"]
+    printed = "".join("".join(output.get("text", "")) for cell in cells for output in cell.get("outputs", ()))
+    measured = set(map(float, re.findall(r"\d+(?:\.\d+)?", printed)))
+    cited = SOLUTION.findall(NO_RESULTS.sub("", match_in(SOLUTIONS, standing.content(COURSE))[1]))
+    yield len(cited) > 50, f"{COURSE} has no solutions with numbers"
+    for number in cited:
+        yield float(number) in measured, f"{COURSE} has {number} in its solutions, which no cell of {NOTEBOOK} prints"
+
+
+def controls_are_on_the_page() -> Verdicts:
+    """Each name in italics in the course is a name on the page of trlab-lab."""
+    sources = (standing.content(f"{LAB}/{name}") for name in ("page.html", "page.js", "phenomena.js", "player.js"))
+    there = {name.strip() for source in sources for name in NAME_ON_PAGE.findall(source)}
+    for name in sorted({" ".join(name.split()) for name in ITALIC.findall(standing.content(COURSE))} - {"italics"}):
+        yield name in there, f"{COURSE} names the control {name!r}, which is not on the page of trlab-lab"
+
+
+def verdicts() -> Verdicts:
+    for tried in (
+        words_are_few,
+        index_has_all_pages,
+        reproduced_numbers_are_of_studies,
+        speed_is_of_the_table,
+        measured_results_are_of_studies,
+        published_rules_are_listed,
+        solutions_are_measured,
+        controls_are_on_the_page,
+    ):
         yield from tried()

@@ -4,8 +4,10 @@ condition."""
 import ast
 import os
 import re
+from collections.abc import Iterator
 
 from .. import TOP
+from ..command import Verdicts
 from .standing import MAX_WORDS
 
 STAND_INS = re.compile(r"\b(?:what|whoever|alone|told|stands?|where)\b", re.I)
@@ -14,36 +16,36 @@ COMMENT = re.compile(r"//[^\n]*")
 LITERAL = re.compile(r'"((?:[^"\\]|\\.)*)"', re.S)
 MESSAGE = re.compile(r'\b(?:say|fail|echo) "([^"]*)"')
 DOCUMENTED = ast.Module, ast.ClassDef, ast.FunctionDef
-GUIDES = "README TUTORIAL CHEATSHEET FAQ PROGRAMS PYTHON STUDIES LAWS LAWS_BY_EXAMPLE LAB ERRORS SPEED".split()
+GUIDES = "README TUTORIAL CHEATSHEET FAQ MODELS PROGRAMS PYTHON STUDIES LAWS LAWS_BY_EXAMPLE LAB ERRORS SPEED".split()
 FOLDERS = "cases examples node studies studies/1992 studies/1996 studies/1998 studies/exact studies/paper studies/triangle".split()
 PAGES = ["README.md", *(f"docs/{name}.md" for name in GUIDES), *(f"{name}/README.md" for name in FOLDERS)]
 # Blocks, code, links, and headings, which may be questions.
 NO_PROSE = re.compile(r"^```.*?^```$|`[^`]*`|\]\([^)]*\)|^#[^\n]*$", re.M | re.S)
 
 
-def files_below(folder, ending):
+def files_below(folder: str, ending: str) -> Iterator[str]:
     """The files in a folder, and in the folders below it, with this ending."""
     for path, _, names in sorted(os.walk(os.path.join(TOP, folder))):
         yield from (os.path.join(path, name) for name in sorted(names) if name.endswith(ending))
 
 
-def content(path):
+def content(path: str) -> str:
     with open(os.path.join(TOP, path), encoding="utf-8") as file:
         return file.read()
 
 
-def literals(path):
+def literals(path: str) -> str:
     """The strings of a source."""
     return " ".join(LITERAL.findall(COMMENT.sub("", content(path))))
 
 
-def docstrings(path):
+def docstrings(path: str) -> str:
     """The docstrings of a Python file."""
     found = (ast.get_docstring(node) for node in ast.walk(ast.parse(content(path))) if isinstance(node, DOCUMENTED))
     return " ".join(text for text in found if text)
 
 
-def texts():
+def texts() -> Iterator[tuple[str, str]]:
     """Each text that users read, by its name."""
     yield "the help texts", literals("crates/trlab_command_line/src/help.rt")
     sources = [*files_below("crates/trlab_messages/src", ".rt"), *files_below("crates/trlab_explain/src", ".rt")]
@@ -54,7 +56,7 @@ def texts():
         yield page, NO_PROSE.sub(" ", content(page))
 
 
-def verdicts():
+def verdicts() -> Verdicts:
     """For each text whether it has few of these words, and their share."""
     for name, text in texts():
         share = 1000 * len(STAND_INS.findall(text)) / len(text.split())

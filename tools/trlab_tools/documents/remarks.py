@@ -4,7 +4,9 @@ import io
 import os
 import re
 import tokenize
+from collections.abc import Iterator
 
+Remarks = Iterator[tuple[int, str]]
 HASH = re.compile(r"^\s*#(?!!) ?(.*)$", re.M)
 SLASHES = re.compile(r"^\s*(?://[/!]?|/\*+|\*(?= |$)) ?(.*)$", re.M)
 COMMENTS = {
@@ -24,37 +26,35 @@ FIRST_LINE = re.compile(r"#!.*\b(python3|bash|sh|node)\b")
 ENDINGS = {"python3": ".py", "bash": ".sh", "sh": ".sh", "node": ".mjs"}
 
 
-def kind_of(name, text):
+def kind_of(name: str, text: str) -> str:
     """The usual ending of files in the language of this file."""
     ending, script = os.path.splitext(name)[1], FIRST_LINE.match(text)
     return ENDINGS[script[1]] if script and not ending else ending
 
 
-def found_by(pattern, text):
+def found_by(pattern: re.Pattern[str], text: str) -> Remarks:
     """The line and the last group of each match."""
     for found in pattern.finditer(text):
-        yield text.count("\n", 0, found.start(found.lastindex)) + 1, found[found.lastindex]
+        group = found.lastindex or 0
+        yield text.count("\n", 0, found.start(group)) + 1, found[group]
 
 
-def is_text(node):
-    return isinstance(node, ast.Constant) and isinstance(node.value, str)
-
-
-def patterns_in(tree):
+def patterns_in(tree: ast.AST) -> Iterator[ast.expr]:
     """The texts of regular expressions, which are not prose."""
     for node in ast.walk(tree):
         if isinstance(node, ast.Call) and ast.unparse(node.func).startswith("re."):
             yield from node.args
 
 
-def of_python(text):
+def of_python(text: str) -> Remarks:
     tree = ast.parse(text)
-    documents = {node.value for node in ast.walk(tree) if isinstance(node, ast.Expr) and is_text(node.value)}
+    documents = {node.value for node in ast.walk(tree) if isinstance(node, ast.Expr)}
     patterns = set(patterns_in(tree))
     for node in ast.walk(tree):
-        is_message = is_text(node) and node not in patterns and "\n" not in node.value and MESSAGE.search(node.value)
-        if node in documents or is_message:
-            yield node.lineno, node.value
+        if isinstance(node, ast.Constant) and isinstance(node.value, str):
+            is_message = node not in patterns and "\n" not in node.value and MESSAGE.search(node.value)
+            if node in documents or is_message:
+                yield node.lineno, node.value
         if isinstance(node, ast.FunctionDef) and node.name.startswith("test_"):
             yield node.lineno, node.name.replace("_", " ")
     for token in tokenize.generate_tokens(io.StringIO(text).readline):
@@ -62,7 +62,7 @@ def of_python(text):
             yield token.start[0], token.string
 
 
-def remarks(name, text):
+def remarks(name: str, text: str) -> Remarks:
     """The line and the words of each piece of prose; nothing for files of other kinds."""
     kind = kind_of(name, text)
     if kind == ".py":

@@ -5,12 +5,16 @@ import collections
 import contextlib
 import os
 import re
+from collections.abc import Iterable
 
 from .. import TOP
+from ..command import Verdicts
 from .plain import STAND_INS, content, files_below
 from .remarks import remarks
 from .standing import known_files
 
+# The places of prose, and its words.
+Prose = list[tuple[str, str]]
 CODE = re.compile(r"`[^`]*`")
 EXAMPLE = re.compile(r"^ *//[/!] ```(?:text)?\n(.*?)^ *//[/!] ```$", re.M | re.S)
 DOC_MARK = re.compile(r"^ *//[/!]", re.M)
@@ -32,16 +36,16 @@ MAX_IN_SOURCES = 2
 TWICE = {"Rejection"}
 
 
-def crate_of(path):
+def crate_of(path: str) -> str:
     return os.path.relpath(path, os.path.join(TOP, "crates")).split(os.sep)[0]
 
 
-def sources(folder, ending):
+def sources(folder: str, ending: str) -> list[str]:
     """The sources below src/ or specs/ of all crates."""
     return [path for path in files_below("crates", ending) if f"{os.sep}{folder}{os.sep}" in path and "/out/" not in path]
 
 
-def area_of(name):
+def area_of(name: str) -> str:
     """The crate of a file; otherwise its folder at the top, or below python/."""
     first, *rest = name.split("/")
     if first == "crates" and rest:
@@ -49,9 +53,9 @@ def area_of(name):
     return f"python/{rest[0]}" if first == "python" and len(rest) > 1 else first
 
 
-def prose_by_area():
+def prose_by_area() -> dict[str, Prose]:
     """The prose of each area: places and words."""
-    found = collections.defaultdict(list)
+    found: dict[str, Prose] = collections.defaultdict(list)
     for name in known_files():
         with contextlib.suppress(UnicodeDecodeError):
             for line, words in remarks(name, content(name)):
@@ -59,13 +63,13 @@ def prose_by_area():
     return found
 
 
-def places(pattern, prose):
+def places(pattern: re.Pattern[str], prose: Prose) -> str:
     """The first places with words that match, for a message."""
     found = [f"{words[0]} ({place})" for place, text in prose if (words := pattern.search(text))]
     return ", ".join(found[:3])
 
 
-def prose_is_plain():
+def prose_is_plain() -> Verdicts:
     for area, prose in sorted(prose_by_area().items()):
         text = "\n".join(words for _, words in prose)
         share = 1000 * len(STAND_INS.findall(text)) / max(1, len(text.split()))
@@ -76,9 +80,9 @@ def prose_is_plain():
             yield is_free, f"{area} has words like {'' if is_free else places(pattern, prose)}"
 
 
-def names_are_of_one_thing():
+def names_are_of_one_thing() -> Verdicts:
     for kind, folder, ending, pattern in (("type", "src", ".rt", TYPE), ("definition", "specs", ".antt", DEFINITION)):
-        found = collections.defaultdict(set)
+        found: dict[str, set[str]] = collections.defaultdict(set)
         for path in sources(folder, ending):
             for name in pattern.findall(content(path)):
                 found[name].add(os.path.relpath(path, os.path.join(TOP, "crates")))
@@ -87,12 +91,12 @@ def names_are_of_one_thing():
         yield not new, f"{kind}s of one name: {new}"
 
 
-def without_layout(code):
+def without_layout(code: str) -> str:
     """Code without remarks and spaces, so that it does not matter how it is divided into lines."""
     return re.sub(r",(?=[)\]}])", "", re.sub(r"\s", "", REMARK.sub("", code)))
 
 
-def has_in_order(code, lines):
+def has_in_order(code: str, lines: Iterable[str]) -> bool:
     at = 0
     for line in lines:
         at = code.find(line, at) + len(line)
@@ -101,7 +105,7 @@ def has_in_order(code, lines):
     return True
 
 
-def examples_are_compiled():
+def examples_are_compiled() -> Verdicts:
     files = sources("src", ".rt")
     compiled = [(crate_of(path), without_layout(content(path))) for path in files]
     for path in files:
@@ -114,7 +118,7 @@ def examples_are_compiled():
             yield found, f"the example of {name} is compiled in another crate: {lines[0]}"
 
 
-def verdicts():
+def verdicts() -> Verdicts:
     yield from prose_is_plain()
     yield from examples_are_compiled()
     yield from names_are_of_one_thing()

@@ -1,4 +1,4 @@
-"""Are the statements of documents about each other and about the sources true (numbers of decisions, links, versions, crates,
+"""Are the statements of documents about each other and about the sources true (numbers of decisions, versions, crates,
 files, names, clauses, excerpts of sources, a figure), and are they written in short lines and in modern English?
 
 Each function yields verdicts, each with a message in case it is False."""
@@ -7,8 +7,13 @@ import functools
 import os
 import re
 import subprocess
+from collections.abc import Iterator
+
+from trlab._runs.location import FEATURES_OF_V2, FEATURES_OF_V3
 
 from .. import TOP
+from ..command import Verdicts
+from ..finding import match_in
 
 ARCHITECTURE = "docs/dev/ARCHITECTURE.md"
 MAPS = ARCHITECTURE, "docs/dev/EXTENDING.md"
@@ -18,20 +23,22 @@ OF_OLD = "CHANGELOG.md"
 MAX_WORDS_OF_A_DECISION = 60
 # Pages grow with every change, and each sentence seems useful. A page at its limit needs a cut before an addition.
 MAX_WORDS = {
-    "CHANGELOG.md": 1500,
-    "CONTRIBUTING.md": 1620,
+    "CHANGELOG.md": 1600,
+    "CONTRIBUTING.md": 1700,
     "README.md": 1400,
     "docs/CHEATSHEET.md": 670,
+    "docs/COURSE.md": 1880,
     "docs/ERRORS.md": 2130,
-    "docs/FAQ.md": 900,
-    "docs/FILES.md": 2230,
+    "docs/FAQ.md": 930,
+    "docs/FILES.md": 2190,
     "docs/GLOSSARY.md": 830,
-    "docs/LAB.md": 1900,
+    "docs/LAB.md": 1920,
     "docs/LAWS.md": 3850,
     "docs/LAWS_BY_EXAMPLE.md": 4000,
-    "docs/PROGRAMS.md": 2950,
+    "docs/MODELS.md": 2250,
+    "docs/PROGRAMS.md": 2720,
     "docs/PYTHON.md": 11100,
-    "docs/README.md": 260,
+    "docs/README.md": 290,
     "docs/RELIABILITY.md": 1680,
     "docs/SPEED.md": 530,
     "docs/STUDIES.md": 3120,
@@ -40,7 +47,7 @@ MAX_WORDS = {
     "docs/dev/ARCHITECTURE.md": 2480,
     "docs/dev/CALLS.md": 800,
     "docs/dev/BOOK.md": 1290,
-    "docs/dev/DECISIONS.md": 3120,
+    "docs/dev/DECISIONS.md": 3200,
     "docs/dev/EMBEDDING.md": 690,
     "docs/dev/EXTENDING.md": 1250,
     "docs/dev/GLOSSARY.md": 980,
@@ -74,7 +81,6 @@ NAME = re.compile(r"\b(?:[A-Z][a-z]\w*|[A-Za-z]\w*_\w*)")
 # Names that documents mention, but that no source uses.
 NOT_USED = {"ord_max"}
 FENCED = re.compile(r"^```.*?^```$", re.M | re.S)
-LINK = re.compile(r"\]\(([^)\s]+)\)")
 # A function in a document, and the names of clauses right after it.
 CITED_CLAUSES = re.compile(r"`(?:\w+::)?([a-z]\w*)`(?: \(`trlab_\w+`\))?,? \(?clauses? ((?:`\w+`(?:, | and )?)+)")
 # Records in a document with fields: "`IsDriven`, fields `start` and `legal`", "field `calls` of `IsCleanStep`".
@@ -87,12 +93,12 @@ SHOWN = re.compile(r"^`(crates/[^`]+)`:\n\n```\w*\n(.*?)^```$", re.M | re.S)
 
 
 @functools.cache
-def content(name):
+def content(name: str) -> str:
     with open(os.path.join(TOP, name), encoding="utf-8") as file:
         return file.read()
 
 
-def known_files():
+def known_files() -> list[str]:
     """The files that git tracks or would add; all files if this is not a clone."""
     words = ["git", "ls-files", "-z", "--cached", "--others", "--exclude-standard"]
     told = subprocess.run(words, cwd=TOP, capture_output=True, text=True)
@@ -104,16 +110,16 @@ def known_files():
     ]
 
 
-def documents():
+def documents() -> list[str]:
     return [name for name in known_files() if name.endswith(".md")]
 
 
-def decisions():
+def decisions() -> list[tuple[int, str]]:
     """The number of each decision and its text, in the order of the page."""
     return [(int(number), text) for number, text in DECISION.findall(content(DECISIONS))]
 
 
-def decisions_are_short():
+def decisions_are_short() -> Verdicts:
     """Each number belongs to one decision, and each decision is short. Numbers are permanent, so that some are missing."""
     numbers = [number for number, _ in decisions()]
     for number, text in decisions():
@@ -124,18 +130,18 @@ def decisions_are_short():
         yield False, f"{DECISIONS} has decision {number} as an item of a list; begin it with **{number}. "
 
 
-def form_of_citations(name):
+def form_of_citations(name: str) -> re.Pattern[str]:
     """How a file cites decisions: the numbers are the first group."""
     return CITED_AT_HOME if name == DECISIONS else CITED_ELSEWHERE
 
 
-def citations(name):
+def citations(name: str) -> Iterator[int]:
     """The numbers of decisions that a file cites."""
     for cited in form_of_citations(name).findall(content(name)):
         yield from map(int, re.findall(r"\d+", cited))
 
 
-def citations_exist():
+def citations_exist() -> Verdicts:
     """Each decision that a document, a source or a script cites exists."""
     there = dict(decisions())
     for name in known_files():
@@ -147,37 +153,25 @@ def citations_exist():
             yield number in there, f"{name} cites decision {number}, which does not exist"
 
 
-def anchor(heading):
-    """The anchor of a heading, as browsers of repositories make it."""
-    words = re.sub(r"[^\w\- ]", "", heading.strip().lower())
-    return words.replace(" ", "-")
-
-
-def links_lead_somewhere():
-    """Each link of a document has a file or a heading as its target."""
-    for name in documents():
-        for link in LINK.findall(FENCED.sub("", content(name))):
-            if re.match(r"[a-z]+:", link):
-                continue
-            path, _, heading = link.partition("#")
-            target = os.path.normpath(os.path.join(os.path.dirname(name), path)) if path else name
-            is_there = os.path.exists(os.path.join(TOP, target))
-            if is_there and heading:
-                headings = re.findall(r"^#+ (.*)$", FENCED.sub("", content(target)), re.M)
-                is_there = heading in map(anchor, headings)
-            yield is_there, f"{name} has a link to {link}, which leads nowhere"
-
-
-def versions_agree():
+def versions_agree() -> Verdicts:
     """The program, the Python module and the newest changes have the same version."""
-    told = re.search(r'VERSION: &str = "(\S+)', content("crates/trlab_command_line/src/help.rt"))[1]
-    module = re.search(r'^__version__ = "(.*)"$', content("python/trlab/_version.py"), re.M)[1]
-    changes = re.search(r"^## (\d\S*)", content("CHANGELOG.md"), re.M)[1]
+    told = match_in(r'VERSION: &str = "(\S+)', content("crates/trlab_command_line/src/help.rt"))[1]
+    module = match_in(r'^__version__ = "(.*)"$', content("python/trlab/_version.py"), re.M)[1]
+    changes = match_in(r"^## (\d\S*)", content("CHANGELOG.md"), re.M)[1]
     yield module == told, f"python/trlab/_version.py has version {module}, the program {told}"
     yield changes == told, f"CHANGELOG.md has version {changes}, the program {told}"
 
 
-def sources_are_shown_as_they_are():
+def levels_agree() -> Verdicts:
+    """./trlab and the Python package need the same features of a processor for each level."""
+    script = content("trlab")
+    of_v2, of_v3 = (set(match_in(rf"(?m)^of_{level}=\((.*)\)$", script)[1].split()) for level in ("v2", "v3"))
+    wrong = "./trlab and python/trlab/_runs/location.py need different features for"
+    yield of_v2 == FEATURES_OF_V2, f"{wrong} x86-64-v2: {sorted(of_v2 ^ FEATURES_OF_V2)}"
+    yield of_v2 | of_v3 == FEATURES_OF_V3, f"{wrong} x86-64-v3: {sorted((of_v2 | of_v3) ^ FEATURES_OF_V3)}"
+
+
+def sources_are_shown_as_they_are() -> Verdicts:
     """A block after the name of a file of crates/ is the content of this file."""
     for name in documents():
         for path, shown in SHOWN.findall(content(name)):
@@ -185,7 +179,7 @@ def sources_are_shown_as_they_are():
             yield is_same, f"{name} shows a different content of {path}"
 
 
-def layers_agree():
+def layers_agree() -> Verdicts:
     """Each layer of crates.txt has a table in the map of crates, with the same crates in the same order."""
     for heading, crates in LAYER.findall(content("crates.txt")):
         table = re.search(rf"^### {re.escape(heading)}$(.*?)^#", content(ARCHITECTURE), re.M | re.S)
@@ -194,7 +188,7 @@ def layers_agree():
         yield told == re.findall(r"^\w+", crates, re.M), wrong
 
 
-def crates_are_there():
+def crates_are_there() -> Verdicts:
     """Each crate that a document names exists, and so does each of its files that is named with it."""
     for name in documents():
         if name != OF_OLD:
@@ -203,7 +197,7 @@ def crates_are_there():
                 yield is_there, f"{name} names {crate}{path}, which does not exist"
 
 
-def files_of_maps_are_there():
+def files_of_maps_are_there() -> Verdicts:
     """Each file in the maps of crates exists: `src/run.rt` belongs to the crate that its section named last, and `run.rt` is
     in the folder of the file named last."""
     for document in MAPS:
@@ -213,7 +207,7 @@ def files_of_maps_are_there():
                 yield is_there, f"{document} names {path}, which does not exist"
 
 
-def files_of(section):
+def files_of(section: str) -> Iterator[str]:
     """The files of crates that a section of a map names."""
     crate, folder = "", ""
     for named in re.findall(r"`([\w./]+)`", section):
@@ -228,7 +222,7 @@ def files_of(section):
         yield os.path.join(folder, named)
 
 
-def figure_is_of_the_table():
+def figure_is_of_the_table() -> Verdicts:
     """The figure of speeds is the one that the script draws from the table."""
     words = ["awk", "-f", "docs/speed.awk", "docs/speed.tsv"]
     drawn = subprocess.run(words, cwd=TOP, capture_output=True, text=True).stdout
@@ -236,9 +230,9 @@ def figure_is_of_the_table():
 
 
 @functools.cache
-def words_of_sources():
+def words_of_sources() -> set[str]:
     """Every word in the files that are not documents, and in their paths."""
-    words = set()
+    words: set[str] = set()
     for name in known_files():
         if not name.endswith(".md"):
             words.update(re.findall(r"\w+", name))
@@ -247,7 +241,7 @@ def words_of_sources():
     return words
 
 
-def names_are_there():
+def names_are_there() -> Verdicts:
     """Each name of code that a document cites, such as `IsNext` or `take_step`, occurs in some source."""
     for document in documents():
         if document != OF_OLD:
@@ -257,9 +251,9 @@ def names_are_there():
 
 
 @functools.cache
-def clauses():
+def clauses() -> dict[str, set[str]]:
     """The clauses of all functions with a name, in all crates."""
-    found = {}
+    found: dict[str, set[str]] = {}
     for name in known_files():
         if name.endswith(".rt"):
             for function, contract in CONTRACT.findall(content(name)):
@@ -267,7 +261,7 @@ def clauses():
     return found
 
 
-def clauses_are_there():
+def clauses_are_there() -> Verdicts:
     """Each clause that a document names after a function belongs to this function."""
     for document in documents():
         if document != OF_OLD:
@@ -278,9 +272,9 @@ def clauses_are_there():
 
 
 @functools.cache
-def fields():
+def fields() -> dict[str, set[str]]:
     """The fields of all records with a name, in all definitions."""
-    found = {}
+    found: dict[str, set[str]] = {}
     for name in known_files():
         if name.endswith(".antt"):
             for record, body in RECORD.findall(content(name)):
@@ -288,7 +282,7 @@ def fields():
     return found
 
 
-def fields_are_there():
+def fields_are_there() -> Verdicts:
     """Each field that a document names with one or two records belongs to them."""
     for document in documents():
         if document != OF_OLD:
@@ -300,14 +294,14 @@ def fields_are_there():
                     yield field in there, f"{document} names the field `{field}` of {records}, which does not exist"
 
 
-def pages_are_short():
+def pages_are_short() -> Verdicts:
     """Each page keeps to its word limit. Bars of tables count, as with `wc -w`, but tables that a script writes do not."""
     for page, most in MAX_WORDS.items():
         words = len(WRITTEN_BY_A_SCRIPT.sub("", content(page)).split())
         yield words <= most, f"{page} has {words} words, but the limit is {most}"
 
 
-def prose(name):
+def prose(name: str) -> Iterator[tuple[int, str]]:
     """The lines of text of a document with their numbers, without blocks and tables."""
     is_fenced = False
     for number, line in enumerate(content(name).split("\n"), 1):
@@ -317,28 +311,28 @@ def prose(name):
         is_fenced ^= is_fence
 
 
-def is_wide(line):
+def is_wide(line: str) -> bool:
     return len(line) > MAX_CHARACTERS or len(line) - len(line.lstrip()) > MAX_INDENTED
 
 
-def lines_are_short():
+def lines_are_short() -> Verdicts:
     for name in documents():
         wide = [number for number, line in prose(name) if is_wide(line)]
         yield not wide, f"{name}, lines {wide}: over {MAX_CHARACTERS} characters, or indented by over {MAX_INDENTED}"
 
 
-def english_is_of_today():
+def english_is_of_today() -> Verdicts:
     for name in documents():
         old = {number: found[0] for number, line in prose(name) if (found := OLD_FORMS.search(line))}
         yield not old, f"{name} has old English, by lines: {old}"
 
 
-def verdicts():
+def verdicts() -> Verdicts:
     for tried in (
         decisions_are_short,
         citations_exist,
-        links_lead_somewhere,
         versions_agree,
+        levels_agree,
         sources_are_shown_as_they_are,
         layers_agree,
         crates_are_there,

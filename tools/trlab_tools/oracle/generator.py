@@ -3,10 +3,15 @@
 An input is made from pieces of the grammar and of the examples, with small roads and few steps, and often damaged in its
 bytes, words or lines. An input that would take long to run is drawn again."""
 import random
+from collections.abc import Callable, Iterator, Sequence
+from typing import TypeVar
 
 from ..worked import examples
-from .programs import FORMS, INPUTS, KINDS, encode
+from .programs import FORMS, INPUTS, KINDS, Instruction, encode
 from .reader import Job, Sweep
+
+Dice = random.Random
+Test = TypeVar("Test")
 
 MAX_CELLS = 60000  # of all snapshots of a run, or of all steps of a sweep
 WIDE = 400  # one in 400 jobs has a road that several workers share
@@ -17,12 +22,12 @@ ODD_LINES = (b"", b"end", b"motion", b"change", b"lane ..", b"rule nasch 0", b"s
              b"cars 1", b"code 54524c42", b"rule own", b"road 1", b"sweep 1", b" ", b"; end")
 
 
-def example_lines():
+def example_lines() -> list[bytes]:
     """The lines of all examples."""
     return [line for _, _, text in examples() for line in text.split(b"\n") if len(line) < 200]
 
 
-def sample_programs():
+def sample_programs() -> Iterator[tuple[str, list[bytes]]]:
     """The kind and the lines of each program of the examples."""
     for _, command, text in examples():
         if command == "check":
@@ -34,7 +39,7 @@ EXAMPLE_LINES = example_lines()
 PROGRAMS = list(sample_programs())
 
 
-def operand(dice, form, pc, count):
+def operand(dice: Dice, form: str, pc: int, count: int) -> int:
     """An operand of an instruction, usually a useful one."""
     if form in "dr":
         return dice.randrange(4)
@@ -49,7 +54,7 @@ def operand(dice, form, pc, count):
     return dice.choice((1, 2, 3, 5, 100, 4294967295))
 
 
-def random_program(dice, kind):
+def random_program(dice: Dice, kind: str) -> list[Instruction]:
     """Instructions that are in range, and seldom accepted together."""
     count = dice.choice((1, 2, 3, 5, 8, 13, 128))
     ends = ["go"] if kind == "motion" else ["cross", "stay"]
@@ -57,7 +62,7 @@ def random_program(dice, kind):
     return [(name, tuple(operand(dice, form, pc, count) for form in FORMS[name])) for pc, name in enumerate(names)]
 
 
-def careful_program(dice):
+def careful_program(dice: Dice) -> list[Instruction]:
     """A motion program that is usually accepted, because the speed is at most the gap and the limit at the end."""
     body = [line for line in random_program(dice, "motion")[:-1] if not line[0].startswith("j") and line[0] not in FORMS_OF_CHANGE]
     front = [("get", (register, register % 3)) for register in range(4)]
@@ -70,7 +75,7 @@ def careful_program(dice):
 FORMS_OF_CHANGE = ("side", "cross", "stay", "go", "sub", "add", "mul", "and", "or", "not")
 
 
-def operand_word(dice, form, number):
+def operand_word(dice: Dice, form: str, number: int) -> str:
     if form in "dr":
         return f"r{number}"
     if form == "i":
@@ -80,7 +85,7 @@ def operand_word(dice, form, number):
     return dice.choice(("", "", "", "0")) + str(number)
 
 
-def instruction_line(dice, name, operands):
+def instruction_line(dice: Dice, name: str, operands: Sequence[int]) -> bytes:
     """An instruction as people write it, some with spaces and comments."""
     comma = dice.choice((", ", ",", " ,\t"))
     words = comma.join(operand_word(dice, form, number) for form, number in zip(FORMS[name], operands))
@@ -88,7 +93,7 @@ def instruction_line(dice, name, operands):
     return (line + dice.choice(("", "", "", " ", " ; end", "\t;"))).encode()
 
 
-def program_lines(dice, kind):
+def program_lines(dice: Dice, kind: str) -> list[bytes]:
     """The lines of a program of a kind."""
     choice = dice.random()
     if choice < 0.5:
@@ -97,7 +102,7 @@ def program_lines(dice, kind):
     return [instruction_line(dice, name, operands) for name, operands in program]
 
 
-def code_line(dice, kind):
+def code_line(dice: Dice, kind: str) -> bytes:
     program = careful_program(dice) if kind == "motion" and dice.random() < 0.6 else random_program(dice, kind)
     code = encode(kind, program)
     if dice.random() < 0.25:
@@ -107,13 +112,13 @@ def code_line(dice, kind):
     return b"code " + (digits if dice.random() < 0.5 else digits.upper()).encode()
 
 
-def part(dice, kind):
+def part(dice: Dice, kind: str) -> list[bytes]:
     if dice.random() < 0.4:
         return [code_line(dice, kind)]
     return [kind.encode(), *program_lines(dice, kind), b"end"]
 
 
-def rule_lines(dice, lanes):
+def rule_lines(dice: Dice, lanes: int) -> list[bytes]:
     """A rule, with its parts if it is `rule own`."""
     choice = dice.choice(("nasch", "vdr", "rickert", "own", "nasch"))
     if choice == "own":
@@ -125,16 +130,16 @@ def rule_lines(dice, lanes):
     return [" ".join(["rule", choice, *map(str, numbers)]).encode()]
 
 
-def key_line(dice):
+def key_line(dice: Dice) -> bytes:
     return b"key " + ("%064x" % dice.getrandbits(256) if dice.random() < 0.5 else 64 * "0").encode()
 
 
-def lane_line(dice, length, limit, density):
+def lane_line(dice: Dice, length: int, limit: int, density: float) -> bytes:
     speeds = "0123456789abcdefghijklmnopqrstuvwxyz"[:limit + 1]
     return b"lane " + "".join(dice.choice(speeds) if dice.random() < density else "." for _ in range(length)).encode()
 
 
-def job(dice):
+def job(dice: Dice) -> list[bytes]:
     is_wide = dice.randrange(WIDE) == 0
     lanes, limit = dice.choice((1, 1, 2)), dice.choice((1, 2, 5, 5, 9, 20, 35))
     length = 20000 if is_wide else dice.choice((1, 2, 3, 5, 10, 20, 40))
@@ -149,7 +154,7 @@ def job(dice):
     return lines
 
 
-def sweep(dice):
+def sweep(dice: Dice) -> list[bytes]:
     lanes, length = dice.choice((1, 1, 2)), dice.choice((1, 2, 5, 10, 40))
     lines = [b"sweep 1", key_line(dice), b"limit %d" % dice.choice((1, 5, 9, 35)), b"length %d" % length]
     lines += [b"lanes %d" % lanes, *rule_lines(dice, lanes)]
@@ -157,7 +162,7 @@ def sweep(dice):
     return lines + [b"cars %d" % dice.randrange(lanes * length + 1) for _ in range(dice.choice((1, 2, 4, 20)))]
 
 
-def check(dice):
+def check(dice: Dice) -> list[bytes]:
     kind = dice.choice(KINDS)
     if dice.random() < 0.4:
         lines = [code_line(dice, kind)]
@@ -166,7 +171,7 @@ def check(dice):
     return [dice.choice((b"", b"", b"notes ")) + lines[0], *lines[1:]]
 
 
-def damage_lines(dice, lines):
+def damage_lines(dice: Dice, lines: list[bytes]) -> list[bytes]:
     """One line is deleted, doubled, exchanged, or replaced with a line of another input."""
     place = dice.randrange(len(lines))
     choice = dice.randrange(5)
@@ -182,7 +187,7 @@ def damage_lines(dice, lines):
     return lines or [b""]
 
 
-def damage_words(dice, lines):
+def damage_words(dice: Dice, lines: list[bytes]) -> list[bytes]:
     """A word of a line is replaced."""
     place = dice.randrange(len(lines))
     words = lines[place].split(b" ")
@@ -191,7 +196,7 @@ def damage_words(dice, lines):
     return lines[:place] + [b" ".join(words)] + lines[place + 1:]
 
 
-def damage_bytes(dice, text):
+def damage_bytes(dice: Dice, text: bytes) -> bytes:
     """A few bytes are replaced, deleted or inserted."""
     for _ in range(dice.choice((1, 1, 2, 5))):
         place = dice.randrange(len(text) + 1)
@@ -199,13 +204,13 @@ def damage_bytes(dice, text):
     return text[:dice.randrange(len(text) + 1)] if dice.random() < 0.2 else text
 
 
-def random_bytes(dice):
+def random_bytes(dice: Dice) -> bytes:
     count = dice.choice((0, 1, 10, 100, 1000))
     text = bytes(dice.choice(b"\n\0 .09azr,;:@-\xff") for _ in range(count)) if dice.random() < 0.5 else dice.randbytes(count)
     return dice.choice((b"", b"road 1\n", b"sweep 1\n", b"motion\n", b"code ", b"notes change\n")) + text
 
 
-def draw(dice):
+def draw(dice: Dice) -> tuple[str, bytes]:
     """A command, and an input that is close to the inputs that it accepts."""
     command, write = dice.choice((("run", job), ("run", job), ("sweep", sweep), ("check", check)))
     if dice.random() < 0.1:
@@ -217,7 +222,7 @@ def draw(dice):
     return command, damage_bytes(dice, text) if choice > 0.7 else text
 
 
-def is_small(says):
+def is_small(says: object) -> bool:
     """Whether a job or a sweep takes little work; a fault always does."""
     if isinstance(says, Job):
         return (says.steps + 1) * len(says.lanes) * len(says.lanes[0]) <= MAX_CELLS * 2
@@ -226,7 +231,9 @@ def is_small(says):
     return True
 
 
-def random_text(seed, number, read):
+def random_text(
+    seed: int, number: int, read: Callable[[str, bytes], tuple[Test, object]]
+) -> tuple[str, bytes, tuple[Test, object]]:
     """The command and the input with this number, which takes little work, and the result of `read` for both."""
     dice = random.Random(f"{seed} {number}")
     while True:

@@ -4,10 +4,15 @@ reader.py reads the input, so that a fault is compared by its line and cause. Th
 other: each car has moved by its speed, over cells that were empty, from the cell of a car of the snapshot before."""
 import functools
 import re
+from collections.abc import Callable
+from typing import Optional, Union
 
 from .. import program as trlab
-from .programs import Fault, budget, disassemble
-from .reader import SPEEDS, read_check, read_job, read_sweep
+from .programs import Fault, Instruction, budget, disassemble
+from .reader import SPEEDS, Check, Job, Sweep, read_check, read_job, read_sweep
+
+# An exit status, or the reason why there is none.
+Status = Union[int, str]
 
 REFUSED_PROGRAM = re.compile(rb"refused at (0|[1-9][0-9]*) reason ([1-9]|1[0-2])\n")
 NOTE = re.compile(rb"note (0|[1-9][0-9]*)(?: r[0-7] (?:[0-9]+ [0-9]+|flag|side))*(?: side)?\n")
@@ -15,12 +20,12 @@ HEADING = b"cars,cells,steps,distance,stopped,changes,flow\n"
 CELLS = b"." + SPEEDS
 
 
-def fault_line(fault):
+def fault_line(fault: Fault) -> bytes:
     return f"fault line {fault.line} cause {fault.cause}\n".encode()
 
 
 @functools.lru_cache(maxsize=4096)
-def reason_of(kind, text):
+def reason_of(kind: str, text: bytes) -> Optional[int]:
     """The reason for which `trlab check` rejects a program in its canonical form, or None."""
     status, output = trlab.run(["check"], kind.encode() + b"\n" + text)
     found = REFUSED_PROGRAM.fullmatch(output)
@@ -29,11 +34,11 @@ def reason_of(kind, text):
     return None
 
 
-def verdict(kind, program):
+def verdict(kind: str, program: list[Instruction]) -> Optional[int]:
     return reason_of(kind, disassemble(program))
 
 
-def is_check(check, status, output):
+def is_check(check: Check, status: Status, output: bytes) -> bool:
     """Whether an output says that a program is accepted, with its canonical form, or that it is rejected."""
     found = REFUSED_PROGRAM.fullmatch(output)
     if found:
@@ -44,20 +49,20 @@ def is_check(check, status, output):
         return False
     notes = output[len(front):].splitlines(keepends=True)
     wanted = range(len(check.program) if check.notes else 0)
-    found = [NOTE.fullmatch(note) for note in notes]
-    return all(found) and [int(note[1]) for note in found] == list(wanted)
+    numbers = [int(note[1]) if note else None for note in map(NOTE.fullmatch, notes)]
+    return numbers == list(wanted)
 
 
-def cars_of(lanes):
+def cars_of(lanes: list[bytes]) -> dict[tuple[int, int], int]:
     """The speed of each car of a road by its lane and cell."""
     return {(lane, place): SPEEDS.index(cell) for lane, cells in enumerate(lanes)
             for place, cell in enumerate(cells) if cell != ord(".")}
 
 
-def follows(before, after, length):
+def follows(before: list[bytes], after: list[bytes], length: int) -> bool:
     """Whether each car of a road has moved by its speed from the cell of a car of the road before."""
     cars = cars_of(after)
-    starts = {}
+    starts: dict[tuple[int, int], int] = {}
     for (lane, place), speed in cars.items():
         start = (lane, (place - speed) % length)
         if start in starts or speed >= length:
@@ -70,13 +75,13 @@ def follows(before, after, length):
     return sorted(place for _, place in starts) == sorted(place for _, place in cars_of(before))
 
 
-def is_run(job, status, output):
+def is_run(job: Job, status: Status, output: bytes) -> bool:
     """Whether an output is that of a job: a snapshot of each step, each of which follows from the one before."""
     lines = output.split(b"\n")
     width = len(job.lanes) + 1
     if status != trlab.DONE or lines.pop() != b"" or len(lines) != width * (job.steps + 1):
         return False
-    before, length = None, len(job.lanes[0])
+    before, length = job.lanes, len(job.lanes[0])
     fastest = SPEEDS[:job.limit + 1]
     for step in range(job.steps + 1):
         title, *lanes = lines[width * step:width * (step + 1)]
@@ -88,7 +93,7 @@ def is_run(job, status, output):
     return True
 
 
-def is_point(sweep, cars, line):
+def is_point(sweep: Sweep, cars: int, line: bytes) -> bool:
     """Whether a line of a table is possible for this number of cars."""
     if not re.fullmatch(rb"[0-9]+(,[0-9]+){6}", line):
         return False
@@ -99,7 +104,7 @@ def is_point(sweep, cars, line):
     return numbers[:3] == [cars, sweep.cells, sweep.measure] and numbers[6] == flow and max(stopped, changes) <= most
 
 
-def is_table(sweep, status, output):
+def is_table(sweep: Sweep, status: Status, output: bytes) -> bool:
     """Whether an output is a table of the points of a sweep."""
     lines = output[len(HEADING):].split(b"\n")
     return (
@@ -108,7 +113,9 @@ def is_table(sweep, status, output):
     )
 
 
-def expectation(command, text):
+def expectation(
+    command: str, text: bytes
+) -> tuple[Callable[[Status, bytes], bool], Union[Job, Sweep, Check, Fault]]:
     """A test of the exit status and output of a command for an input, and the job, sweep, check or fault of the input."""
     try:
         if command == "check":

@@ -4,6 +4,11 @@ It is written from docs/PROGRAMS.md and docs/FILES.md and not from the proved pr
 program is a list of instructions. An instruction is its name and the tuple of its operands, which are numbers; a label is
 the number of its instruction."""
 import re
+from collections.abc import Iterable, Sequence
+from typing import Optional, Union
+
+# The name of an instruction and its operands.
+Instruction = tuple[str, tuple[int, ...]]
 
 MAX_INSTRUCTIONS = 128
 CERTAIN = 2147483648  # the probability 1
@@ -31,16 +36,16 @@ BLANKS = b" \t"
 class Fault(Exception):
     """The first fault of an input: its line, counted from 1, and its cause."""
 
-    def __init__(self, line, cause):
+    def __init__(self, line: int, cause: int) -> None:
         super().__init__(f"line {line} cause {cause}")
         self.line, self.cause = line, cause
 
 
-def is_label(word):
+def is_label(word: bytes) -> bool:
     return LABEL.fullmatch(word) is not None
 
 
-def is_operand(form, word):
+def is_operand(form: str, word: bytes) -> bool:
     """Whether a word has the form of an operand; its number may be out of range."""
     if form in "dr":
         return re.fullmatch(rb"r[0-7]", word) is not None
@@ -51,13 +56,13 @@ def is_operand(form, word):
     return DIGITS.fullmatch(word) is not None
 
 
-def is_in_range(form, number):
+def is_in_range(form: str, number: int) -> bool:
     """Whether a number is in the range of operands of this form."""
     most = {"d": 7, "r": 7, "i": 6, "k": 15, "t": CERTAIN}.get(form, GREATEST)
     return number <= most and not (form == "q" and number == 0)
 
 
-def number_of(form, word):
+def number_of(form: str, word: bytes) -> Optional[int]:
     """The number of an operand of the right form, or None if it is out of range."""
     if form == "i":
         return INPUTS.index(word.decode())
@@ -67,18 +72,21 @@ def number_of(form, word):
     return int(digits)
 
 
-def read_operands(forms, text, line):
+def read_operands(forms: str, text: bytes, line: int) -> list[Union[bytes, int]]:
     """The operands of an instruction; a target that is a label is still its name."""
     words = [word.strip(BLANKS) for word in text.split(b",")] if text else []
     if len(words) != len(forms) or not all(map(is_operand, forms, words)):
         raise Fault(line, 12)
-    operands = [word if form == "l" and is_label(word) else number_of(form, word) for form, word in zip(forms, words)]
-    if None in operands:
-        raise Fault(line, 13)
+    operands: list[Union[bytes, int]] = []
+    for form, word in zip(forms, words):
+        operand = word if form == "l" and is_label(word) else number_of(form, word)
+        if operand is None:
+            raise Fault(line, 13)
+        operands.append(operand)
     return operands
 
 
-def read_label(text, labels, place, line):
+def read_label(text: bytes, labels: dict[bytes, int], place: int, line: int) -> bytes:
     """The rest of a line after its label, which is recorded; or the whole line if it has no label."""
     if b":" not in text:
         return text
@@ -92,9 +100,11 @@ def read_label(text, labels, place, line):
     return rest.strip(BLANKS)
 
 
-def assemble(lines, first):
+def assemble(lines: Iterable[bytes], first: int) -> list[Instruction]:
     """The program of the lines after its first line, which has the number `first`."""
-    instructions, labels, numbers = [], {}, []
+    instructions: list[tuple[str, list[Union[bytes, int]]]] = []
+    labels: dict[bytes, int] = {}
+    numbers = []
     for line, text in enumerate(lines, first + 1):
         text = read_label(text.split(b";")[0].strip(BLANKS), labels, len(instructions), line)
         if not text:
@@ -113,7 +123,7 @@ def assemble(lines, first):
     return [named(instruction, labels, line) for instruction, line in zip(instructions, numbers)]
 
 
-def named(instruction, labels, line):
+def named(instruction: tuple[str, list[Union[bytes, int]]], labels: dict[bytes, int], line: int) -> Instruction:
     """An instruction whose label, if it has one, is the number of the instruction that it names."""
     name, operands = instruction
     for operand in operands:
@@ -122,12 +132,12 @@ def named(instruction, labels, line):
     return name, tuple(labels[operand] if isinstance(operand, bytes) else operand for operand in operands)
 
 
-def split_fields(code):
+def split_fields(code: bytes) -> tuple[int, bytes, int]:
     """The opcode, the three fields and the number of an instruction of eight bytes."""
     return code[0], code[1:4], int.from_bytes(code[4:8], "little")
 
 
-def instruction_of(code, version, line):
+def instruction_of(code: bytes, version: int, line: int) -> Instruction:
     """The instruction of eight bytes."""
     opcode, fields, number = split_fields(code)
     if not 1 <= opcode <= len(NAMES):
@@ -143,7 +153,7 @@ def instruction_of(code, version, line):
     return name, tuple(operands)
 
 
-def decode(code, line):
+def decode(code: bytes, line: int) -> tuple[str, list[Instruction]]:
     """The kind and the program of the bytes on a line."""
     if len(code) < 8:
         raise Fault(line, 21)
@@ -162,7 +172,7 @@ def decode(code, line):
     return KINDS[code[5]], instructions
 
 
-def encode(kind, instructions):
+def encode(kind: str, instructions: Sequence[Instruction]) -> bytes:
     """The bytes of a program."""
     version = 2 if any(name == "get" and operands[1] == HEADSPEED for name, operands in instructions) else 1
     code = MAGIC + bytes([version, KINDS.index(kind)]) + len(instructions).to_bytes(2, "little")
@@ -175,12 +185,12 @@ def encode(kind, instructions):
     return code
 
 
-def targets(instructions):
+def targets(instructions: Iterable[Instruction]) -> set[int]:
     """The instructions to which some jump goes."""
     return {operands[-1] for name, operands in instructions if "l" in FORMS[name]}
 
 
-def operand_text(form, number, count):
+def operand_text(form: str, number: int, count: int) -> str:
     if form in "dr":
         return f"r{number}"
     if form == "i":
@@ -190,7 +200,7 @@ def operand_text(form, number, count):
     return str(number)
 
 
-def disassemble(instructions):
+def disassemble(instructions: Sequence[Instruction]) -> bytes:
     """The canonical text of a program."""
     named_ones, lines = targets(instructions), []
     for pc, (name, operands) in enumerate(instructions):
@@ -199,7 +209,7 @@ def disassemble(instructions):
     return "".join(line + "\n" for line in lines).encode()
 
 
-def next_of(instructions, pc):
+def next_of(instructions: Sequence[Instruction], pc: int) -> list[int]:
     """The instructions that may follow one."""
     name, operands = instructions[pc]
     if name in ENDS:
@@ -209,7 +219,7 @@ def next_of(instructions, pc):
     return [pc + 1] + ([operands[-1]] if "l" in FORMS[name] else [])
 
 
-def budget(instructions):
+def budget(instructions: Sequence[Instruction]) -> Optional[int]:
     """The number of instructions on the longest path through a program; None if a path goes back or outside."""
     count = len(instructions)
     longest = [0] * count

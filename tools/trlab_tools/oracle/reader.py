@@ -4,9 +4,13 @@ It is written from the documents and not from the proved program, so that the tw
 Sweep or a Check, and raises the first fault of an input as a Fault. There is no second verifier: the caller passes a
 function `verdict`, which returns the reason for which a program is rejected, or None."""
 import re
-from typing import NamedTuple
+from collections.abc import Callable
+from typing import NamedTuple, NoReturn, Optional
 
-from .programs import CERTAIN, Fault, assemble, decode
+from .programs import CERTAIN, Fault, Instruction, assemble, decode
+
+# The reason for which a program of a kind is rejected, or None.
+Judge = Callable[[str, list[Instruction]], Optional[int]]
 
 LONGEST_TEXT = 4194304
 MAX_CELLS = 100000
@@ -23,7 +27,7 @@ STANDARD = {b"nasch": 1, b"vdr": 2, b"rickert": 2}
 class Job(NamedTuple):
     """The lanes of a road at the start, its limit and its number of steps."""
 
-    lanes: list
+    lanes: list[bytes]
     limit: int
     steps: int
 
@@ -34,18 +38,22 @@ class Sweep(NamedTuple):
     cells: int
     steps: int
     measure: int
-    cars: list
+    cars: list[int]
 
 
 class Check(NamedTuple):
     """A program, its kind, and whether its notes are printed."""
 
     kind: str
-    program: list
+    program: list[Instruction]
     notes: bool
 
 
-def lines_of(text):
+def is_never_rejected(kind: str, program: list[Instruction]) -> None:
+    """The judge of programs that need not be accepted, or are accepted already."""
+
+
+def lines_of(text: bytes) -> list[bytes]:
     """The lines of an input. After the last LF there is a line only if it is not empty."""
     lines = text.split(b"\n")
     return lines[:-1] if lines[-1] == b"" else lines
@@ -54,22 +62,22 @@ def lines_of(text):
 class Lines:
     """The lines of an input from the next one on, which has this number."""
 
-    def __init__(self, text, verdict):
+    def __init__(self, text: bytes, verdict: Judge) -> None:
         if len(text) > LONGEST_TEXT:
             raise Fault(0, 9)
         self.lines, self.number, self.verdict = lines_of(text), 1, verdict
 
-    def is_end(self):
+    def is_end(self) -> bool:
         return self.number > len(self.lines)
 
-    def head(self):
+    def head(self) -> Optional[bytes]:
         """The first word of the next line, or None at the end."""
         return None if self.is_end() else self.lines[self.number - 1].split(b" ")[0]
 
-    def fail(self, cause):
+    def fail(self, cause: int) -> NoReturn:
         raise Fault(self.number, cause)
 
-    def words(self):
+    def words(self) -> list[bytes]:
         """The words of the next line, which single spaces separate."""
         if self.is_end():
             self.fail(1)
@@ -78,52 +86,52 @@ class Lines:
             self.fail(1)
         return words
 
-    def past(self):
+    def past(self) -> None:
         self.number += 1
 
-    def value(self, word, least, most):
+    def value(self, word: bytes, least: int, most: int) -> int:
         """The number of a word of the next line."""
         if not NUMBER.fullmatch(word) or not least <= int(word) <= most:
             self.fail(2)
         return int(word)
 
-    def named(self, name):
+    def named(self, name: bytes) -> bytes:
         """The one word of the next line after its name."""
         words = self.words()
         if len(words) != 2 or words[0] != name:
             self.fail(1)
         return words[1]
 
-    def number_line(self, name, least, most):
+    def number_line(self, name: bytes, least: int, most: int) -> int:
         value = self.value(self.named(name), least, most)
         self.past()
         return value
 
-    def exactly(self, line):
+    def exactly(self, line: bytes) -> None:
         if self.is_end() or self.lines[self.number - 1] != line:
             self.fail(1)
         self.past()
 
-    def key(self):
+    def key(self) -> None:
         word = self.named(b"key")
         if len(word) != 64 or not HEX.fullmatch(word):
             self.fail(3)
         self.past()
 
-    def hexadecimal(self, word):
+    def hexadecimal(self, word: bytes) -> bytes:
         if len(word) % 2 or not HEX.fullmatch(word):
             self.fail(8)
         return bytes.fromhex(word.decode())
 
 
-def judge(lines, line, kind, program):
+def judge(lines: Lines, line: int, kind: str, program: list[Instruction]) -> None:
     """Raises the fault of a program that the verifier rejects."""
     reason = lines.verdict(kind, program)
     if reason is not None:
         raise Fault(line, 40 + reason)
 
 
-def read_block(lines, kind):
+def read_block(lines: Lines, kind: str) -> list[bytes]:
     """The lines of a part after its heading, which comes next, up to the line `end`, which is then the next one."""
     lines.past()
     first = lines.number
@@ -134,30 +142,31 @@ def read_block(lines, kind):
     return lines.lines[first - 1:lines.number - 1]
 
 
-def read_part(lines, kind, fits=True):
+def read_part(lines: Lines, kind: str, fits: bool = True) -> None:
     """Reads a part of this kind: lines up to `end`, or a line of code. `fits` says whether the road may have one."""
     first, words = lines.number, lines.words()
     is_block = words == [kind.encode()]
     if not is_block and (len(words) != 2 or words[0] != b"code"):
         lines.fail(1)
-    said = read_block(lines, kind) if is_block else lines.hexadecimal(words[1])
+    block = read_block(lines, kind) if is_block else []
+    code = b"" if is_block else lines.hexadecimal(words[1])
     if not fits:
         raise Fault(first, 4)
-    found, program = (kind, assemble(said, first)) if is_block else decode(said, first)
+    found, program = (kind, assemble(block, first)) if is_block else decode(code, first)
     if found != kind:
         lines.fail(24)
     judge(lines, first, kind, program)
     lines.past()
 
 
-def read_own(lines, lanes):
+def read_own(lines: Lines, lanes: int) -> None:
     """Reads the parts of `rule own`."""
     read_part(lines, "motion")
     if lines.head() in (b"change", b"code"):
         read_part(lines, "change", lanes == 2)
 
 
-def read_rule(lines, words, lanes, judge_line=lambda: None):
+def read_rule(lines: Lines, words: list[bytes], judge_line: Callable[[], object] = lambda: None) -> None:
     """Reads the words of a rule, which end the next line. `judge_line` judges the words before them."""
     count = STANDARD.get(words[1]) if len(words) > 1 else None
     is_own = words == [b"rule", b"own"]
@@ -168,7 +177,7 @@ def read_rule(lines, words, lanes, judge_line=lambda: None):
         lines.value(word, 0, CERTAIN)
 
 
-def finish_rule(lines, words, lanes):
+def finish_rule(lines: Lines, words: list[bytes], lanes: int) -> None:
     """Judges a rule after its words and numbers, and reads its parts."""
     if words[1] == b"rickert" and lanes == 1:
         lines.fail(4)
@@ -177,21 +186,21 @@ def finish_rule(lines, words, lanes):
         read_own(lines, lanes)
 
 
-def read_first_rule(lines, lanes):
+def read_first_rule(lines: Lines, lanes: int) -> None:
     words = lines.words()
-    read_rule(lines, words, lanes)
+    read_rule(lines, words)
     finish_rule(lines, words, lanes)
 
 
-def read_later_rules(lines, steps, lanes):
+def read_later_rules(lines: Lines, steps: int, lanes: int) -> None:
     """Reads the `at` lines, up to the end of the input."""
     last, count = -1, 0
     while not lines.is_end():
         words = lines.words()
         if words[0] != b"at" or len(words) < 3:
             lines.fail(1)
-        at = []
-        read_rule(lines, words[2:], lanes, lambda: at.append(lines.value(words[1], 0, 9999999999)))
+        at: list[int] = []
+        read_rule(lines, words[2:], lambda: at.append(lines.value(words[1], 0, 9999999999)))
         count += 1
         if count > MAX_LATER_RULES:
             lines.fail(6)
@@ -201,9 +210,10 @@ def read_later_rules(lines, steps, lanes):
         last = at[0]
 
 
-def read_lanes(lines, limit):
+def read_lanes(lines: Lines, limit: int) -> list[bytes]:
     """Reads one or two lanes, and judges them together."""
-    lanes, numbers = [], []
+    lanes: list[bytes] = []
+    numbers: list[int] = []
     while not lanes or len(lanes) < 2 and lines.head() == b"lane":
         lanes.append(lines.named(b"lane"))
         numbers.append(lines.number)
@@ -219,7 +229,7 @@ def read_lanes(lines, limit):
     return lanes
 
 
-def read_job(text, verdict):
+def read_job(text: bytes, verdict: Judge) -> Job:
     """The job of an input."""
     lines = Lines(text, verdict)
     lines.exactly(b"road 1")
@@ -232,7 +242,7 @@ def read_job(text, verdict):
     return Job(lanes, limit, steps)
 
 
-def read_sweep(text, verdict):
+def read_sweep(text: bytes, verdict: Judge) -> Sweep:
     """The sweep of an input."""
     lines = Lines(text, verdict)
     lines.exactly(b"sweep 1")
@@ -243,7 +253,7 @@ def read_sweep(text, verdict):
     read_first_rule(lines, lanes)
     warm = lines.number_line(b"warm", 0, MAX_STEPS)
     measure = lines.number_line(b"measure", 1, MAX_STEPS)
-    cars = []
+    cars: list[int] = []
     while not cars or not lines.is_end():
         count = lines.value(lines.named(b"cars"), 0, 200000)
         cars.append(count)
@@ -257,9 +267,9 @@ def read_sweep(text, verdict):
     return Sweep(lanes * length, warm + measure, measure, cars)
 
 
-def read_check(text):
+def read_check(text: bytes) -> Check:
     """The check of an input. Its program is not judged."""
-    lines = Lines(text, None)
+    lines = Lines(text, is_never_rejected)
     if lines.is_end():
         lines.fail(1)
     line = lines.lines[0]

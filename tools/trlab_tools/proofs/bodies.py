@@ -19,11 +19,13 @@ import resource
 import shutil
 import subprocess
 import tempfile
-from typing import NamedTuple
+from collections.abc import Collection, Iterable, Sequence
+from typing import NamedTuple, Optional
 
 from .. import TOP
+from ..finding import match_in
 from . import trials
-from .functions import Exports, functions_in
+from .functions import Exports, Function, functions_in
 
 NAME = re.compile(r"(?m)^# (\w+)$")
 # A clause of a law, the words in it that may be constants, and where a constant is declared.
@@ -63,7 +65,7 @@ class Body(NamedTuple):
     """A wrong body: its edits, the function that it names, and whether it is marked as private."""
 
     name: str
-    edits: list
+    edits: list[Edit]
     function: str
     is_private: bool
 
@@ -79,20 +81,20 @@ class Change(NamedTuple):
 class Verdict(NamedTuple):
     """The functions that are not proved with a body, each with the prover's line about it, and what it says if there are none."""
 
-    refusing: dict
+    refusing: dict[Change, str]
     said: str
 
     @property
-    def why(self):
+    def why(self) -> str:
         return next(iter(self.refusing.values()), self.said)
 
     @property
-    def by_clauses(self):
+    def by_clauses(self) -> list[Change]:
         """The functions of which a clause is not proved, and not only that a call may be made or that a sum fits its type."""
         return [change for change, line in self.refusing.items() if OF_CLAUSE.search(line)]
 
 
-def read(path):
+def read(path: str) -> str:
     """The text of a file, or nothing if there is none."""
     if not os.path.exists(path):
         return ""
@@ -100,7 +102,7 @@ def read(path):
         return file.read()
 
 
-def bodies_in(path):
+def bodies_in(path: str) -> list[Body]:
     """The wrong bodies of a file."""
     before, *named = NAME.split(read(path))
     if "old: " in before:
@@ -108,8 +110,10 @@ def bodies_in(path):
     return [body_of(name, text) for name, text in zip(named[::2], named[1::2])]
 
 
-def body_of(name, text):
-    edits, lines = [], dict.fromkeys(("file", "fn", "old", "in"))
+def body_of(name: str, text: str) -> Body:
+    edits = []
+    # An empty text is a line that is missing.
+    lines = dict.fromkeys(("file", "fn", "old", "in"), "")
     is_private = False
     for line in text.splitlines():
         word, _, rest = line.partition(":")
@@ -118,25 +122,25 @@ def body_of(name, text):
             edits.append(Edit(lines["file"], lines["fn"], lines["old"], rest))
         elif word in lines:
             lines[word] = rest
-            lines["fn"] = None if word == "file" else lines["fn"]
+            lines["fn"] = "" if word == "file" else lines["fn"]
         is_private |= line.removeprefix("# ") == "private"
     return Body(name, edits, lines["in"], is_private)
 
 
 @functools.cache
-def kit():
+def kit() -> str:
     """The folder of the toolchain."""
     return os.path.dirname(subprocess.run(["rt", "doc"], capture_output=True, check=True, text=True).stdout.strip())
 
 
-def libraries_of():
+def libraries_of() -> dict[str, list[str]]:
     """What each crate of the repository names of the others and of the toolchain's, by its name."""
     lines = [line.partition("#")[0] for line in (TOP / "crates.txt").read_text("utf-8").splitlines()]
     named = (line.partition(":") for line in lines if line.strip())
     return {head.strip(): names.split() for head, _, names in named}
 
 
-def crates_of(names):
+def crates_of(names: Collection[str]) -> list["Crate"]:
     """The crates of these names; all, where no name is given."""
     libraries = libraries_of()
     if unknown := [name for name in names if name not in libraries]:
@@ -144,31 +148,31 @@ def crates_of(names):
     return [Crate(name, libraries[name], below(name, libraries)) for name in names or libraries]
 
 
-def below(name, libraries):
+def below(name: str, libraries: dict[str, list[str]]) -> list[str]:
     """The crates of the repository that a crate uses, or that those use."""
     own = [it for it in libraries[name] if it in libraries]
     return sorted({*own, *(lower for it in own for lower in below(it, libraries))})
 
 
-def rlib_folder(name):
+def rlib_folder(name: str) -> str:
     """The folder of the library of a crate that was proved here."""
     return os.path.join(TOP, "crates", name, "out", "rlib")
 
 
-def at_once():
+def at_once() -> int:
     """How many trials fit at a time: each needs a processor, and up to 3 GB."""
     with open("/proc/meminfo", encoding="utf-8") as file:
-        free = int(re.search(r"MemAvailable:\s+(\d+)", file.read())[1])
+        free = int(match_in(r"MemAvailable:\s+(\d+)", file.read())[1])
     return max(1, min(len(os.sched_getaffinity(0)), free // 3_000_000))
 
 
-def function_around(file, text, at):
+def function_around(file: str, text: str, at: int) -> Optional[Function]:
     """The function in which a place of a file is, or None."""
     around = [it for it in functions_in(file, text) if it.start <= text.index("\n", at) and at < it.end]
     return around[-1] if around else None
 
 
-def place_of(edit, text, name):
+def place_of(edit: Edit, text: str, name: str) -> int:
     """Where the old text of an edit is; a ValueError if it is not there exactly once."""
     begin, end = 0, len(text)
     if edit.function:
@@ -181,7 +185,7 @@ def place_of(edit, text, name):
     return text.index(edit.old, begin)
 
 
-def run_timed(words, folder):
+def run_timed(words: Sequence[str], folder: str) -> tuple[str, int, float]:
     """What a command prints, its exit status and its processor seconds. It is ended at the limit, and its last line says so."""
     with tempfile.TemporaryFile("w+", errors="replace") as said:
         running = subprocess.Popen(words, cwd=folder, stdin=subprocess.DEVNULL, stdout=said, stderr=subprocess.STDOUT)
@@ -196,7 +200,7 @@ def run_timed(words, folder):
 class Crate:
     """A crate that ./test has proved here, and its wrong bodies."""
 
-    def __init__(self, name, libraries, lower):
+    def __init__(self, name: str, libraries: list[str], lower: list[str]) -> None:
         self.name, self.libraries, self.lower = name, libraries, lower
         self.folder = os.path.join(TOP, "crates", name)
         self.is_program = os.path.exists(os.path.join(self.folder, "src", "main.rt"))
@@ -207,13 +211,13 @@ class Crate:
         self.bodies = [body for body in planted if all(edit.file.startswith("src/") for edit in body.edits)]
         # The reason of each public function that has no wrong body.
         self.without = dict(WITHOUT.findall(read(os.path.join(self.folder, "wrong.edit"))))
-        self.changed = {}
+        self.changed: dict[str, dict[str, Change]] = {}
         names = [body.name for body in self.bodies]
         if len(set(names)) < len(names):
             twice = next(name for name in names if names.count(name) > 1)
             raise SystemExit(f"{self.name}: two wrong bodies have the name {twice}")
 
-    def of_library(self, name):
+    def of_library(self, name: str) -> bytes:
         """A file of the library that was proved here."""
         path = os.path.join(rlib_folder(self.name), f"{self.name}.rlib", name)
         if not os.path.exists(path):
@@ -222,7 +226,7 @@ class Crate:
             return file.read()
 
     @functools.cached_property
-    def paths(self):
+    def paths(self) -> set[str]:
         """The paths of its functions, as the prover names them; of a program those of its root file."""
         if self.is_program:
             root = "src/main.rt"
@@ -230,11 +234,11 @@ class Crate:
         return {name.removeprefix(f"{self.name}::") for name, _ in json.loads(self.of_library("toolchain/mir.json"))}
 
     @functools.cached_property
-    def exports(self):
+    def exports(self) -> Exports:
         return Exports(self.folder)
 
     @functools.cached_property
-    def public(self):
+    def public(self) -> list[Function]:
         """The public functions that have a clause and a body."""
         found = sorted(glob.glob(os.path.join(self.folder, "src", "**", "*.rt"), recursive=True))
         files = [os.path.relpath(file, self.folder) for file in found]
@@ -242,7 +246,7 @@ class Crate:
         return [it for it in every if it.has_clause and not it.is_empty and self.exports.shows(it)]
 
     @functools.cached_property
-    def proved_alone(self):
+    def proved_alone(self) -> set[str]:
         """The functions, but closures, that have a proof of their own, unless they are in a cycle of calls; of a program none."""
         if self.is_program:
             return set()
@@ -252,13 +256,13 @@ class Crate:
         shared = {(module + name.replace("-", "/")).replace("/", "::") for module, name in cycles}
         return {"::".join(path) for path in paths if "fn" not in path} - shared
 
-    def text(self, file):
+    def text(self, file: str) -> str:
         with open(os.path.join(self.folder, file), encoding="utf-8") as it:
             return it.read()
 
-    def edited(self, bodies):
+    def edited(self, bodies: Iterable[Body]) -> dict[str, str]:
         """The texts of the files that bodies change, by their names. A text that is not there once is a ValueError."""
-        texts = {}
+        texts: dict[str, str] = {}
         for body in bodies:
             for edit in body.edits:
                 text = texts.get(edit.file) or self.text(edit.file)
@@ -266,7 +270,7 @@ class Crate:
                 texts[edit.file] = text[:at] + edit.new + text[at + len(edit.old):]
         return texts
 
-    def misfit(self, bodies):
+    def misfit(self, bodies: Iterable[Body]) -> Optional[str]:
         """Why the edits of bodies cannot be made, or None."""
         try:
             self.edited(bodies)
@@ -274,29 +278,30 @@ class Crate:
             return str(error)
         return None
 
-    def changed_by(self, body):
+    def changed_by(self, body: Body) -> dict[str, Change]:
         """The functions that a body changes, by their paths."""
         if body.name not in self.changed:
             self.changed[body.name] = self.find_changed(body)
         return self.changed[body.name]
 
-    def find_changed(self, body):
+    def find_changed(self, body: Body) -> dict[str, Change]:
         if body.function:
             return {body.function: Change(body.function, self.is_law_public(body.function), body.function)}
-        texts, changed = {}, {}
+        texts: dict[str, str] = {}
+        changed: dict[str, Change] = {}
         for edit in body.edits:
             text = texts.get(edit.file) or self.text(edit.file)
             at = place_of(edit, text, body.name)
             function = function_around(edit.file, text, at + len(edit.old) - len(edit.old.lstrip()))
-            path = function and function.path_in(self.paths)
-            if not path:
+            path = function.path_in(self.paths) if function else None
+            if not function or not path:
                 raise SystemExit(f"{self.name}: {body.name} changes no function, and has no line `in`")
             texts[edit.file] = text[:at] + edit.new + text[at + len(edit.old):]
             is_public = self.exports.shows(function) and function.has_clause
             changed[path] = Change(path, is_public, str(function))
         return changed
 
-    def can_join(self, body, round_):
+    def can_join(self, body: Body, round_: Sequence[Body]) -> bool:
         """Whether a body can be tried together with others: each of them is judged by what no other one changes."""
         if not round_:
             return True
@@ -307,7 +312,7 @@ class Crate:
         is_apart = not self.changed_by(body).keys() & set().union(*map(self.changed_by, round_))
         return is_apart and not self.misfit([*round_, body])
 
-    def clauses_against(self, body, round_):
+    def clauses_against(self, body: Body, round_: Iterable[Body]) -> list[str]:
         """The clauses of the law that a body names that are about a constant that only this body changes."""
         module, _, name = body.function.rpartition("::")
         file = f"src/{module.replace('::', '/') or 'lib'}.rt"
@@ -316,16 +321,16 @@ class Crate:
         told = {clause: set(WORD.findall(text)) for clause, text in CLAUSE.findall(self.text(file)[law.start:law.end])}
         return [clause for clause, words in told.items() if words & self.constants_of(body) and not words & others]
 
-    def constants_of(self, body):
+    def constants_of(self, body: Body) -> set[str]:
         """The constants that a body changes."""
         lines = [line for edit in body.edits for line in self.text(edit.file).splitlines() if edit.old in line]
         return {name for line in lines for name in CONSTANT.findall(line)}
 
-    def is_law_public(self, path):
+    def is_law_public(self, path: str) -> bool:
         """Whether a law that a body names is shown: it is in a public module."""
         return path.rpartition("::")[0] in self.exports.modules
 
-    def check_words(self):
+    def check_words(self) -> list[str]:
         """The command that checks a copy of the crate over the libraries here."""
         root = f"src/{'main' if self.is_program else 'lib'}.rt"
         words = [os.path.join(kit(), "bin", "rattle"), "check", "--crate-name", self.name, root]
@@ -337,7 +342,7 @@ class Crate:
         words += ["--antt-project", f"{kit()}/rattle/logic/antt-project.json", "--logic-built", f"{kit()}/logic_built"]
         return [*words, "--links", f"{self.name}=", "--jobs", "1", "--allow-holes"]
 
-    def write_copy(self, to, bodies, changed):
+    def write_copy(self, to: str, bodies: Iterable[Body], changed: Iterable[str]) -> None:
         """Writes the crate with these bodies, and with holes for proofs of functions that they do not change."""
         for part in "src", "specs", "proofs":
             if os.path.isdir(os.path.join(self.folder, part)):
@@ -345,19 +350,19 @@ class Crate:
         for file, text in self.edited(bodies).items():
             with open(os.path.join(to, file), "w", encoding="utf-8") as it:
                 it.write(text)
-        for function in self.proved_alone & self.paths - changed:
+        for function in (self.proved_alone & self.paths).difference(changed):
             self.write_hole(to, function.split("::"))
 
-    def write_hole(self, to, path):
+    def write_hole(self, to: str, path: Sequence[str]) -> None:
         folder = os.path.join(to, "proofs", *path)
         os.makedirs(folder, exist_ok=True)
         for name in "Answers", "Invariants":
-            if os.path.exists(file := os.path.join(folder, f"{name}.antt")):
-                os.remove(file)
+            if os.path.exists(answers := os.path.join(folder, f"{name}.antt")):
+                os.remove(answers)
         with open(os.path.join(folder, "Proof.antt"), "w", encoding="utf-8") as file:
             file.write(HOLE.format(crate=self.name, path=".".join(path), name=path[-1]))
 
-    def try_bodies(self, bodies, work):
+    def try_bodies(self, bodies: Sequence[Body], work: str) -> trials.Trial:
         """What the prover says of the crate with these bodies. It begins with what earlier trials left in the folder `work`."""
         changed = sorted(set().union(*map(self.changed_by, bodies)))
         with tempfile.TemporaryDirectory() as copy:
@@ -368,21 +373,21 @@ class Crate:
                 trials.keep(place, trial)
             return trial._replace(lines=[self.line_with_function(copy, line) for line in trial.lines])
 
-    def ask(self, copy, changed, work):
+    def ask(self, copy: str, changed: Iterable[str], work: str) -> trials.Trial:
         """What the prover says of functions in a copy of the crate. (Lines that begin with a space show a goal.)"""
         words = [word for path in changed for word in ("--only", path)]
         said, status, seconds = run_timed([*self.check_words(), "--incremental", work, *words], copy)
         return trials.Trial([line for line in said.splitlines() if line[:1].strip()], seconds, status, is_kept=False)
 
     @functools.cached_property
-    def sum_below(self):
+    def sum_below(self) -> list[str]:
         """What identifies the toolchain, and the sum of what a check reads of the libraries below."""
         rlibs = [os.path.join(rlib_folder(name), f"{name}.rlib") for name in self.lower]
         # (a program is also linked with their code)
         shown = rlibs if self.is_program else [os.path.join(rlib, part) for rlib in rlibs for part in ("interface", "lang/antt")]
         return [read(f"{kit()}/KIT-ID"), trials.sum_of(shown, TOP)]
 
-    def line_with_function(self, copy, line):
+    def line_with_function(self, copy: str, line: str) -> str:
         """A line that the prover says, with the function of the place in a source that it names."""
         found = NOTE.match(line)
         if not found:
@@ -392,7 +397,7 @@ class Crate:
         function = function_around(found[1], text, at)
         return f"note: {function and function.path_in(self.paths)}: {found[3]}"
 
-    def refusal(self, lines, function):
+    def refusal(self, lines: Sequence[str], function: str) -> Optional[str]:
         """The line by which the prover refuses a clause of a function, or None."""
         begin, path = f"fn {self.name}::{function}: ", function.replace("::", "/")
         begins = f"./proofs/{path}/", f"note: {function}: "
@@ -409,7 +414,7 @@ class Crate:
         is_own = any(own.match(name) or ".Answers." not in name for name in refused)
         return status if is_own or "did not prove" in status else None
 
-    def verdict(self, lines, body, round_):
+    def verdict(self, lines: Sequence[str], body: Body, round_: Iterable[Body]) -> Verdict:
         """The verdict on one of the bodies that were tried together, from what the prover says."""
         changed = self.changed_by(body)
         if body.function:
@@ -418,7 +423,7 @@ class Crate:
         refused = {change: self.refusal(lines, path) for path, change in changed.items()}
         return Verdict({change: line for change, line in refused.items() if line}, self.said_of(lines, changed))
 
-    def said_of(self, lines, changed):
+    def said_of(self, lines: Sequence[str], changed: Iterable[str]) -> str:
         """What the prover says of functions that no clause refuses."""
         begins = tuple(f"fn {self.name}::{path}: " for path in changed)
         said = [line for line in lines if "error[" in line or line.startswith(begins)]

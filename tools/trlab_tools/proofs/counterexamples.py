@@ -1,10 +1,16 @@
 """The numbers of a counterexample: runs of the program on few cells, and stationary states of few cells."""
 import itertools
+from collections.abc import Callable, Iterable, Iterator
 from math import comb
+from typing import Optional, Union
 
 from .. import program
 from ..oracle import traffic
-from .false_statements import Job
+from .false_statements import False_, Job, Sweep
+
+# Whether each cell of a ring has a car, and the weight of a ring for a probability of braking.
+Ring = tuple[int, ...]
+Weight = Callable[[int, Ring], int]
 
 C, P = 2 ** 31, 2 ** 29
 # Every state of a cell with its neighbours: behind, own, ahead.
@@ -13,11 +19,11 @@ cells3 = list(itertools.product((0, 1), repeat=3))
 THIRDS = {(1, 0, 0) * 2, (0, 1, 0) * 2, (0, 0, 1) * 2}
 
 
-def key_text(key):
+def key_text(key: int) -> str:
     return f"key {key:064d}"
 
 
-def output(words, lines):
+def output(words: list[str], lines: list[str]) -> list[str]:
     status, text = program.run(words, "\n".join(lines + [""]).encode())
     if status != program.DONE:
         raise SystemExit(f"status {status}: {' / '.join(lines)}")
@@ -27,7 +33,9 @@ def output(words, lines):
 class Counts:
     """The counts of a run or a point of a sweep, by the symbols of docs/LAWS.md."""
 
-    def __init__(self, limit, warm, cars, cells, steps, distance, stopped, changes):
+    def __init__(
+        self, limit: int, warm: int, cars: int, cells: int, steps: int, distance: int, stopped: int, changes: int
+    ) -> None:
         self.v, self.warm, self.N, self.n, self.E, self.T = limit, warm, cars, cells, cells - cars, steps
         self.D, self.S, self.L = distance, stopped, changes
 
@@ -35,7 +43,7 @@ class Counts:
 class Point(Counts):
     """The point of a sweep."""
 
-    def __init__(self, sweep):
+    def __init__(self, sweep: Sweep) -> None:
         lines = ["sweep 1", key_text(0), f"limit {sweep.limit}", f"length {sweep.cells}", "lanes 1", f"rule {sweep.rule}",
                  f"warm {sweep.warm}", f"measure {sweep.measure}", f"cars {sweep.cars}"]
         *numbers, self.flow = map(int, output(["sweep"], lines)[1].split(","))
@@ -45,11 +53,11 @@ class Point(Counts):
 class Run(Counts):
     """A run of a job: its rows, and its cars in the order of their first cells, if it has one lane."""
 
-    def __init__(self, job):
+    def __init__(self, job: Job) -> None:
         lines = ["road 1", key_text(job.key), f"limit {job.limit}", *(f"lane {lane}" for lane in job.lanes),
                  *f"rule {job.rule}".split("\n"), f"steps {job.steps}"]
         self.key = job.key
-        self.rows = []
+        self.rows: list[list[str]] = []
         for line in output(["run"], lines):
             if line.startswith("step"):
                 self.rows.append([])
@@ -64,28 +72,28 @@ class Run(Counts):
             came = {(x - int(cell)) % self.n: x for x, cell in enumerate(row) if cell != "."}
             self.places.append([came[x] for x in self.places[-1]])
 
-    def speeds(self, t):
+    def speeds(self, t: int) -> list[int]:
         """The speed of each car."""
         return [int(self.rows[t][0][x]) for x in self.places[t]]
 
-    def next_car(self, t):
+    def next_car(self, t: int) -> list[int]:
         """For each car the number of the next car ahead."""
         order = sorted(self.places[t])
         return [self.places[t].index(order[(order.index(x) + 1) % len(order)]) for x in self.places[t]]
 
-    def gaps(self, t):
+    def gaps(self, t: int) -> list[int]:
         """The gap of each car."""
         return [(self.places[t][ahead] - x - 1) % self.n for x, ahead in zip(self.places[t], self.next_car(t))]
 
-    def gone(self, t):
+    def gone(self, t: int) -> list[int]:
         """The distance that each car has gone by step t."""
         return [sum(speeds) for speeds in zip(*(self.speeds(s) for s in range(1, t + 1)))] or [0] * self.N
 
-    def minimum(self, t, last=None, start=0):
+    def minimum(self, t: int, last: Optional[int] = None, start: int = 0) -> list[int]:
         """How far the minimum principle lets each car go in t steps from step `start` on, by the cars 0 to `last` ahead."""
         gaps, ahead = self.gaps(start), self.next_car(start)
 
-        def bound(car, j):
+        def bound(car: int, j: int) -> int:
             room = 0
             for _ in range(j):
                 room += gaps[car]
@@ -93,87 +101,89 @@ class Run(Counts):
             return self.v * (t - j) + room
         return [min(bound(car, j) for j in range((t if last is None else last) + 1)) for car in range(self.N)]
 
-    def occupied(self, t, lane=0):
+    def occupied(self, t: int, lane: int = 0) -> str:
         """The pattern of occupied cells."""
         return "".join("." if cell == "." else "#" for cell in self.rows[t][lane])
 
-    def moved(self, before, after, ahead):
+    def moved(self, before: int, after: int, ahead: int) -> bool:
         """Whether the pattern of step `after` is that of step `before`, moved ahead by this number of cells."""
         old, new = self.occupied(before), self.occupied(after)
         return all(new[(x + ahead) % len(old)] == cell for x, cell in enumerate(old))
 
-    def rotated(self, t, cells):
+    def rotated(self, t: int, cells: int) -> list[str]:
         """The row of step t in which each cell is the one that was this many cells ahead."""
         return [lane[cells:] + lane[:cells] for lane in self.rows[t]]
 
-    def neighbours(self, t, state):
+    def neighbours(self, t: int, state: str) -> int:
         """The number of pairs of neighbouring cells that are both occupied (#) or both empty (.)."""
         row = self.occupied(t)
         return sum(row[x] == row[x - 1] == state for x in range(len(row)))
 
-    def cars_on(self, t, lane):
+    def cars_on(self, t: int, lane: int) -> int:
         return self.occupied(t, lane).count("#")
 
-    def cars_ahead(self, t, x, k):
+    def cars_ahead(self, t: int, x: int, k: int) -> int:
         """The cars in the k cells ahead of cell x."""
         row = self.occupied(t)
         return sum(row[(x + j) % self.n] == "#" for j in range(1, k + 1))
 
-    def count(self, x):
+    def count(self, x: int) -> int:
         """The passages at the end of cell x in the counted steps."""
         return sum((x - place + speed) % self.n < speed for t in range(self.warm + 1, len(self.rows))
                    for place, speed in zip(self.places[t], self.speeds(t)))
 
-    def braked(self, chance, with_gap=False):
+    def braked(self, chance: int, with_gap: bool = False) -> int:
         """How often the random word 0 of a car, or of a car with a gap, calls for braking with this chance in 2 ** 31."""
         return sum(word(self.key, car, t, 0) // 2 < chance and (not with_gap or self.gaps(t)[car] > 0)
                    for t in range(self.warm, self.warm + self.T) for car in range(self.N))
 
 
-def word(key, car, step, k):
+def word(key: int, car: int, step: int, k: int) -> int:
     """Random word k of a car in a step."""
     return traffic.random_words(bytes.fromhex(f"{key:064d}"), car, step)[k]
 
 
-def state(rule, behind, own, ahead):
+def state(rule: int, behind: int, own: int, ahead: int) -> int:
     """The next state of a cell in one of Wolfram's elementary automata."""
     return rule >> (4 * behind + 2 * own + ahead) & 1
 
 
-def elementary(rule, pattern):
+def elementary(rule: int, pattern: str) -> str:
     """The next pattern in one of Wolfram's elementary automata."""
     row = [cell == "#" for cell in pattern]
     return "".join(".#"[state(rule, row[x - 1], row[x], row[(x + 1) % len(row)])] for x in range(len(row)))
 
 
-def holes(pattern):
+def holes(pattern: str) -> str:
     """The mirrored complement of a pattern: a car for each empty cell, from the other end."""
     return "".join(".#"[cell == "."] for cell in reversed(pattern))
 
 
-def ring_step(pattern, brakes):
+def ring_step(pattern: str, brakes: bool) -> str:
     """The next pattern with limit 1 of a ring with one car, which brakes or not."""
     return pattern if brakes else pattern[-1] + pattern[:-1]
 
 
-def rings(n, cars=None):
+def rings(n: int, cars: Optional[int] = None) -> list[Ring]:
     return [ring for ring in itertools.product((0, 1), repeat=n) if cars in (None, sum(ring))]
 
 
-def free(ring):
+def free(ring: Ring) -> int:
     """The number of cars with an empty cell ahead."""
     return sum(own and not ring[(x + 1) % len(ring)] for x, own in enumerate(ring))
 
 
-def weight(p, ring):
-    return p ** (sum(ring) - free(ring)) * C ** free(ring)
+def weight(p: int, ring: Ring) -> int:
+    product: int = p ** (sum(ring) - free(ring)) * C ** free(ring)
+    return product
 
 
-def usual(p, cars, braking):
-    return p ** braking * max(C - p, 0) ** (cars - braking)
+def usual(p: int, cars: int, braking: int) -> int:
+    product: int = p ** braking * max(C - p, 0) ** (cars - braking)
+    return product
 
 
-def steps_of(ring):
+def steps_of(ring: Ring) -> Iterator[tuple[Ring, int, int]]:
     """The steps of a ring: the next ring, the number of cars that brake, and how far all go, for each set of braking cars."""
     places = [x for x, own in enumerate(ring) if own]
     for brakes in itertools.product((0, 1), repeat=len(places)):
@@ -182,7 +192,9 @@ def steps_of(ring):
         yield tuple(int(x in after) for x in range(len(ring))), sum(brakes), sum(goes)
 
 
-def is_stationary(n, cars, weights, p=P, braking=usual, factor=1):
+def is_stationary(
+    n: int, cars: int, weights: Weight, p: int = P, braking: Callable[[int, int, int], int] = usual, factor: int = 1
+) -> bool:
     """Whether a step leaves the weights of all rings as they are."""
     sums = dict.fromkeys(rings(n, cars), 0)
     for old in sums:
@@ -191,33 +203,33 @@ def is_stationary(n, cars, weights, p=P, braking=usual, factor=1):
     return all(total == factor * C ** cars * weights(p, new) for new, total in sums.items())
 
 
-def is_proportional(n, cars, weights, p):
+def is_proportional(n: int, cars: int, weights: Weight, p: int) -> bool:
     """Whether weights of rings are proportional to the stationary weights."""
     return all(weights(p, a) * weight(p, b) == weights(p, b) * weight(p, a) for a in rings(n, cars) for b in rings(n, cars))
 
 
-def steps_from(p, ring):
+def steps_from(p: int, ring: Ring) -> int:
     """The weights of all steps from a ring, added up."""
     return sum(usual(p, sum(ring), brakes) for _, brakes, _ in steps_of(ring))
 
 
-def clustered(cars, empty, k):
+def clustered(cars: int, empty: int, k: int) -> int:
     return sum(free(ring) == k for ring in rings(cars + empty, cars))
 
 
-def distances(p, n, cars):
+def distances(p: int, n: int, cars: int) -> int:
     """The weights of all rings times the mean distances of a step, times C ** cars."""
     return sum(weight(p, ring) * usual(p, cars, brakes) * goes for ring in rings(n, cars) for _, brakes, goes in steps_of(ring))
 
 
-def names_of(runs):
+def names_of(runs: Iterable[Union[Job, Sweep]]) -> dict[str, object]:
     """The names that expressions of a counterexample may use: the numbers of the first run, and all runs as a, b, .."""
     made = [Run(run) if isinstance(run, Job) else Point(run) for run in runs]
     first = {name: getattr(made[0], name) for name in dir(made[0]) if not name.startswith("_")} if made else {}
     return {**globals(), "comb": comb, **first, **dict(zip("abcd", made))}
 
 
-def refutes(false):
+def refutes(false: False_) -> tuple[bool, bool]:
     """Whether the law is true and the false statement is false for the numbers of a counterexample."""
     names = names_of(false.runs)
     return bool(eval(false.law_says, names)), not eval(false.false_says, names)

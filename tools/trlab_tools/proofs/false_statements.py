@@ -3,7 +3,7 @@
 A false statement is a law with one change: `old` is in the file `specs/FILE.antt` of its crate once, and `new` replaces
 it. The counterexample has runs of the program, and two expressions of counterexamples.py: that of the law is true on
 these runs, and that of the false statement is false. Without runs, the numbers are in the expressions."""
-from typing import NamedTuple
+from typing import NamedTuple, Union
 
 TRAFFIC, CAMPAIGN = "trlab_traffic", "trlab_campaign"
 
@@ -13,7 +13,7 @@ class Job(NamedTuple):
     limit: int
     rule: str
     steps: int
-    lanes: tuple
+    lanes: tuple[str, ...]
     key: int = 0
     warm: int = 0
 
@@ -35,18 +35,18 @@ class False_(NamedTuple):
     file: str
     old: str
     new: str
-    runs: tuple
+    runs: tuple[Union[Job, Sweep], ...]
     law_says: str
     false_says: str
     operator: str = ""
     crate: str = TRAFFIC
 
 
-def job(limit, rule, steps, *lanes, key=0, warm=0):
+def job(limit: int, rule: str, steps: int, *lanes: str, key: int = 0, warm: int = 0) -> Job:
     return Job(limit, rule, steps, lanes, key, warm)
 
 
-def program(answer, change=""):
+def program(answer: str, change: str = "") -> str:
     """A rule of one's own: the lines of its motion program, and of its change program if it has one."""
     return f"own\nmotion\n{answer}\nend" + (f"\nchange\n{change}\nend" if change else "")
 
@@ -58,7 +58,7 @@ GAP = program(GAP_LINES)
 RESTLESS = program(GAP_LINES, "side r0\njfalse r0, keep\ncross\nkeep: stay")
 
 
-def from_lane_1(*tests):
+def from_lane_1(*tests: str) -> str:
     """The rule by which the car of lane 1 changes lanes if the side cell is empty and these tests do not jump to keep."""
     return program(GAP_LINES, "\n".join(["side r0", "jfalse r0, keep", "get r0, lane", "num r1, 1", "jlt r0, r1, keep", *tests, "cross", "keep: stay"]))
 

@@ -1,7 +1,10 @@
 """The functions of a crate's sources: where each begins and ends, whether it is public, and whether it has a clause."""
 import os
 import re
-from typing import NamedTuple
+from collections.abc import Collection
+from typing import NamedTuple, Optional
+
+from ..finding import match_in
 
 # Where a function begins, and where what it may be a method of begins.
 FUNCTION = re.compile(r"(?m)^( *)(pub(?:\(\w+\))? )?(?:const )?fn (\w+)")
@@ -23,29 +26,29 @@ class Function(NamedTuple):
     has_clause: bool
     is_empty: bool
 
-    def __str__(self):
+    def __str__(self) -> str:
         return f"{self.owner}::{self.name}" if self.owner else self.name
 
     @property
-    def module(self):
+    def module(self) -> str:
         """The path of the module of its file."""
         return re.sub(r"^src/((lib|main)\.rt)?|\.rt$", "", self.file).replace("/", "::")
 
-    def path_in(self, every):
+    def path_in(self, every: Collection[str]) -> Optional[str]:
         """Its path, of all those of a crate as the prover names them, or None."""
         last = rf"{re.escape(self.owner)}\w*::{self.name}" if self.owner else self.name
         here = [path for path in every if re.fullmatch(rf"{self.module}(::)?{last}", path)]
         # (a method is named by the module of its type, which may be another file's)
         there = here or [path for path in every if self.owner and re.fullmatch(rf"(\w+::)*{last}", path)]
-        return min(there, key=len, default=None)
+        return min(there, key=len) if there else None
 
 
-def base_name(kind):
+def base_name(kind: str) -> str:
     """The name of a type or a trait without its path, its lifetimes and its parameters."""
     return re.sub(r"<.*", "", kind.strip()).rpartition("::")[2].strip("&' ")
 
 
-def without_parameters(head):
+def without_parameters(head: str) -> str:
     """What follows the parameters of an `impl`."""
     depth = 0
     for at, sign in enumerate(head):
@@ -55,22 +58,22 @@ def without_parameters(head):
     return head
 
 
-def owner_in(head):
+def owner_in(head: str) -> str:
     """What the prover's name of a method begins with, from the line at which its `impl` or `trait` begins."""
     trait, is_for, kind = without_parameters(head.strip()).rpartition(" for ")
     return base_name(kind) + (base_name(trait) if is_for else "")
 
 
-def functions_in(file, text):
+def functions_in(file: str, text: str) -> list[Function]:
     """The functions of a file."""
     return [function_at(file, text, found) for found in FUNCTION.finditer(text)]
 
 
-def function_at(file, text, found):
+def function_at(file: str, text: str, found: re.Match[str]) -> Function:
     indent, visibility, name = found.groups()
     owner = owner_in(list(BLOCK.finditer(text, 0, found.start()))[-1][1]) if indent else ""
     # Its body begins on a line of its own if it has clauses.
-    brace = re.compile(rf"(?m)^{indent}([{{}}]\S*)|\Z").search(text, found.start())
+    brace = match_in(rf"(?m)^{indent}([{{}}]\S*)|\Z", text, begin=found.start())
     head = text[found.start():brace.start()]
     end = text.index(f"\n{indent}}}", brace.start()) + len(indent) + 2 if brace[1] == "{" else brace.end()
     return Function(
@@ -84,13 +87,14 @@ def function_at(file, text, found):
 class Exports:
     """The names and the modules that a library shows."""
 
-    def __init__(self, folder):
-        self.names, self.modules = set(), set()
+    def __init__(self, folder: str) -> None:
+        self.names: set[str] = set()
+        self.modules: set[str] = set()
         self.is_program = not os.path.exists(os.path.join(folder, "src", "lib.rt"))
         if not self.is_program:
             self.read(folder, "src/lib.rt", ())
 
-    def read(self, folder, file, module):
+    def read(self, folder: str, file: str, module: tuple[str, ...]) -> None:
         with open(os.path.join(folder, file), encoding="utf-8") as it:
             text = re.sub(r"//.*", "", it.read())
         for shown in EXPORT.findall(text):
@@ -100,7 +104,7 @@ class Exports:
                 self.modules.add("::".join((*module, name)))
             self.read(folder, os.path.join("src", *module, f"{name}.rt"), (*module, name))
 
-    def shows(self, function):
+    def shows(self, function: Function) -> bool:
         """Whether a function is public. A program shows none, so there each one with a clause counts."""
         if self.is_program:
             return function.has_clause

@@ -8,7 +8,8 @@ import json
 import os
 import tempfile
 import time
-from typing import NamedTuple
+from collections.abc import Iterable, Iterator
+from typing import NamedTuple, Optional, Union
 
 FOLDER = os.path.join(os.environ.get("XDG_CACHE_HOME") or os.path.expanduser("~/.cache"), "trlab", "trials")
 # The seconds after which an entry that no run has used is removed.
@@ -18,13 +19,13 @@ OLDEST = 30 * 24 * 3600
 class Trial(NamedTuple):
     """The lines that the prover printed, its processor seconds and exit status, and whether they come from an earlier run."""
 
-    lines: list
+    lines: list[str]
     seconds: float
     status: int
     is_kept: bool
 
 
-def files_of(places):
+def files_of(places: Iterable[str]) -> Iterator[str]:
     """The files of these places, which are files or folders, in an order of their own."""
     for place in places:
         if os.path.isfile(place):
@@ -34,7 +35,7 @@ def files_of(places):
             yield from (os.path.join(at, name) for name in sorted(files))
 
 
-def sum_of(places, top):
+def sum_of(places: Iterable[str], top: Union[str, os.PathLike[str]]) -> str:
     """The checksum of files and of those in folders: of their paths relative to a folder, and of their contents."""
     total = hashlib.sha256()
     for path in files_of(places):
@@ -43,12 +44,12 @@ def sum_of(places, top):
     return total.hexdigest()
 
 
-def path_of(sums):
+def path_of(sums: list[object]) -> str:
     """The path at which a trial with these checksums is kept."""
     return os.path.join(FOLDER, f"{hashlib.sha256(repr(sums).encode()).hexdigest()}.json")
 
 
-def find(path):
+def find(path: str) -> Optional[Trial]:
     """The trial that an earlier run kept there, or None."""
     try:
         with open(path, encoding="utf-8") as file:
@@ -59,7 +60,7 @@ def find(path):
         return None
 
 
-def keep(path, trial):
+def keep(path: str, trial: Trial) -> None:
     """Keep a trial, unless the folder cannot be written."""
     try:
         os.makedirs(FOLDER, exist_ok=True)
@@ -70,7 +71,7 @@ def keep(path, trial):
         pass
 
 
-def remove_old():
+def remove_old() -> None:
     """Remove the trials that no run has used for a month."""
     for path in files_of([FOLDER]):
         try:

@@ -1,6 +1,7 @@
 """The layers of the crates, from crates.txt."""
 import re
 import textwrap
+from collections.abc import Iterator
 from itertools import cycle
 
 from ... import TOP as REPOSITORY
@@ -13,7 +14,7 @@ FILLS = "#e4edf7", "#e2f3ea", "#fdf1dc", "#f7e6ef", "#e9e6f7", "#f0f0f0"
 LEFT, WIDE, HIGH, ROW = 236, 150, 26, 35
 
 
-def layers() -> list:
+def layers() -> Iterator[tuple[str, str, dict[str, list[str]]]]:
     """The layers, lowest first: the name of each, its subject, and its crates with the crates that they use."""
     with open(CRATES, encoding="utf-8") as file:
         found = LAYER.findall(file.read())
@@ -22,15 +23,15 @@ def layers() -> list:
             yield name, about, {crate: used.split() for crate, used in re.findall(r"^(\w+):(.*)$", lines, re.M)}
 
 
-def rows(crates: dict) -> list:
+def rows(crates: dict[str, list[str]]) -> list[list[str]]:
     """The crates of a layer in rows, lowest first: each crate is above the crates of its layer that it uses."""
-    height: dict = {}
+    height: dict[str, int] = {}
     for crate, used in crates.items():
         height[crate] = 1 + max((height[other] for other in used if other in crates), default=-1)
     return [[crate for crate in crates if height[crate] == level] for level in range(max(height.values()) + 1)]
 
 
-def room(levels: list) -> int:
+def room(levels: list[list[str]]) -> int:
     """The height of a layer in the drawing."""
     return len(levels) * ROW + 8
 

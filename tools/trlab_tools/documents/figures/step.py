@@ -7,12 +7,12 @@ CARS = [(1, 4), (6, 3), (10, 2), (12, 0), (17, 5)]
 BRAKES = {1}
 
 
-def gap_of(car: int, cells: list) -> int:
+def gap_of(car: int, cells: list[int]) -> int:
     """The empty cells ahead of a car on the ring."""
     return (cells[(car + 1) % len(cells)] - cells[car] - 1) % CELLS
 
 
-def rows() -> list:
+def rows() -> list[tuple[str, str, list[int], list[int]]]:
     """The name of each row, its remark, cells and speeds."""
     cells, speeds = [cell for cell, _ in CARS], [speed for _, speed in CARS]
     faster = [min(speed + 1, LIMIT) for speed in speeds]

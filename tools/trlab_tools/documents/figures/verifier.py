@@ -5,7 +5,7 @@ WIDE = 200
 TRUNK = ["get r0, speed", "num r1, 1", "add r0, r0, r1", "get r2, limit", "min r0, r0, r2", "get r2, gap"]
 
 
-def block(drawing: Drawing, middle: float, top: float, lines: list) -> float:
+def block(drawing: Drawing, middle: float, top: float, lines: list[str]) -> float:
     """Draws instructions in a frame, and returns the y coordinate of its lower edge."""
     high = 14 + 19 * len(lines)
     drawing.box(middle - WIDE / 2, top, WIDE, high, "#f6f6f6", FRAME)
@@ -14,12 +14,12 @@ def block(drawing: Drawing, middle: float, top: float, lines: list) -> float:
     return top + high
 
 
-def known(drawing: Drawing, x: float, y: float, facts: list, anchor: str = "start") -> None:
+def known(drawing: Drawing, x: float, y: float, facts: list[str], anchor: str = "start") -> None:
     for place, fact in enumerate(facts):
         drawing.text(x, y + 18 * place, fact, anchor, fill=BLUE)
 
 
-def verdict(drawing: Drawing, middle: float, top: float, reasons: list) -> None:
+def verdict(drawing: Drawing, middle: float, top: float, reasons: list[str]) -> None:
     for place, reason in enumerate(reasons):
         drawing.text(middle, top + 20 + 18 * place, f"{reason}  ✓", "middle", fill=GREEN, weight="bold")
 

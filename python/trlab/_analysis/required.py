@@ -1,4 +1,4 @@
-"""The libraries of the analysis, or an error that says how to install them."""
+"""The libraries that the analysis requires, or an error that says how to install them."""
 from __future__ import annotations
 
 from .._libraries import library
