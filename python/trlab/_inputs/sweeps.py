@@ -27,8 +27,8 @@ class Sweep:
     There is no limit on points and steps.
 
     Each point runs `warm` steps that are not counted, then `measure` steps that are. `limit` is the maximum speed in
-    cells per step, `length` the cells per lane. Equal numbers of cars are repetitions: each point draws its own
-    random numbers.
+    cells per step, `length` the cells per lane, and `key` the random seed (see `Key`). Equal numbers of cars are
+    repetitions: each point draws its own random numbers.
 
     `start` is the initial state of every point:
 
@@ -39,7 +39,7 @@ class Sweep:
       `cars` and `densities`). For 20 repetitions of one road write `20 * [road]`.
 
     **An even initial state biases the mean** for thousands of steps, by up to 0.3 percent with `warm=3000` (see
-    STUDIES.md). If the third digit matters, sweep from `random_cells` states too and choose a `warm` for which they
+    docs/STUDIES.md). If the third digit matters, sweep from `random_cells` states too and choose a `warm` for which they
     agree.
 
     An even sweep of at most 200 points and 500,000 steps in total is a single input, `.text()`; a larger sweep runs as

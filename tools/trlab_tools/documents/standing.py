@@ -37,7 +37,7 @@ MAX_WORDS = {
     "docs/LAWS_BY_EXAMPLE.md": 4000,
     "docs/MODELS.md": 2250,
     "docs/PROGRAMS.md": 2720,
-    "docs/PYTHON.md": 11100,
+    "docs/PYTHON.md": 3250,
     "docs/README.md": 290,
     "docs/RELIABILITY.md": 1680,
     "docs/SPEED.md": 530,
