@@ -204,7 +204,8 @@ class Job:
 
     def detectors(self, cells: Sequence[int], *, every: int, first: int = 0) -> pandas.DataFrame:
         """Detector tables of the run, window by window: a detector at the end of each of the `cells`, and windows of
-        `every` steps from step `first` on, which must fill the run (see `trlab.detectors`). Snapshots are not kept."""
+        `every` steps from step `first` on, which must fill the run. Snapshots are not kept. `trlab.detectors` has the
+        columns and the errors."""
         from .._analysis.detectors import detectors
 
         options = RunOptions.of_windows(self.steps, every, first, 1)
@@ -215,7 +216,8 @@ class Job:
         default as many as this job has. Its steps count from 0 again, and `at` is shifted to match.
 
         The default `key` is derived (see `Key`) from `trlab continued KEY STEP`, with the snapshot's step. This job's
-        own key would draw the random numbers of its first steps again.
+        own key would draw the random numbers of its first steps again. Raises `ParameterError` if the step of the
+        snapshot is not one of this job, or if its cars are faster than the limit.
 
             longer = job.continued(job.run()[-1], steps=1000).run()"""
         if not isinstance(snapshot, Snapshot):

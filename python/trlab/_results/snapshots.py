@@ -81,7 +81,8 @@ class Snapshots(ResultList[Snapshot]):
         return speeds
 
     def occupied(self) -> numpy.ndarray[Any, Any]:
-        """An array of bools by snapshot, lane and cell: whether a car is there. Its mean is the density."""
+        """An array of bools by snapshot, lane and cell: whether a car is there. Its mean is the density. Raises
+        `SnapshotsError` if the roads have different sizes."""
         return self._signed() >= 0
 
     def __getattr__(self, name: str) -> Any:
