@@ -1,4 +1,4 @@
-"""Numbers that follow from proved laws of traffic (see LAWS.md), without a simulation and without noise.
+"""Numbers that follow from proved laws of traffic (see docs/LAWS.md), without a simulation and without noise.
 
     from trlab import exact
 

@@ -27,8 +27,8 @@ class Blocking(NamedTuple):
 
 
 def blocking(values: Union[Iterable[float], Array, pandas.Series]) -> Blocking:
-    """The mean of the windows of one run in its steady state, and the standard error of this mean for correlated
-    windows, by the blocking method of Flyvbjerg and Petersen (J. Chem. Phys. 91, 461, 1989):
+    """The mean of the windows of one run in its steady state, and its standard error for correlated windows. The error
+    is that of the blocking method of Flyvbjerg and Petersen (J. Chem. Phys. 91, 461, 1989):
 
         trlab.blocking(job.series(every=10, first=1000).to_pandas().flow)
 

@@ -48,8 +48,8 @@ def lifetime(times: Values, observed: Values) -> Lifetime:
 
 
 def survival(times: Values, observed: Values) -> pandas.DataFrame:
-    """The share of lives that are longer than `time`, even if runs end before some lives do, by the method of Kaplan
-    and Meier (J. Am. Stat. Assoc. 53, 457, 1958). The arguments are those of `lifetime`:
+    """The share of lives that are longer than `time`, even if runs end before some lives do. The method is that of
+    Kaplan and Meier (J. Am. Stat. Assoc. 53, 457, 1958), and the arguments are those of `lifetime`:
 
         curve = trlab.survival(runs.time, runs.observed).survival
         curve.plot(drawstyle="steps-post", logy=True)

@@ -25,9 +25,9 @@ _FLAT = (
 
 
 class Peak(NamedTuple):
-    """The maximum `y` of a curve at `x`, with standard errors, in the units of the columns. It is from at least `n`
-    runs at each of `points` points, to whose means a polynomial of `degree` was fitted with `chi2`, for `dof` degrees
-    of freedom."""
+    """The maximum `y` of a curve at `x`, with the standard errors `y_sem` and `x_sem`, in the units of the
+    columns. It is from at least `n` runs at each of `points` points, to whose means a polynomial of `degree` was fitted
+    with `chi2`, for `dof` degrees of freedom."""
 
     x: float
     x_sem: float

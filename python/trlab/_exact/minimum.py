@@ -70,7 +70,8 @@ def distances(job: Job, step: Optional[int] = None) -> list[int]:
 
 def positions(job: Job, step: Optional[int] = None) -> list[int]:
     """The cell of each car of a job after `step` steps, 0 to `length` - 1: its first cell plus its distance (see
-    `distances`), round the ring. Cars keep their lanes and their numbers, which are by lane and cell at the start."""
+    `distances`), round the ring. Cars keep their lanes and their numbers, which are by lane and cell at the start.
+    Arguments and errors are those of `distances`."""
     lanes = job.lane_texts()
     first_cells = [cell for lane in lanes for cell in _cells_of(lane)]
     return [(cell + distance) % len(lanes[0]) for cell, distance in zip(first_cells, distances(job, step))]

@@ -49,7 +49,8 @@ def flow(length: int, cars: int, brake: Probability) -> Fraction:
 
 def flow_as_float(length: int, cars: int, brake: Probability) -> float:
     """The same as `flow`, as a float, within milliseconds for a ring of any length. Both sums are added up in floats,
-    from their largest term outwards. The relative error is below 1e-12, which is tested and not proved."""
+    from their largest term outwards. The relative error is below 1e-12, which is tested and not proved.
+    Arguments, errors and source are those of `flow`."""
     ring = _Ring.of(length, cars, brake)
     most = min(ring.cars, ring.empty)
     if most == 0 or ring.brake == 0:

@@ -41,8 +41,9 @@ class Job:
     A list of only 0 and 1 raises an error, because you may mean the number of cars by cell, while here 0 is a stopped
     car.
 
-    `limit` is the maximum speed in cells per step, 1 to 35. `at` maps steps to the rules that take over then. A job
-    of more than 500,000 steps runs as several inputs, each of which continues the previous input.
+    `limit` is the maximum speed in cells per step, 1 to 35, and `key` the random seed (see `Key`). `at` maps steps to
+    the rules that take over then. A job of more than 500,000 steps runs as several inputs, each of which continues the
+    previous input.
 
     Numbers of other libraries, such as numpy, are stored as Python numbers, and a road as the characters of its lanes,
     with its `length` and `lanes`. Raises `ParameterError` if a parameter is wrong; booleans and members of an
@@ -153,7 +154,8 @@ class Job:
         return Snapshots.read(ask_for_bytes(["run", *options.arguments()], self.text()))
 
     def snapshots(self, *, every: int = 1, first: int = 0, workers: int = 1) -> Iterator[Snapshot]:
-        """Iterate over the snapshots of `run` while the program runs, keeping only one."""
+        """Iterate over the snapshots of `run` while the program runs, keeping only one. `every`, `first` and `workers`
+        are as in `run`."""
         options = RunOptions.of_snapshots(self.steps, every, first, workers)
         if self.steps > MAX_STEPS:
             return long_jobs.snapshots(self, options)
@@ -162,7 +164,8 @@ class Job:
     def series(self, *, every: int = 1, first: int = 0, workers: int = 1) -> Table[Window]:
         """The counts of each window of `every` steps, from step `first` on, as `trlab series` writes them. The windows
         must fill the run: if `steps - first` is not a positive multiple of `every`, it raises `ParameterError` with
-        numbers that fit. A job of more than 500,000 steps takes about twice as long per step."""
+        numbers that fit. `workers` is the number of threads, as in `run`. A job of more than 500,000 steps takes about
+        twice as long per step."""
         options = RunOptions.of_windows(self.steps, every, first, workers)
         if self.steps > MAX_STEPS:
             return Table(Window, long_jobs.windows(self, options))
@@ -200,7 +203,9 @@ class Job:
             yield from long_jobs.windows_in(ask_by_line(["series", *options.arguments()], self.text()))
 
     def detectors(self, cells: Sequence[int], *, every: int, first: int = 0) -> pandas.DataFrame:
-        """Detector tables of the run, window by window: see `trlab.detectors`. Snapshots are not kept."""
+        """Detector tables of the run, window by window: a detector at the end of each of the `cells`, and windows of
+        `every` steps from step `first` on, which must fill the run. Snapshots are not kept. `trlab.detectors` has the
+        columns and the errors."""
         from .._analysis.detectors import detectors
 
         options = RunOptions.of_windows(self.steps, every, first, 1)
@@ -211,7 +216,8 @@ class Job:
         default as many as this job has. Its steps count from 0 again, and `at` is shifted to match.
 
         The default `key` is derived (see `Key`) from `trlab continued KEY STEP`, with the snapshot's step. This job's
-        own key would draw the random numbers of its first steps again.
+        own key would draw the random numbers of its first steps again. Raises `ParameterError` if the step of the
+        snapshot is not one of this job, or if its cars are faster than the limit.
 
             longer = job.continued(job.run()[-1], steps=1000).run()"""
         if not isinstance(snapshot, Snapshot):

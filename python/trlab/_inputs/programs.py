@@ -12,7 +12,8 @@ from .numbers import shown
 
 
 class AcceptedProgram(NamedTuple):
-    """An accepted driver program: its maximum number of instructions per car and step, and its canonical form."""
+    """An accepted driver program: `budget` is its maximum number of instructions per car and step, and `program` its
+    canonical form."""
 
     budget: int
     program: str
@@ -31,7 +32,8 @@ def check(program: Union[str, PythonRule]) -> AcceptedProgram:
 
 def explain(input: Union[str, PythonRule, Job, Sweep]) -> str:
     """The output of `trlab explain`: the error in an input and how to fix it, or a description of a valid input.
-    `input` is a job, a sweep, the text of a job, a sweep or a driver program, or a Python function that is a rule."""
+    `input` is a job, a sweep, the text of a job, a sweep or a driver program, or a Python function that is a rule.
+    Raises `ParameterError` for anything else, and `RuleError` for a function that is not a rule."""
     if isinstance(input, PythonRule):
         input = input()
     if not isinstance(input, (str, Job, Sweep)):

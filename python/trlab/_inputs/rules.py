@@ -13,7 +13,9 @@ from .numbers import Probability, checked_int, parts, probability, shown, store
 
 @dataclass(frozen=True)
 class Nasch:
-    """Nagel and Schreckenberg (1992). `brake` is the probability to brake by one cell per step, 0 to 1."""
+    """The Nagel-Schreckenberg model: `brake` is the probability to brake by one cell per step, 0 to 1.
+
+    Source: K. Nagel and M. Schreckenberg, J. Physique I 2, 2221, 1992."""
 
     brake: Probability
 
@@ -26,8 +28,10 @@ class Nasch:
 
 @dataclass(frozen=True)
 class SlowToStart:
-    """Barlovic, Santen, Schadschneider and Schreckenberg (1998). `brake` is the braking probability of moving cars,
-    `stopped` of stopped cars, 0 to 1."""
+    """The VDR (slow-to-start) model: `brake` is the braking probability of moving cars, `stopped` that of cars which
+    were stopped before the step, 0 to 1.
+
+    Source: R. Barlovic, L. Santen, A. Schadschneider and M. Schreckenberg, Eur. Phys. J. B 5, 793, 1998."""
 
     brake: Probability
     stopped: Probability
@@ -41,8 +45,11 @@ class SlowToStart:
 
 @dataclass(frozen=True)
 class Rickert:
-    """Rickert, Nagel, Schreckenberg and Latour (1996), for two lanes. `brake` is the braking probability, `change` the
-    probability to change lanes if the rule allows it, 0 to 1."""
+    """A model for two lanes: `brake` is the braking probability, `change` the probability to change lanes if the rule
+    allows it, 0 to 1.
+
+    Source: M. Rickert, K. Nagel, M. Schreckenberg and A. Latour, Physica A 231, 534, 1996; docs/MODELS.md has the
+    differences."""
 
     brake: Probability
     change: Probability
@@ -76,6 +83,7 @@ class Own:
 
 
 Rule = Union[Nasch, SlowToStart, Rickert, Own]
+"""The rule of a job or a sweep."""
 
 
 class Schedule(Mapping[int, Rule]):

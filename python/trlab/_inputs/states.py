@@ -88,7 +88,8 @@ jammed = InitialState("jammed")
 
 def random_cells(seed: int, speed: Optional[int] = 0) -> InitialState:
     """Uniformly random cells, the same in every version of Python. `seed`, 0 to 2**256 - 1, is independent of `key`.
-    `speed` is the initial speed of all cars in cells per step; None means the maximum speed."""
+    `speed` is the initial speed of all cars in cells per step, 0 to 35; None means the maximum speed. Raises
+    `ParameterError` if a number is out of range."""
     return InitialState("random", speed, seed)
 
 

@@ -27,8 +27,8 @@ class Sweep:
     There is no limit on points and steps.
 
     Each point runs `warm` steps that are not counted, then `measure` steps that are. `limit` is the maximum speed in
-    cells per step, `length` the cells per lane. Equal numbers of cars are repetitions: each point draws its own
-    random numbers.
+    cells per step, `length` the cells per lane, and `key` the random seed (see `Key`). Equal numbers of cars are
+    repetitions: each point draws its own random numbers.
 
     `start` is the initial state of every point:
 
@@ -39,8 +39,8 @@ class Sweep:
       `cars` and `densities`). For 20 repetitions of one road write `20 * [road]`.
 
     **An even initial state biases the mean** for thousands of steps, by up to 0.3 percent with `warm=3000` (see
-    STUDIES.md). If the third digit matters, sweep from `random_cells` states too and choose a `warm` for which they
-    agree.
+    docs/STUDIES.md). If the third digit matters, sweep from `random_cells` states too and choose a `warm` for which
+    they agree.
 
     An even sweep of at most 200 points and 500,000 steps in total is a single input, `.text()`; a larger sweep runs as
     its `.parts()`. From any other state, or if `warm + measure` is above 500,000, every point is a job of `.jobs()`.
@@ -170,7 +170,8 @@ class Sweep:
 
     def sweep(self, *, runners: int = 1, workers: int = 1) -> Table[Point]:
         """The table, one row per point, in order. `runners` points, 1 to 16, run at a time, each with `workers`
-        threads, 1 to 16, which does not change the table."""
+        threads, 1 to 16, which does not change the table. Raises `ParameterError` for a wrong number before anything
+        runs, and `RejectedInputError` if the program rejects the input."""
         runners = checked_int("runners", runners, 1, MAX_THREADS)
         workers = checked_int("workers", workers, 1, MAX_THREADS)
         if self.is_of_jobs():

@@ -24,7 +24,8 @@ class OnRoad:
 
     def ahead(self, places: int = 1) -> Array:
         """The number of the car `places` places ahead on the same lane, which is a ring: of n cars, n places ahead is
-        the car itself. On one lane no car overtakes, so it is the same in all steps."""
+        the car itself. On one lane no car overtakes, so it is the same in all steps. Raises `ParameterError` if
+        `places` is negative."""
         checked_int("places", places, 0)
         lane, cell = self.lane.astype(numpy.int64), self.cell.astype(numpy.int64)
         cars = cell.shape[-1]

@@ -8,8 +8,8 @@ from .following import Array
 
 
 class Jam(NamedTuple):
-    """A jam: it exists for `lifetime` steps from step `first` on; `cars` is the number of different cars in it, and
-    `size` their stopped time in car-steps.
+    """A group of stopped cars: it exists for `lifetime` steps from step `first` on; `cars` is the number of different
+    cars in it, and `size` their stopped time in car-steps.
 
     Two stopped cars (speed 0) belong to one jam if they are in neighbouring cells of a lane after the same step, or are
     the same car after consecutive steps. If `is_older`, the jam is in the first snapshot, so that its beginning was not

@@ -81,7 +81,8 @@ class Snapshots(ResultList[Snapshot]):
         return speeds
 
     def occupied(self) -> numpy.ndarray[Any, Any]:
-        """An array of bools by snapshot, lane and cell: whether a car is there. Its mean is the density."""
+        """An array of bools by snapshot, lane and cell: whether a car is there. Its mean is the density. Raises
+        `SnapshotsError` if the roads have different sizes."""
         return self._signed() >= 0
 
     def __getattr__(self, name: str) -> Any:
@@ -120,8 +121,8 @@ class Snapshots(ResultList[Snapshot]):
 
     def html(self, limit: Optional[int] = None, title: str = "") -> str:
         """A web page that plays these snapshots: one file that needs no server or network. Colours range from speed 0
-        to `limit`, by default the highest speed. Raises `SnapshotsError` unless the snapshots are those of all steps
-        from 0 on, and `ValueError` if they are longer than 256 MiB."""
+        to `limit`, by default the highest speed, and `title` is the title of the page. Raises `SnapshotsError` unless
+        the snapshots are those of all steps from 0 on, and `ValueError` if they are longer than 256 MiB."""
         from ..lab.export import page_of
 
         for step, snapshot in enumerate(self):

@@ -122,8 +122,9 @@ MAX_SHOWN = 10
 
 
 class Table(ResultList[Row]):
-    """The rows of a table, as a list. A table that was read keeps its numbers as an array of 64-bit integers:
-    `to_numpy()` and `to_pandas()` are fast, and rows are made when needed."""
+    """The rows of a table, as a list: points of a sweep or windows of a series, which `kind` says. A table that was
+    read keeps its numbers as an array of 64-bit integers, so that `to_numpy()` and `to_pandas()` are fast, and rows are
+    made when needed."""
 
     def __init__(self, kind: type[Row], rows: Iterable[Row] = ()) -> None:
         self.kind: type[Row] = kind

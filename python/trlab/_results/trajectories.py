@@ -16,8 +16,8 @@ from .snapshots import Snapshots
 
 
 class Trip(NamedTuple):
-    """A trip of `car`: it passes the end of the first cell in step `start`, and that of the second cell `time` steps
-    later (0 if it passes both in one step)."""
+    """A trip from one cell to another: `car` passes the end of the first cell in step `start`, and that of the second
+    cell `time` steps later (0 if it passes both in one step)."""
 
     car: int
     start: int

@@ -78,7 +78,8 @@ def explained(text: str, *arguments: str) -> Explanation:
 
 
 def version() -> str:
-    """The version of the program, the logic of its proof, and its SHA-256, one per line."""
+    """The version of the program, the logic of its proof, and its SHA-256, one per line. Raises `ProgramNotFoundError`
+    if there is no program."""
     return ask(["--version"], "") + f"SHA-256 {sha256_of_program(find_program())}"
 
 

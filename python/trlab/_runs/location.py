@@ -34,7 +34,7 @@ _ON_PATH = "TRLAB_FOUND_ON_PATH"
 
 
 def find_program() -> str:
-    """The path of the program, which is the first of these:
+    """The path of the program `trlab`: the first of these that is there.
 
     1. the environment variable `TRLAB`, a path that may be relative or begin with `~`;
     2. the program of the installed package, unpacked on first use into `$XDG_CACHE_HOME/trlab` or `~/.cache/trlab`,

@@ -170,7 +170,8 @@ class Grid:
         """Write the study as one file, from which you or a colleague get the same frame with `read_study(path).run()`:
         a zip archive of the inputs, as the program reads them, and `study.json` with parameters, keys, version and
         SHA-256 of the program. `words` set the measurement in jobs, for example `["series", "--every", "2000",
-        "--from", "1000"]`; a sweep needs none. The same study gives the same file."""
+        "--from", "1000"]`; a sweep needs none. The same study gives the same file. Raises `ParameterError` if jobs
+        have no `words`, or sweeps have some."""
         from .study_file import save
 
         has_jobs = any(isinstance(input, Job) for input in self.inputs.values())

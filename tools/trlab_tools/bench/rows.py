@@ -9,6 +9,7 @@ OTHERS = ["plain", "interpreter", "floor", "numba", "NumPy"]
 COLUMNS = ["what", "lanes", "cells", "cars", "trlab", "wall clock", *OTHERS, "beside", "wanted"]
 # The columns and the rows of the page. A row is chosen by its subject, the cells of a lane and the cars.
 COLUMNS_OF_PAGE = ["what", "lanes", "cells", "cars", "trlab", *OTHERS, "beside"]
+NAMES_ON_PAGE = {"what": "run", "beside": "other results"}
 ROWS_OF_PAGE = [
     ("`nasch 0`", 100000, 30000),
     ("`nasch 536870912`", 100000, 30000),
@@ -104,4 +105,5 @@ def as_page(rows: list[dict[str, str]]) -> str:
     """The rows of the page in Markdown, below their heading, without columns that are empty."""
     found = [row for wanted in ROWS_OF_PAGE for row in rows if (row["what"], int(row["cells"] or 0), int(row["cars"] or 0)) == wanted]
     columns = [column for column in COLUMNS_OF_PAGE if any(row.get(column) for row in found)]
-    return "\n".join(heading(columns) + [line(row[column] for column in columns) for row in found]) + "\n"
+    names = [NAMES_ON_PAGE.get(column, column) for column in columns]
+    return "\n".join(heading(names) + [line(row[column] for column in columns) for row in found]) + "\n"

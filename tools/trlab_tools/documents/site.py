@@ -1,7 +1,8 @@
 """The documents as a site: mkdocs renders the pages, and linkchecker follows their links.
 
 mkdocs.yml describes the site. Its pages and the files that they show or link to are copied into one folder first, with the
-paths that they have in the repository, because mkdocs takes all pages from one folder."""
+paths that they have in the repository, because mkdocs takes all pages from one folder. The site also has the reference of
+the Python package, and the index of docs/PYTHON.md leads to it."""
 import csv
 import os
 import shutil
@@ -10,7 +11,8 @@ from collections.abc import Iterator
 from typing import NamedTuple
 
 from .. import TOP
-from .standing import known_files
+from . import reference
+from .standing import content, documents, known_files
 
 # Beside the documents: the folders with figures and linked files, and single files.
 FOLDERS = "docs/", "examples/", "node/", "studies/"
@@ -48,6 +50,13 @@ def collect(pages: str) -> None:
             to = os.path.join(pages, name)
             os.makedirs(os.path.dirname(to), exist_ok=True)
             shutil.copyfile(TOP / name, to)
+    write(os.path.join(pages, reference.PAGE), reference.page())
+    write(os.path.join(pages, reference.GUIDE), reference.with_index(content(reference.GUIDE), reference.on_site))
+
+
+def all_pages() -> list[str]:
+    """The documents, and the page that only the site has."""
+    return [*documents(), reference.PAGE]
 
 
 def write(path: str, text: str) -> None:
