@@ -34,7 +34,7 @@ MAX_WORDS = {
     "docs/GLOSSARY.md": 830,
     "docs/LAB.md": 1920,
     "docs/LAWS.md": 3850,
-    "docs/LAWS_BY_EXAMPLE.md": 4000,
+    "docs/LAWS_BY_EXAMPLE.md": 700,
     "docs/MODELS.md": 2250,
     "docs/PROGRAMS.md": 2720,
     "docs/PYTHON.md": 11100,
