@@ -49,8 +49,8 @@ MAX_WORDS = {
     "docs/dev/BOOK.md": 1290,
     "docs/dev/DECISIONS.md": 3200,
     "docs/dev/EMBEDDING.md": 690,
-    "docs/dev/EXTENDING.md": 1250,
-    "docs/dev/GLOSSARY.md": 980,
+    "docs/dev/EXTENDING.md": 1040,
+    "docs/dev/GLOSSARY.md": 930,
     "docs/dev/GUARANTEES.md": 4710,
     "docs/dev/README.md": 110,
 }
