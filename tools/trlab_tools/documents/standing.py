@@ -30,7 +30,7 @@ MAX_WORDS = {
     "docs/COURSE.md": 1880,
     "docs/ERRORS.md": 1770,
     "docs/FAQ.md": 930,
-    "docs/FILES.md": 2190,
+    "docs/FILES.md": 2370,
     "docs/GLOSSARY.md": 830,
     "docs/LAB.md": 1920,
     "docs/LAWS.md": 4150,
