@@ -76,6 +76,10 @@ class Study(NamedTuple):
             elif asked.key == 1:
                 (place / f"{name}.job").write_text(asked.text())
 
+    def write_means(self, heading: str, rows: Iterable[Sequence[object]], name: str = "means.csv") -> None:
+        """Writes a table of means for readers. The page of the study shows some of its rows."""
+        write_rows(self.folder / name, heading.split(), rows)
+
     def save(self, axes: Any, name: str = "figure.svg") -> None:
         """Saves the figure of these axes, with the digest of the tables that it shows, and without date and version, so that
         the same tables give the same bytes. The outputs that the tables were made of are no longer needed."""
@@ -86,8 +90,9 @@ class Study(NamedTuple):
 
 
 def digest_of_tables(folder: Path) -> str:
-    """The SHA-256 of all tables of a study, by rising names."""
-    return sha256(b"".join(file.read_bytes() for file in sorted(folder.glob("*.csv")))).hexdigest()
+    """The SHA-256 of all tables of a study, by rising names, without the means that follow from them."""
+    tables = [file for file in sorted(folder.glob("*.csv")) if not file.name.endswith("means.csv")]
+    return sha256(b"".join(file.read_bytes() for file in tables)).hexdigest()
 
 
 def write_rows(file: Path, heading: Sequence[str], rows: Iterable[Sequence[object]]) -> None:
@@ -135,9 +140,27 @@ def difference(ones: pandas.DataFrame, others: pandas.DataFrame, of: str = "flow
     return pandas.DataFrame({"value": value, "sem": sem, "z": value / sem.where(sem > 0)})
 
 
+def draw_z(study: Study, found: Mapping[str, pandas.Series], title: str, *, top: float) -> None:
+    """Draws differences in standard errors against density, with the band in which 95 of 100 would be by chance if errors
+    were known exactly."""
+    _, axes = plt.subplots()
+    axes.axhspan(-2, 2, color="0.92", zorder=0)
+    axes.axhline(0, color="0.6", linewidth=1, zorder=1)
+    for (name, z), marker in zip(found.items(), "o^sDvP"):
+        axes.plot(z.index, z, marker, fillstyle="none", label=name)
+    axes.set(xlim=(0, top), xlabel="density (cars per cell)", ylabel="even minus random, in standard errors", title=title)
+    axes.legend()
+    study.save(axes, "bias.svg")
+
+
 def signed(z: float) -> str:
     """A number of standard errors as pages show it; nothing if there is none."""
     return "" if numpy.isnan(z) else f"{z:+.1f}"
+
+
+def page_row(cells: Iterable[object]) -> str:
+    """A row of a table of a page."""
+    return "|" + "".join(f" {cell} |" if cell != "" else " |" for cell in cells)
 
 
 def largest(found: pandas.DataFrame, digits: str = "", of: str = "flow") -> str:

@@ -59,22 +59,28 @@ def lines(table):
 
 
 class Drawn(NamedTuple):
-    """The figures and pages that a study makes from its tables."""
+    """The figures, means and pages that a study makes from its tables."""
 
     figures: dict
+    means: dict
     printed: list
 
 
 def run_python(folder, *arguments):
-    """The output of Python in a folder with a copy of the studies without figures, and the figures that it draws
-    there."""
-    copytree(STUDIES, Path(folder) / "studies", ignore=ignore_patterns("*.svg", "cache"))
+    """The output of Python in a folder with a copy of the studies without figures and means, and the figures and means that
+    it makes there."""
+    copytree(STUDIES, Path(folder) / "studies", ignore=ignore_patterns("*.svg", "*means.csv", "cache"))
     environment = {**os.environ, "PYTHONPATH": str(TOP / "python"), "PYTHONIOENCODING": "utf-8", "MPLBACKEND": "agg"}
     command = [sys.executable, "-B", *arguments]
     options = {"cwd": folder, "env": environment, "check": True, "stdout": subprocess.PIPE, "encoding": "utf-8"}
     printed = subprocess.run(command, **options).stdout
-    figures = {file.name: file.read_text(encoding="utf-8") for file in Path(folder).rglob("*.svg")}
-    return Drawn(figures, printed.splitlines())
+    figures, means = contents_below(Path(folder), "*.svg"), contents_below(Path(folder), "*means.csv")
+    return Drawn(figures, means, printed.splitlines())
+
+
+def contents_below(folder, names):
+    """The contents of the files with such names in a folder and the folders below it, by their names."""
+    return {file.name: file.read_text(encoding="utf-8") for file in folder.rglob(names)}
 
 
 @lru_cache(maxsize=None)
@@ -126,32 +132,34 @@ class Studies(unittest.TestCase):
                     self.assertGreater(len(words_of(figure)), 3)
                     self.assertEqual(words_of(figure), words_of(drawn_by_study(name).figures[file]))
 
+    def test_means_are_of_the_tables(self):
+        for name in NAMES:
+            with self.subTest(study=name):
+                self.assertEqual(contents_below(STUDIES / name, "*means.csv"), drawn_by_study(name).means)
+
+    def test_pages_link_to_their_means(self):
+        for name in NAMES:
+            page = (STUDIES / name / "README.md").read_text(encoding="utf-8")
+            for file in drawn_by_study(name).means:
+                self.assertIn(f"]({file})", page)
+
     def test_pages_have_the_rows_that_their_scripts_print(self):
         for name in NAMES:
             page = (STUDIES / name / "README.md").read_text(encoding="utf-8").splitlines()
             rows_printed = [line for line in drawn_by_study(name).printed if line.startswith(("| ", "- "))]
-            self.assertGreater(len(rows_printed), 10)
+            self.assertGreaterEqual(len(rows_printed), 8)
             for line in rows_printed:
                 with self.subTest(study=name):
                     self.assertIn(line, page)
 
-    def test_the_page_of_1992_has_the_means_of_the_full_tables(self):
+    def test_the_page_of_1992_has_the_maximum_of_the_full_table(self):
         module = script("1992")
         page = (STUDIES / "1992" / "README.md").read_text(encoding="utf-8")
-        full = {
-            "full_table.csv": (module.inputs(True), "| {} | {:.6f} ± {:.6f} |"),
-            "full_random.csv": (module.random_inputs(True), "| {1:.6f} ± {2:.6f} |"),
-        }
-        for file, (full_inputs, form) in full.items():
-            tables = shared.read_tables(STUDIES / "1992" / file, Point)
-            frame = shared.frame_of({name: full_inputs[name] for name in tables}, tables)
-            means = shared.means(frame, "density")
-            self.assertEqual(set(means.n), {80})
+        for file, full_inputs in ("full_table.csv", module.inputs(True)), ("full_random.csv", module.random_inputs(True)):
+            frame = module.full_frame(STUDIES / "1992" / file, full_inputs)
+            self.assertEqual(set(shared.means(frame, "density").n), {80})
             if file == "full_table.csv":
                 self.assertIn(module.maximum("even, 1,600,000 steps", frame), page)
-            for density, row in means.iterrows():
-                with self.subTest(file=file, density=density):
-                    self.assertIn(form.format(density, row.flow, row.flow_sem), page)
 
     def test_first_points_come_out_again(self):
         # A point does not depend on the points after it.

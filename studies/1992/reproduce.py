@@ -8,11 +8,12 @@ import trlab
 from trlab import Nasch, Point, Sweep
 
 from ..random_starts import from_random, last_steps
-from ..study import Study, difference, means, signed
+from ..study import Study, difference, frame_of, means, page_row, read_tables, signed
 
 LENGTH, BRAKE, WARM, MEASURE = 10000, "1/2", 10000, 20000
 DENSITIES = [0.02, 0.04, 0.06, 0.07, 0.075, 0.08, 0.0825, 0.085, 0.0875, 0.09, 0.095, 0.1, 0.11, 0.12, 0.15]
 DENSITIES += [0.2, 0.25, 0.3, 0.4, 0.5, 0.6, 0.7, 0.8, 0.9]
+SHOWN = [0.02, 0.06, 0.08, 0.0875, 0.1, 0.2, 0.4, 0.8]  # the densities of the page
 # The maximum flow and its density, with their errors, as commonly quoted from the paper.
 PUBLISHED = {"x": 0.086, "xerr": 0.002, "y": 0.318, "yerr": 0.0005}
 
@@ -39,12 +40,24 @@ def dots():
     return {"dots": Sweep(**shape, densities=[0.005 * (place + 1) for place in range(100)], key=1)}
 
 
-def print_rows(even, at_random):
-    """A row of the page for each density: both means with their standard errors, and z of the difference."""
+def full_frame(file, all_inputs):
+    """A table of --full that is kept next to the short ones. It may have only some of the inputs."""
+    tables = read_tables(file, Point)
+    return frame_of({name: all_inputs[name] for name in tables}, tables)
+
+
+def compare(study, even, at_random, name):
+    """Writes a row for each density: both means with their standard errors, and z of the difference. Prints some of them as
+    rows of the page."""
     z = difference(even, at_random).z
+    rows = []
     for density in even.index:
-        flows = [f"{its.flow[density]:.6f} ± {its.flow_sem[density]:.6f}" for its in (even, at_random)]
-        print(f"| {density} |", " | ".join(flows), f"| {signed(z[density])} |")
+        known = [its.loc[density] if density in its.index else None for its in (even, at_random)]
+        flows = [("", "") if its is None else (f"{its.flow:.6f}", f"{its.flow_sem:.6f}") for its in known]
+        rows.append([density, *flows[0], *flows[1], signed(z[density])])
+        if density in SHOWN:
+            print(page_row([density, *(" ± ".join(flow) if all(flow) else "" for flow in flows), rows[-1][-1]]))
+    study.write_means("density even even_sem random random_sem z", rows, name)
 
 
 def maximum(name, frame):
@@ -78,7 +91,11 @@ def main():
     even = study.frame("table.csv", Point, inputs(study.is_full), Sweep.sweep)
     short = study.frame("dots.csv", Point, dots(), Sweep.sweep)
     at_random = study.frame("random.csv", Point, random_inputs(study.is_full), last_steps(MEASURE))
-    print_rows(means(even, "density"), means(at_random, "density"))
+    compare(study, means(even, "density"), means(at_random, "density"), "means.csv")
+    if not study.is_full:
+        full = {"full_table.csv": inputs(True), "full_random.csv": random_inputs(True)}
+        frames = [full_frame(study.folder / file, all_inputs) for file, all_inputs in full.items()]
+        compare(study, *(means(frame, "density") for frame in frames), "full_means.csv")
     for name, frame in ("even", even), ("random", at_random):
         print(maximum(f"{name}, {len(frame) // len(DENSITIES) * MEASURE:,} steps", frame))
     draw(study, short, means(at_random, "density"))

@@ -9,13 +9,14 @@ import trlab
 from trlab import Nasch, Point, Rickert, Sweep
 
 from ..random_starts import from_random, last_steps, sweep_of
-from ..study import Study, difference, largest, means, signed
+from ..study import Study, difference, draw_z, largest, means, page_row, signed
 
 LENGTH, BRAKE = 5000, "1/2"  # cells of each of two lanes; the road of one lane has as many cells as both together
 WARM, MEASURE = 4000, 6000
 DENSITIES = [0.02, 0.04, 0.06, 0.07, 0.08, 0.085, 0.09, 0.1, 0.11, 0.12, 0.14, 0.16, 0.2, 0.25, 0.3, 0.4]
 LANES = {"one_lane": (1, Nasch(BRAKE)), "two_lanes": (2, Rickert(BRAKE, 1))}
 IN_FULL = {"two_lanes_half": (2, Rickert(BRAKE, 0.5))}
+SHOWN = ["0.0201", "0.0601", "0.0801", "0.0851", "0.1001", "0.1401", "0.2001", "0.4001"]  # the densities of the page
 REPETITIONS, RANDOM_REPETITIONS, FULL_REPETITIONS = 3, 6, 10
 
 
@@ -57,32 +58,61 @@ def means_by_kind(frame, name_of_sweep=str):
     return {name: found.loc[name] for name in dict.fromkeys(kind)}
 
 
-def print_means(found):
-    """A row of the page for each density."""
+def print_maxima(found):
+    """The maxima that the page cites."""
     on_two = list(found)[1:]
     for name, its in found.items():
         print(f"{name}: maximum flow per lane {largest(its, '.4f')}")
     for name in on_two:
         print(f"{name}: most changes per car and step {largest(found[name], '.4f', of='change_rate')}")
+
+
+def columns(found):
+    """The columns of means, and the gain of a second lane in percent, as text by density."""
+    on_two = list(found)[1:]
     for density in found["one_lane"].index:
-        one, two = (shown(found[name], density) for name in LANES)
+        flows = [shown(found[name], density) for name in found]
         gain = 100 * (found["two_lanes"].flow[density] / found["one_lane"].flow[density] - 1)
         changes = [shown(found[name], density, of="change_rate") for name in on_two]
-        print(f"| {density:.4f} | {one} | {two} | {gain:.1f} % |", " | ".join(changes), "|")
+        yield f"{density:.4f}", flows, f"{gain:.1f}", changes
 
 
 def shown(found, density, of="flow"):
-    """The mean at a density with its standard error."""
-    return f"{found[of][density]:.5f} ± {found[f'{of}_sem'][density]:.5f}"
+    """The mean at a density and its standard error."""
+    return f"{found[of][density]:.5f}", f"{found[f'{of}_sem'][density]:.5f}"
 
 
-def print_bias(even, at_random):
-    """A row of the page for each density: the even means less the random ones, and the same in standard errors."""
-    found = [difference(even[name], at_random[name]) for name in even]
-    found.append(difference(even["two_lanes"], at_random["two_lanes"], of="change_rate"))
-    for density in even["one_lane"].index:
-        cells = [[its[name][density] for name in ("value", "sem", "z")] for its in found]
-        print(f"| {density:.4f} |", " | ".join(f"{value:+.5f} ± {sem:.5f} ({signed(z)})" for value, sem, z in cells), "|")
+def report_means(study, kinds):
+    """Writes a row for each initial state and density. Prints some of those from random states as rows of the page."""
+    rows = []
+    for start, found in kinds.items():
+        for density, flows, gain, changes in columns(found):
+            rows.append([start, density, *sum(flows + changes, ()), gain])
+            if start == "random" and density in SHOWN:
+                print(page_row([density, *map(" ± ".join, flows), f"{gain} %", *map(" ± ".join, changes)]))
+    on_two = [f"{name}_changes" for name in list(found)[1:]]
+    names = " ".join(f"{name} {name}_sem" for name in [*found, *on_two])
+    study.write_means(f"start density {names} gain_percent", rows)
+
+
+def report_bias(study, even, at_random):
+    """Draws and writes for each density the even means less the random ones, with the same in standard errors."""
+    found = {name: difference(even[name], at_random[name]) for name in even}
+    found["two_lanes_changes"] = difference(even["two_lanes"], at_random["two_lanes"], of="change_rate")
+    rows = [
+        [f"{density:.4f}", *(text for its in found.values() for text in signed_difference(its.loc[density]))]
+        for density in even["one_lane"].index
+    ]
+    names = " ".join(f"{name} {name}_sem {name}_z" for name in found)
+    study.write_means(f"density {names}", rows, "bias_means.csv")
+    shown_z = {name.replace("_changes", ": lane changes").replace("_", " "): its.z for name, its in found.items()}
+    draw_z(study, shown_z, "flow per lane, and lane changes per car and step", top=0.42)
+
+
+def signed_difference(its):
+    """A difference, its standard error, and their ratio, as text."""
+    value, sem, z = its[["value", "sem", "z"]]
+    return f"{value:+.5f}", f"{sem:.5f}", signed(z)
 
 
 def draw(study, found):
@@ -108,8 +138,9 @@ def main():
     points = study.frame("random.csv", Point, random_inputs(study.is_full), last_steps(MEASURE))
     at_random = means_by_kind(points, sweep_of)
     for found in even, at_random:
-        print_means(found)
-    print_bias(even, at_random)
+        print_maxima(found)
+    report_means(study, {"random": at_random, "even": even})
+    report_bias(study, even, at_random)
     draw(study, at_random)
 
 

@@ -38,4 +38,4 @@ panels[2].set(ylabel="share of cars on lane 0", ylim=(0, 1))
 figure.suptitle("means ± standard error, 5 runs on two lanes of 1000 cells")
 figure.savefig(HERE / "two_lanes.svg", metadata={"Date": None, "Creator": None})
 for column in "flow", "change_rate", "share_on_lane_0":
-    print(means[[column, f"{column}_sem"]].unstack("rule").round(4).to_string())
+    print(means.query("density in (0.02, 0.08, 0.2, 0.5)")[[column, f"{column}_sem"]].unstack("rule").round(4).to_string())

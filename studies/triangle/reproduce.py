@@ -9,7 +9,7 @@ import trlab
 from trlab import Nasch, Point, Sweep, even, random_cells
 
 from ..random_starts import from_random, jobs_of, last_steps, sweep_of
-from ..study import Study, difference, means, signed
+from ..study import Study, difference, draw_z, means, page_row, signed
 
 LIMIT = 5
 # A multiple of 6, so that the top of the triangle, at density 1/6, is a whole number of cars.
@@ -18,7 +18,8 @@ CHANCES = ["0", "1/1024", "1/256", "1/64", "1/16", "1/4", "1/2"]
 DENSITIES = ["1/30", "1/15", "1/10", "2/15", "3/20", "1/6", "11/60", "1/5", "7/30", "3/10", "2/5", "3/5", "4/5"]
 REPETITIONS = 4
 SETTLING = {"1/1024": "1/10", "1/256": "1/15"}  # a density for each of these p
-SHOWN = ["1/30", "1/10", "3/20", "1/6", "1/5", "2/5", "4/5"]  # the densities of the page
+# The densities of the page.
+SHOWN = [float(Fraction(density)) for density in ["1/30", "1/10", "3/20", "1/6", "1/5", "2/5", "4/5"]]
 
 
 def inputs(is_full):
@@ -60,32 +61,34 @@ def triangle(density):
 
 
 def below(density, flow):
-    """How far a mean flow is below the triangle, with its standard error in units of the last digit."""
-    return f"{round(triangle(density) - flow.flow, 5) + 0:.5f}({round(flow.flow_sem * 100000)})"
+    """How far a mean flow is below the triangle."""
+    return f"{round(triangle(density) - flow, 5) + 0:.5f}"
 
 
-def print_distances(from_even, at_random):
-    """Two rows of the page for each p: the distances from both initial states."""
+def report_distances(study, from_even, at_random):
+    """Writes a row for each p and density: the distances from both initial states, and z of their difference. Prints a row of
+    the page for each p: some distances from random states, with their standard errors in units of the last digit."""
+    rows = []
     for chance in CHANCES:
-        for name, found in ("even", from_even[chance]), ("random", at_random[chance]):
-            shown = [density for density in found.index if any(abs(density - float(Fraction(it))) < 1e-9 for it in SHOWN)]
-            print(f"| {chance} | {name} |", " | ".join(below(density, found.loc[density]) for density in shown), "|")
-
-
-def print_z(from_even, at_random):
-    """A row of the page for each density: for each p, the even mean less the random one in standard errors."""
-    z = [difference(from_even[chance], at_random[chance]).z for chance in CHANCES[1:]]
-    for density in from_even["0"].index:
-        print(f"| {density:.4f} |", " | ".join(signed(its[density]) for its in z), "|")
+        even_means, random_means = from_even[chance], at_random[chance]
+        z = difference(even_means, random_means).z
+        for density in even_means.index:
+            cells = [[below(density, its.flow[density]), f"{its.flow_sem[density]:.6f}"] for its in (even_means, random_means)]
+            rows.append([chance, f"{density:.4f}", *cells[0], *cells[1], signed(z[density])])
+        shown = [(density, its) for density, its in random_means.iterrows() if min(abs(density - it) for it in SHOWN) < 1e-9]
+        print(page_row([chance, *(f"{below(density, its.flow)}({round(its.flow_sem * 100000)})" for density, its in shown)]))
+    study.write_means("p density even_below even_sem random_below random_sem z", rows)
 
 
 def print_settling(frame):
-    """A row of the page for each sweep of `settling`."""
+    """A row of the page for each p and number of steps of `settling`: the flows from both initial states."""
     found = means(frame.assign(sweep=frame.input.map(sweep_of)), "sweep", "density").reset_index("density")
     for name in settling():
-        _, top, bottom, _, warm, start = name.split("_")
-        its = found.loc[name]
-        print(f"| {top}/{bottom} | {its.density:.4f} | {warm} | {start} | {its.flow:.7f} ± {its.flow_sem:.7f} |")
+        if name.endswith("_even"):
+            _, top, bottom, _, warm, _ = name.split("_")
+            both = [found.loc[name], found.loc[f"{name[:-5]}_random"]]
+            flows = [f"{its.flow:.7f} ± {its.flow_sem:.7f}" for its in both]
+            print(page_row([f"{top}/{bottom}", f"{both[0].density:.4f}", warm, *flows]))
 
 
 def means_by_chance(frame, name_of_sweep=str):
@@ -113,8 +116,9 @@ def main():
     from_even = means_by_chance(study.frame("table.csv", Point, inputs(study.is_full), Sweep.sweep))
     points = study.frame("random.csv", Point, random_inputs(study.is_full), last_steps(MEASURE))
     at_random = means_by_chance(points, sweep_of)
-    print_distances(from_even, at_random)
-    print_z(from_even, at_random)
+    report_distances(study, from_even, at_random)
+    z = {f"p = {chance}": difference(from_even[chance], at_random[chance]).z for chance in CHANCES[1:]}
+    draw_z(study, z, "flow from even and from random initial states", top=0.82)
     print_settling(study.frame("settling.csv", Point, jobs_of(settling()), second_half))
     draw(study, at_random)
 
