@@ -216,14 +216,22 @@ class Teaching(OnPage):
         self.hold(lambda: self.page.js("return lab.player.car") is None)
 
     def test_a_car_that_brakes_is_followed_no_longer(self):
-        """Escape counts also before the new run has begun, so both come in one script."""
-        text = self.show_job()
-        self.run_to(20)
-        self.page.click("follow")
-        self.page.act("""document.getElementById('brake').click();
-            document.body.dispatchEvent(new KeyboardEvent('keydown', {key: 'Escape', bubbles: true}))""")
-        self.hold(lambda: self.page.job() != text and self.page.step() == 0)
-        self.assertIsNone(self.page.js("return lab.player.car"))
+        """Escape counts also before the new run has begun, and before it has a snapshot."""
+        moments = {"before": "brake.click(); press();", "after": """player.load = (...words) => {
+            delete player.load;
+            player.load(...words);
+            press();
+        };
+        brake.click();"""}
+        for moment, script in moments.items():
+            with self.subTest(moment=moment):
+                text = self.show_job()
+                self.run_to(20)
+                self.page.click("follow")
+                self.page.act("""const {player} = lab, brake = document.getElementById('brake');
+                    const press = () => document.body.dispatchEvent(new KeyboardEvent('keydown', {key: 'Escape', bubbles: true}));""" + script)
+                self.hold(lambda: self.page.job() != text and self.page.step() == 0)
+                self.assertIsNone(self.page.js("return lab.player.car"))
 
 
 @unittest.skipIf(missing("chromium"), missing("chromium"))

@@ -189,7 +189,7 @@ export class Player {
   }
   /** Follow the car nearest to a place, or no car if none is within `reach` cells. */
   choose(place, reach = place?.reach) {
-    if (!this.isShown) return null;
+    if (place && !this.isShown) return null;
     const { scene, film } = this, share = calm ? 1 : this.phase;
     let best = null, least = reach ?? -1;
     for (let v = 0; place && v <= film.limit; v++) {
@@ -256,7 +256,7 @@ export class Player {
       ArrowUp: () => this.neighbour(1), ArrowDown: () => this.neighbour(-1), Escape: () => this.choose(null),
       ...this.hear.keys,
     }[event.key];
-    if (!what || !this.isShown) return;
+    if (!what || !(this.isShown || event.key === "Escape")) return;
     event.preventDefault();
     what();
   }
