@@ -37,5 +37,6 @@ for axes, column in zip(panels, ["flow", "change_rate", "share_on_lane_0"]):
 panels[2].set(ylabel="share of cars on lane 0", ylim=(0, 1))
 figure.suptitle("means ± standard error, 5 runs on two lanes of 1000 cells")
 figure.savefig(HERE / "two_lanes.svg", metadata={"Date": None, "Creator": None})
+shown = means[means.index.isin([0.02, 0.08, 0.2, 0.5], level="density")]
 for column in "flow", "change_rate", "share_on_lane_0":
-    print(means.query("density in (0.02, 0.08, 0.2, 0.5)")[[column, f"{column}_sem"]].unstack("rule").round(4).to_string())
+    print(shown[[column, f"{column}_sem"]].unstack("rule").round(4).to_string())

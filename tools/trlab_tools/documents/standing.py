@@ -24,7 +24,7 @@ MAX_WORDS_OF_A_DECISION = 60
 # Pages grow with every change, and each sentence seems useful. A page at its limit needs a cut before an addition.
 MAX_WORDS = {
     "CHANGELOG.md": 1600,
-    "CONTRIBUTING.md": 1900,
+    "CONTRIBUTING.md": 1960,
     "README.md": 1430,
     "docs/CHEATSHEET.md": 720,
     "docs/COURSE.md": 2000,
@@ -44,7 +44,7 @@ MAX_WORDS = {
     "docs/STUDIES.md": 3270,
     "docs/TUTORIAL.md": 1360,
     "docs/VERIFIER.md": 1020,
-    "docs/dev/ARCHITECTURE.md": 2480,
+    "docs/dev/ARCHITECTURE.md": 2420,
     "docs/dev/CALLS.md": 800,
     "docs/dev/BOOK.md": 1310,
     "docs/dev/DECISIONS.md": 3220,
