@@ -40,7 +40,7 @@ MAX_WORDS = {
     "docs/PYTHON.md": 3220,
     "docs/README.md": 310,
     "docs/RELIABILITY.md": 1680,
-    "docs/SPEED.md": 580,
+    "docs/SPEED.md": 590,
     "docs/STUDIES.md": 3270,
     "docs/TUTORIAL.md": 1360,
     "docs/VERIFIER.md": 1020,
