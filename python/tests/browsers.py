@@ -11,6 +11,10 @@ except ModuleNotFoundError:
 
 from tests.waiting import LIMIT, holds
 
+# The end of a script that acts. A user sees what an action has changed before the next one, and the page draws once per frame;
+# a page that is hidden draws nothing.
+DRAWN = "if (!document.hidden) for (let k = 0; k < 2; k++) await new Promise(go => requestAnimationFrame(go));"
+
 
 def missing(browser):
     """The reason why a browser cannot be driven here, or nothing."""
@@ -59,6 +63,10 @@ class Window:
         """The same for a script with `await`."""
         return self.js(f"return (async (...words) => {{ {source} }})(...arguments)", *words)
 
+    def act(self, source, *words):
+        """The result of a script that changes the page, once the change is drawn."""
+        return self.later(f"const acted = (() => {{ {source} }})(); {DRAWN} return acted", *words)
+
     def png(self):
         return self.driver.get_screenshot_as_png()
 
@@ -68,6 +76,7 @@ class Window:
 
     def type(self, selector, *keys):
         self.driver.find_element(By.CSS_SELECTOR, selector).send_keys(*keys)
+        self.later(DRAWN)
 
     def select(self, selector):
         """Select the text of a control, so that typing replaces it."""
@@ -80,6 +89,7 @@ class Window:
 
     def press(self, *keys):
         ActionChains(self.driver, duration=0).send_keys(*keys).perform()
+        self.later(DRAWN)
 
     def corner(self, name):
         """Scroll an element into view, and return its upper left corner."""
@@ -93,6 +103,7 @@ class Window:
         actions = ActionBuilder(self.driver, duration=0)
         actions.pointer_action.move_to_location(round(left + x), round(top + y)).click()
         actions.perform()
+        self.later(DRAWN)
 
     def drag(self, name, x, to, y):
         """Drag inside an element, at height y, from one x to another."""
@@ -101,6 +112,7 @@ class Window:
         pointer = actions.pointer_action.move_to_location(round(left + x), round(top + y)).pointer_down()
         pointer.move_to_location(round(left + to), round(top + y)).pointer_up()
         actions.perform()
+        self.later(DRAWN)
 
     def open(self):
         """Open a second window, and return the handles of both."""
@@ -120,13 +132,16 @@ class Window:
         return self.js("return document.getElementById(arguments[0]).value", name)
 
     def click(self, name):
-        self.js("document.getElementById(arguments[0]).click()", name)
+        """Click on a control, once it is enabled: until then a click does nothing."""
+        script = "const it = document.getElementById(words[0]), isEnabled = !it.disabled; it.click(); return isEnabled"
+        if not holds(lambda: self.act(script, name)):
+            raise AssertionError(f"the control {name} stays disabled")
 
     def set(self, name, value, event="change"):
         """Give a control a value, as a user who types or chooses it."""
-        self.js(
-            "const it = document.getElementById(arguments[0]); it.value = arguments[1];"
-            "it.dispatchEvent(new Event(arguments[2], {bubbles: true}))", name, str(value), event)
+        self.act(
+            "const it = document.getElementById(words[0]); it.value = words[1];"
+            "it.dispatchEvent(new Event(words[2], {bubbles: true}))", name, str(value), event)
 
     def step(self):
         return self.js("return lab.player.step")

@@ -190,7 +190,7 @@ class Teaching(OnPage):
         self.page.js("lab.player.show(30)")
         self.page.keys("b")  # nobody is followed
         self.page.click("follow")
-        self.hold(lambda: not self.page.js("return document.getElementById('brake').disabled"))
+        self.assertFalse(self.page.js("return document.getElementById('brake').disabled"))
         step, car = 30, self.page.js("return lab.player.car")
         [lane] = snapshots(text)[step].lanes
         self.page.keys("b")
@@ -214,6 +214,16 @@ class Teaching(OnPage):
         self.follows_in_the_new_run(car)
         self.page.keys(Keys.ESCAPE)
         self.hold(lambda: self.page.js("return lab.player.car") is None)
+
+    def test_a_car_that_brakes_is_followed_no_longer(self):
+        """Escape counts also before the new run has begun, so both come in one script."""
+        text = self.show_job()
+        self.run_to(20)
+        self.page.click("follow")
+        self.page.act("""document.getElementById('brake').click();
+            document.body.dispatchEvent(new KeyboardEvent('keydown', {key: 'Escape', bubbles: true}))""")
+        self.hold(lambda: self.page.job() != text and self.page.step() == 0)
+        self.assertIsNone(self.page.js("return lab.player.car"))
 
 
 @unittest.skipIf(missing("chromium"), missing("chromium"))

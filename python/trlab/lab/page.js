@@ -30,6 +30,7 @@ const MAX_CELLS = 100000;
 const COLLECTING = 25;
 let job = structuredClone(FIRST), examples = {}, table = "";
 let since = Infinity; // the first step that changes, as long as the change is not run (-1: the road)
+let braked = null; // the car that the next run follows from its start
 const motion = new Editor("motion"), change = new Editor("change"), text = new Editor("text");
 let stays = false; // whether the message outlives the start of the next run
 const complain = fault => { $("fault").textContent = fault.message ?? fault; };
@@ -76,12 +77,14 @@ function drive(source, step = -1) {
   since = Infinity;
   if (!stays) complain("");
   stays = false;
-  if (step < 0) player.load(open, job);
+  if (step < 0) player.load(open, job, player.car && braked);
   else player.resume(open, steps, step);
+  braked = null;
   comparison.follow(job);
 }
-/** A control of the road has changed: start again, with the rule in force as the first one. */
-function begin() {
+/** A control of the road has changed: start again, with the rule in force as the first one, and follow a car of the new road. */
+function begin(car = null) {
+  braked = car;
   if (job.start === "file" && !roadFits(job)) job.start = "random";
   if (job.rules.some(rule => rule.live)) job.rules = [{ ...inForce(), at: 0, live: false }];
   return runJob();
@@ -123,10 +126,8 @@ async function brake() {
   if (!car || since < Infinity || film.length !== length || film.lanes !== lanes || film.limit !== limit) return;
   job = disturbed(job, film, car);
   $("story").textContent = disturbanceWords(car, lanes);
-  await begin();
-  player.car = { ...car, step: 0 };
-  player.redraw();
-  show(true);
+  await begin({ ...car, step: 0 });
+  show();
 }
 /** Change the length or the lanes, and keep the density. */
 function resize(what) {
@@ -277,7 +278,7 @@ const stepsOf = (name, found) => (found?.job ?? (/\.(job|sweep)$/.test(name) ? j
 async function showBranches(what) {
   Object.assign(job, structuredClone(what));
   await begin();
-  show(true);
+  show();
   await sweepNow("branches", BRANCHES);
 }
 /** Rules in Python drive the road from the start; if they change lanes, there are two of them. */

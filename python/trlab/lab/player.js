@@ -25,10 +25,11 @@ export class Player {
     this.setRate();
     requestAnimationFrame(now => this.tick(now));
   }
-  /** Play a run from the start. `open(from, signal)` gives the response whose snapshots begin at the step `from`. */
-  load(open, job) {
+  /** Play a run from the start, and follow a car of its first road. `open(from, signal)` gives the response whose snapshots begin
+   * at the step `from`. */
+  load(open, job, car = null) {
     this.film = new Film(job);
-    Object.assign(this, { step: -1, car: null, phase: 1, moving: this.playing, drawn: -1, lens: job.length / 2 });
+    Object.assign(this, { step: -1, car, phase: 1, moving: this.playing, drawn: -1, lens: job.length / 2 });
     this.begin(open);
     this.legend(job.limit);
   }
