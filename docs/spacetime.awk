@@ -56,7 +56,7 @@ function draw(lane, speed, x, run,  y) {
 }
 
 # Continues the line of the car that has reached this cell. A car came from its own lane if there was one, and otherwise from
-# the other lane: its line begins anew, as it does at the end of the road.
+# the other lane. Then another line begins, as it does at the end of the road.
 function follow(lane, speed, x,  came, car) {
     came = (x - speed + cells) % cells
     if (every == 1 && (lane, came) in before) {

@@ -26,7 +26,7 @@ MAX_WORDS = {
     "CHANGELOG.md": 1600,
     "CONTRIBUTING.md": 1700,
     "README.md": 1400,
-    "docs/CHEATSHEET.md": 670,
+    "docs/CHEATSHEET.md": 680,
     "docs/COURSE.md": 1880,
     "docs/ERRORS.md": 2130,
     "docs/FAQ.md": 930,
