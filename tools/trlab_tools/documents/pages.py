@@ -7,7 +7,7 @@ from ..finding import match_in
 from . import standing
 
 # For pages with many blocks, which do not count.
-MAX_WORDS_OUTSIDE_BLOCKS = {"README.md": 1040, "docs/TUTORIAL.md": 850, "docs/CHEATSHEET.md": 550, "docs/FAQ.md": 980}
+MAX_WORDS_OUTSIDE_BLOCKS = {"README.md": 1050, "docs/TUTORIAL.md": 850, "docs/CHEATSHEET.md": 550, "docs/FAQ.md": 980}
 INDEX = "docs/README.md"
 NUMBER = re.compile(r"\d+\.\d+")
 REPRODUCED = re.compile(r"^\| \[[^]]*\]\((studies/[^)]*)\): [^|]*\| (.*) \|$", re.M)
