@@ -2,8 +2,12 @@
 #
 #   awk -f docs/diagram.awk flow.csv > flow.svg
 #
-# Each table is one curve, labelled with the name of its file; a table from standard input has no label. Tables of
-# `series` whose names differ only after ", key" share one label and one colour.
+# Each table is one curve, labelled with the name of its file; a table from standard input has no label. Tables whose names
+# differ only after ", key" share one label: tables of `sweep` are one curve of means with bars of one standard error to both
+# sides, and tables of `series` are curves of one colour. So are several tables from standard input.
+#
+#   awk -v limit=5 -f docs/diagram.awk flow.csv    also draws the flow without random braking, which is proved, in grey
+#   awk -v changes=1 -f docs/diagram.awk flow.csv  draws the rate of lane changes instead of the flow
 
 BEGIN {
     FS = ","
@@ -21,15 +25,14 @@ $0 == sweep_heading || $0 == series_heading {
     label[tables] = FILENAME
     sub(/^.*\//, "", label[tables])
     sub(/\.csv$/, "", label[tables])
-    if (is_series) {
-        sub(/, key .*$/, "", label[tables])
-        add_point(0, 0)
-    }
+    sub(/, key .*$/, "", label[tables])
     if (!(label[tables] in paint)) {
         labels++
         paint[label[tables]] = color[(labels - 1) % colors + 1]
         row[label[tables]] = labels
+        curve_of[label[tables]] = tables
     }
+    if (is_series) add_point(0, 0)
     columns = NF
     next
 }
@@ -40,8 +43,8 @@ FNR == 1 { refuse("this is not a table of trlab sweep or trlab series: " $0) }
 # A window of a series: how far a car has come by its end, as a mean over all cars.
 is_series && $2 > 0 { add_point($1, y[tables, points[tables]] + $5 / $2); next }
 
-# A point of a fundamental diagram.
-!is_series { add_point($1 / $2, $7 / 1000000) }
+# A point of a fundamental diagram: its flow or rate of lane changes, on the curve of the first table with its label.
+!is_series { add_result(curve_of[label[tables]], $1 / $2, !changes ? $7 / 1000000 : $1 * $3 ? 1000 * $6 / ($1 * $3) : 0) }
 
 # Whether the flow of a row follows from its distance, cells and steps: in a row that is cut off it does not.
 function is_row(before,  area, difference) {
@@ -56,12 +59,44 @@ function refuse(why) {
     exit 1
 }
 
-function add_point(across, up) {
+function add_point(right_by, high_by) {
     points[tables]++
-    x[tables, points[tables]] = across
-    y[tables, points[tables]] = up
-    if (across > widest) widest = across
-    if (up > highest) highest = up
+    x[tables, points[tables]] = right_by
+    y[tables, points[tables]] = high_by
+    fit(right_by, high_by)
+}
+
+# Makes room for a point.
+function fit(right_by, high_by) {
+    if (right_by > widest) widest = right_by
+    if (high_by > highest) highest = high_by
+}
+
+# Adds a result to the point of a curve at this density. The squares are of distances from the first result, so that rounding
+# does not matter.
+function add_result(t, density, result,  k) {
+    if (!((t, density) in number)) {
+        number[t, density] = ++points[t]
+        x[t, points[t]] = density
+        base[t, points[t]] = result
+    }
+    k = number[t, density]
+    results[t, k]++
+    sum[t, k] += result - base[t, k]
+    squares[t, k] += (result - base[t, k]) ^ 2
+}
+
+# The means of a curve, and their standard errors if there are several results.
+function take_means(t,  k, n, variance) {
+    for (k = 1; k <= points[t]; k++) {
+        n = results[t, k]
+        y[t, k] = base[t, k] + sum[t, k] / n
+        if (n > 1) {
+            variance = (squares[t, k] - sum[t, k] ^ 2 / n) / (n - 1)
+            error[t, k] = variance > 0 ? sqrt(variance / n) : 0
+        }
+        fit(x[t, k], y[t, k] + error[t, k])
+    }
 }
 
 function across(x) { return left + (right - left) * x / width }
@@ -98,19 +133,36 @@ function axes(below, beside,  step, k) {
     text(22, (top + bottom) / 2, "middle", beside, sprintf(" transform=\"rotate(-90 22 %.1f)\"", (top + bottom) / 2))
 }
 
-# A curve, with a circle at each point of a fundamental diagram.
+# A curve, with a circle and a bar for its error at each point of a fundamental diagram.
 function curve(t,  k) {
     printf "<polyline fill=\"none\" stroke=\"%s\" stroke-width=\"1.5\" points=\"", paint[label[t]]
     for (k = 1; k <= points[t]; k++) printf "%.1f,%.1f ", across(x[t, k]), up(y[t, k])
     print "\"/>"
-    for (k = 1; k <= points[t] && !is_series; k++)
+    for (k = 1; k <= points[t] && !is_series; k++) {
+        if (error[t, k]) bar(across(x[t, k]), up(y[t, k] - error[t, k]), up(y[t, k] + error[t, k]), paint[label[t]])
         printf "<circle cx=\"%.1f\" cy=\"%.1f\" r=\"3\" fill=\"%s\"/>\n", across(x[t, k]), up(y[t, k]), paint[label[t]]
+    }
+}
+
+function bar(x, low, high, stroke) {
+    printf "<path fill=\"none\" stroke=\"%s\" d=\"M%.1f %.1fV%.1fm-3 0h6M%.1f %.1fh6\"/>\n", stroke, x, low, high, x - 3, low
+}
+
+# The flow without random braking: the proved triangle, up to the highest density.
+function triangle(  peak, end) {
+    peak = 1 / (limit + 1)
+    end = widest > 1 ? 1 : widest
+    printf "<polyline fill=\"none\" stroke=\"#909090\" points=\"%.1f,%.1f ", across(0), up(0)
+    if (end > peak) printf "%.1f,%.1f ", across(peak), up(limit * peak)
+    printf "%.1f,%.1f\"/>\n", across(end), up(end > peak ? 1 - end : limit * end)
+    text(right - 8, top + 18 * (named + 1), "end", "v_max = " limit ", p = 0, proved", " fill=\"#707070\"")
 }
 
 # The label of curves: on the right in their colour, or, in the empty corner of distances, after a line in it.
 function legend(name,  y) {
     if (name == "" || name == "-") return
     y = top + 18 * row[name]
+    named = row[name]
     if (!is_series) text(right - 8, y, "end", name, " fill=\"" paint[name] "\"")
     else {
         line(left + 14, y - 4, left + 38, y - 4, paint[name])
@@ -121,15 +173,19 @@ function legend(name,  y) {
 END {
     if (failed) exit 1
     if (!tables) refuse("there is no table: did trlab reject its input?")
+    for (t = 1; t <= tables && !is_series; t++) if (curve_of[label[t]] == t) take_means(t)
+    has_triangle = limit > 0 && !is_series && !changes
+    if (has_triangle && highest < limit / (limit + 1)) highest = limit / (limit + 1)
     width = widest > 0 ? widest : 1
     height = highest > 0 ? highest * 1.05 : 1
     print "<svg xmlns=\"http://www.w3.org/2000/svg\" viewBox=\"0 0 580 400\" font-family=\"sans-serif\" font-size=\"13\">"
     print "<rect width=\"580\" height=\"400\" fill=\"white\"/>"
     if (is_series) axes("time (steps)", "mean distance per car (cells)")
-    else axes("density (cars per cell)", "flow (cars per step)")
+    else axes("density (cars per cell)", changes ? "lane changes per 1000 car-steps" : "flow (cars per step and lane)")
     for (t = 1; t <= tables; t++) {
-        curve(t)
-        if (label[t] != label[t - 1]) legend(label[t])
+        if (is_series || curve_of[label[t]] == t) curve(t)
+        if (curve_of[label[t]] == t) legend(label[t])
     }
+    if (has_triangle) triangle()
     print "</svg>"
 }

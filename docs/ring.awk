@@ -1,14 +1,14 @@
 # A moving picture of the output of `trlab run` on one lane: a ring of cars, as an animated SVG image for browsers.
 #
-#   ./trlab run < examples/phantom_jams.job | awk -f docs/ring.awk > ring.svg
+#   ./trlab run < examples/platoon.job | awk -f docs/ring.awk > ring.svg
 #
 # The run is shown again and again, five steps per second (with `-v steps=60` only its first 60 steps). The colour of a
 # car is its speed, as in a space-time diagram. Snapshots must be of consecutive steps.
 
 BEGIN {
     signs = "0123456789abcdefghijklmnopqrstuvwxyz"
-    # Red, green and blue of the colour map viridis at nine equal distances, from dark violet to yellow.
-    split("68 1 84 71 45 123 59 82 139 44 114 142 33 145 140 40 174 128 94 201 98 173 220 48 253 231 37", map, " ")
+    # Red, green and blue of the colours of speeds at equal distances, as in spacetime.awk: dark red, orange, blue.
+    hues = split("122 16 22 208 66 24 243 154 46 142 196 232 76 142 200 26 86 150", map, " ") / 3 - 1
 }
 
 $1 == "step" {
@@ -58,10 +58,10 @@ function refuse(why) {
 # The angle of a car that has driven this far, in degrees to the right of the top.
 function degrees(far) { return sprintf("%.5g", 360 * far / cells) }
 
-# The colour of a speed in three hexadecimal digits, from dark for stopped cars to light for the fastest ones.
+# The colour of a speed in three hexadecimal digits, from dark red for stopped cars to blue for the fastest ones.
 function colour(speed,  place, k) {
-    place = fastest ? 8 * 0.92 * speed / fastest : 0
-    k = int(place)
+    place = fastest ? hues * speed / fastest : 0
+    k = place < hues ? int(place) : hues - 1
     return sprintf("#%x%x%x", between(k, place - k, 1), between(k, place - k, 2), between(k, place - k, 3))
 }
 
@@ -70,10 +70,12 @@ function between(k, share, part) {
 }
 
 # A car moves during a step with the speed that the next snapshot shows.
-function car_of(car,  count, parts, k, colours) {
+function car_of(car,  count, parts, k, colours, first) {
     count = split(speeds[car], parts, " ")
     for (k = 2; k <= count; k++) colours = colours (k > 2 ? ";" : "") colour(parts[k])
-    printf "<circle cy=\"-120\" r=\"%.1f\" fill=\"%s\">", radius, colour(parts[1])
+    # Programs that show no movement show the first snapshot.
+    first = substr(angles[car], 1, index(angles[car], ";") - 1)
+    printf "<circle cy=\"-120\" r=\"%.1f\" fill=\"%s\" transform=\"rotate(%s)\">", radius, colour(parts[1]), first
     timing = sprintf("dur=\"%.1fs\" repeatCount=\"indefinite\"", (count - 1) / 5)
     printf "<animateTransform attributeName=\"transform\" type=\"rotate\" %s values=\"%s\"/>", timing, angles[car]
     printf "<animate attributeName=\"fill\" calcMode=\"discrete\" %s values=\"%s\"/></circle>\n", timing, colours

@@ -2,14 +2,16 @@
 #
 #   ./trlab run < examples/jams.job | awk -f docs/spacetime.awk > jams.svg
 #
-# Time runs down. The colour of a car is its speed, and empty cells are white. Two lanes are drawn side by side.
-# Snapshots may be several steps apart, at equal distances.
+# Time runs down. The colour of a car is its speed, and empty cells are white. A grey line leads from each car to its
+# next cell, and moving cars are flatter than their cells: otherwise fast cars at nearly equal distances would look like a
+# pattern that moves backwards. Two lanes are drawn side by side. Snapshots may be several steps apart, at equal distances;
+# then there are no lines.
 
 BEGIN {
     signs = "0123456789abcdefghijklmnopqrstuvwxyz"
     left = 64; top = 30; gap = 24
-    # Red, green and blue of the colour map viridis at nine equal distances, from dark violet to yellow.
-    split("68 1 84 71 45 123 59 82 139 44 114 142 33 145 140 40 174 128 94 201 98 173 220 48 253 231 37", map, " ")
+    # Red, green and blue of the colours of speeds at equal distances, as in the page of trlab-lab: dark red, orange, blue.
+    hues = split("122 16 22 208 66 24 243 154 46 142 196 232 76 142 200 26 86 150", map, " ") / 3 - 1
 }
 
 $1 == "step" {
@@ -17,6 +19,9 @@ $1 == "step" {
     else if (steps == 2) every = $2 - first
     else if ($2 != first + (steps - 1) * every) refuse("the snapshots are not at equal distances of steps: step " $2)
     lane = 0
+    split("", before)
+    for (place in now) before[place] = now[place]
+    split("", now)
     next
 }
 
@@ -27,7 +32,9 @@ $1 == "step" {
     for (x = 0; x < cells; x += run) {
         sign = substr($0, x + 1, 1)
         for (run = 1; substr($0, x + run + 1, 1) == sign; run++) { }
-        if (sign != ".") draw(lane, index(signs, sign) - 1, x, run)
+        if (sign == ".") continue
+        draw(lane, index(signs, sign) - 1, x, run)
+        for (k = 0; k < run; k++) follow(lane, index(signs, sign) - 1, x + k)
     }
     if (++lane > lanes) lanes = lane
 }
@@ -48,6 +55,52 @@ function draw(lane, speed, x, run,  y) {
     if (speed > fastest) fastest = speed
 }
 
+# Continues the line of the car that has reached this cell. A car came from its own lane if there was one, and otherwise from
+# the other lane. Then another line begins, as it does at the end of the road.
+function follow(lane, speed, x,  came, car) {
+    came = (x - speed + cells) % cells
+    if (every == 1 && (lane, came) in before) {
+        car = before[lane, came]
+        move(car, speed)
+        if (x < came) {
+            finish(car, lane)
+            begin(car, came - cells)
+            move(car, speed)
+        }
+    } else if (every == 1 && (1 - lane, came) in before) {
+        car = before[1 - lane, came]
+        finish(car, 1 - lane)
+        begin(car, x - speed)
+        move(car, speed)
+    } else begin(car = ++cars, x)
+    now[lane, x] = car
+}
+
+# Begins the line of a car at this cell of the snapshot before; the first line begins in its own snapshot.
+function begin(car, x) {
+    trail[car] = "M" x " " (car in run_of ? steps - 2 : steps - 1)
+    run_of[car] = 0
+}
+
+# Steps of the same speed are one piece of a line.
+function move(car, speed) {
+    if (run_of[car] && speed_of[car] != speed) trail[car] = trail[car] piece_of(car)
+    run_of[car] = speed_of[car] == speed ? run_of[car] + 1 : 1
+    speed_of[car] = speed
+}
+
+function piece_of(car,  count) {
+    count = run_of[car]
+    run_of[car] = 0
+    return !count ? "" : speed_of[car] ? "l" speed_of[car] * count " " count : "v" count
+}
+
+# Ends the line of a car on its lane.
+function finish(car, lane) {
+    trail[car] = trail[car] piece_of(car)
+    if (trail[car] ~ /[lv]/) trails[lane, ++count_of[lane]] = trail[car]
+}
+
 function text(x, y, anchor, what,  more) {
     printf "<text x=\"%.1f\" y=\"%.1f\" text-anchor=\"%s\"%s>%s</text>\n", x, y, anchor, more, what
 }
@@ -56,10 +109,10 @@ function line(x1, y1, x2, y2) {
     printf "<line x1=\"%.1f\" y1=\"%.1f\" x2=\"%.1f\" y2=\"%.1f\" stroke=\"#404040\"/>\n", x1, y1, x2, y2
 }
 
-# The colour of a speed, from dark for stopped cars to light for the fastest ones.
+# The colour of a speed, from dark red for stopped cars to blue for the fastest ones.
 function colour(speed,  at, k) {
-    at = fastest ? 8 * 0.92 * speed / fastest : 0
-    k = int(at)
+    at = fastest ? hues * speed / fastest : 0
+    k = at < hues ? int(at) : hues - 1
     return sprintf("#%02x%02x%02x", between(k, at - k, 1), between(k, at - k, 2), between(k, at - k, 3))
 }
 
@@ -75,17 +128,25 @@ function mark_step(scale, room,  step, k) {
 }
 
 # A lane: its frame, a path for each speed, and its axis of positions.
-function panel(lane, x,  speed, y, step, mark) {
+function panel(lane, x,  speed, y, step, mark, k) {
     printf "<rect x=\"%.1f\" y=\"%d\" width=\"%.1f\" height=\"%.1f\" fill=\"white\" stroke=\"#b0b0b0\"/>\n", x, top, wide, high
-    printf "<g transform=\"translate(%.1f %d) scale(%.4f %.4f)\"%s>\n", x, top, across, down, \
-        (across < 1 || down < 1 ? "" : " shape-rendering=\"crispEdges\"")
+    # What is outside of the lane is not shown: the line of a car that passes its end goes on there.
+    printf "<svg x=\"%.1f\" y=\"%d\" width=\"%.1f\" height=\"%.1f\" viewBox=\"0 0 %d %d\" preserveAspectRatio=\"none\">\n", \
+        x, top, wide, high, cells, steps
+    if (count_of[lane]) {
+        printf "<path fill=\"none\" stroke=\"#a0a0a0\" stroke-width=\"%.2f\" transform=\"translate(.5 .5)\" d=\"", \
+            across < 6 ? 0.25 : 1.5 / across
+        for (k = 1; k <= count_of[lane]; k++) print trails[lane, k]
+        print "\"/>"
+    }
+    printf "<g%s>\n", across < 1 || down < 1 ? "" : " shape-rendering=\"crispEdges\""
     for (speed = 0; speed <= fastest; speed++) {
         if (!((lane, speed) in at_x)) continue
-        printf "<path stroke=\"%s\" d=\"M0 .5\n", colour(speed)
+        printf "<path stroke=\"%s\"%s d=\"M0 .5\n", colour(speed), speed ? " stroke-width=\".6\"" : ""
         for (y = 0; y < steps; y++) if ((lane, speed, y) in piece) print piece[lane, speed, y]
         print "\"/>"
     }
-    print "</g>"
+    print "</g>\n</svg>"
     step = mark_step(across, 12 + 9 * length(cells))
     for (mark = 0; mark < cells; mark += step) {
         line(x + across * (mark + 0.5), top + high, x + across * (mark + 0.5), top + high + 5)
@@ -123,6 +184,7 @@ END {
     if (failed) exit 1
     if (!cells) refuse("there is no snapshot: did trlab reject its input, or is `--from` after the last step?")
     fastest += 0
+    for (place in now) finish(now[place], substr(place, 1, index(place, SUBSEP) - 1))
     across = (lanes > 1 ? 300 : 600) / cells
     if (across > 12) across = 12
     down = steps * across > 700 ? 700 / steps : across

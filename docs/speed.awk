@@ -2,13 +2,15 @@
 #
 #   awk -f docs/speed.awk docs/speed.tsv > docs/speed.svg
 #
-# It shows the rules on long roads, 100000 cells per lane, three cars on ten cells: a bar for each program that has one.
+# It shows the rules on long roads, 100000 cells per lane, three cars on ten cells: a bar for each program that has one, and
+# one for the random numbers of trlab without anything else.
 
 BEGIN {
     FS = "\t"
-    left = 90; right = 600; top = 20; thickness = 14
-    colors = split("#0072b2 #999999 #e69f00 #d55e00 #009e73 #cc79a7", color, " ")
-    split("trlab floor plain interpreter numba NumPy", shown, " ")
+    left = 140; right = 600; top = 20; thickness = 14
+    colors = split("#0072b2 #999999 #e69f00 #009e73 #cc79a7", color, " ")
+    split("trlab floor plain numba NumPy", shown, " ")
+    split("trlab,its random numbers,plain Rust,numba,NumPy", name, ",")
 }
 
 # The heading names the columns.
@@ -44,7 +46,7 @@ function bars(r, y,  k) {
     y += 6
     for (k = 1; k <= colors; k++) {
         if (!time[r, k]) continue
-        text(left - 8, y + thickness - 3, "end", shown[k])
+        text(left - 8, y + thickness - 3, "end", name[k])
         printf "<rect x=\"%.1f\" y=\"%.1f\" width=\"%.1f\" height=\"%d\" fill=\"%s\"/>\n",
             left, y, across(time[r, k]) - left, thickness - 2, color[k]
         text(across(time[r, k]) + 6, y + thickness - 3, "start", sprintf("%.1f", time[r, k]))
@@ -53,13 +55,24 @@ function bars(r, y,  k) {
     return y + 26
 }
 
+# Grey lines at every ten nanoseconds, and their numbers below the bars.
+function axis(bottom,  at) {
+    for (at = 0; at <= slowest; at += 10) {
+        printf "<line x1=\"%.1f\" y1=\"%d\" x2=\"%.1f\" y2=\"%d\" stroke=\"#e0e0e0\"/>\n", across(at), top + 6, across(at), bottom
+        text(across(at), bottom + 14, "middle", at)
+    }
+}
+
 END {
     for (r = 1; r <= rules; r++) for (k = 1; k <= colors; k++) if (time[r, k]) lines++
-    height = top + rules * 32 + lines * thickness + 20
+    bottom = top + rules * 32 + lines * thickness - 18
+    height = bottom + 60
     printf "<svg xmlns=\"http://www.w3.org/2000/svg\" viewBox=\"0 0 660 %d\" font-family=\"sans-serif\" font-size=\"12\">\n", height
     printf "<rect width=\"660\" height=\"%d\" fill=\"white\"/>\n", height
+    axis(bottom)
     y = top
     for (r = 1; r <= rules; r++) y = bars(r, y)
-    text((left + right) / 2, y, "middle", "nanoseconds per car and step")
+    text((left + right) / 2, bottom + 32, "middle", "nanoseconds per car and step")
+    text(660 / 2, bottom + 52, "middle", "plain Rust: by hand, with the random numbers of trlab; numba and NumPy: with simpler ones")
     print "</svg>"
 }

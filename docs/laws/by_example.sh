@@ -75,12 +75,12 @@ has the distance 7 + 2 = 9. For the whole road min(v N, E) would be 10:'
         END { print NR - 1 " points, " wrong + 0 " off the triangle" }'
     grep warm examples/triangle.sweep
 
-    say 'docs/triangle.svg shows the triangles of four limits, and below them the same model with p = 0.25. Drawn again as
-study/triangle.svg.'
+    say 'docs/triangle.svg shows the triangles of four limits, and below them the same model with p = 0.25, as means of
+eight random seeds. Drawn again as study/triangle.svg.'
     for limit in 1 2 3 5; do
         sed "s/^limit .*/limit $limit/" examples/triangle.sweep | ./trlab sweep > "study/limit $limit.csv"
     done
-    cp examples/fundamental_diagram.csv "study/limit 5, p = 0.25.csv"
+    sh docs/repeat.sh < examples/fundamental_diagram.sweep > "study/limit 5, p = 0.25.csv"
     awk -f docs/diagram.awk study/limit\ [1-5].csv "study/limit 5, p = 0.25.csv" > study/triangle.svg
 }
 

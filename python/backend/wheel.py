@@ -1,10 +1,10 @@
 """Builds the Python package: the PEP 517 backend that pyproject.toml names, with the standard library only.
 
-A wheel contains the module, the examples, the commands `trlab` and `trlab-lab`, and programs of release/: the wheel for Linux
-has the packed native programs for both processor levels, and the wheel for any machine has the page that contains the program
-in WebAssembly, and the scripts with which Node runs it. The bytes of a wheel depend only on the files of the repository: nothing
-in it is compressed again, and no time is written down. An editable wheel contains only the path of python/, so that the module
-of the checkout is used."""
+A wheel contains the module, the examples, the commands `trlab` and `trlab-lab`, the man page and the completion for bash in
+share/, and programs of release/: the wheel for Linux has the packed native programs for both processor levels, and the wheel for
+any machine has the page that contains the program in WebAssembly, and the scripts with which Node runs it. The bytes of a wheel
+depend only on the files of the repository: nothing in it is compressed again, and no time is written down. An editable wheel
+contains the path of python/ instead of the module, so that the module of the checkout is used."""
 import base64
 import hashlib
 import io
@@ -22,6 +22,7 @@ TOP = Path(__file__).resolve().parents[2]
 MODULE = TOP / "python" / "trlab"
 RELEASE = TOP / "release"
 EXAMPLES = TOP / "examples"
+SHARE = TOP / "share"
 NODE = TOP / "node"
 # The native programs need x86-64 Linux with glibc 2.34 or later; the module itself runs with any Python 3.
 TAGS = {"native": "py3-none-manylinux_2_34_x86_64", "any": "py3-none-any"}
@@ -74,6 +75,15 @@ def example_files():
     """The examples that the page of trlab-lab offers, by their paths in the wheel."""
     files = [file for file in EXAMPLES.iterdir() if file.suffix in {".job", ".sweep", ".rule", ".py"}]
     return {f"trlab/lab/examples/{file.name}": file.read_bytes() for file in files}
+
+
+def shared_files():
+    """The man page and the completion for bash, by their paths in the wheel; installers put them into share/ beside bin/."""
+    return {f"trlab-{version()}.data/data/{file.relative_to(TOP).as_posix()}": file.read_bytes() for file in files_of_share()}
+
+
+def files_of_share():
+    return sorted(file for file in SHARE.rglob("*") if file.is_file())
 
 
 def native_files():
@@ -131,7 +141,7 @@ def build(folder, kind):
     if not is_of_these_sources():
         print("trlab: the packed programs are those of the last release, not of the sources here", file=sys.stderr)
     programs = native_files() if kind == "native" else portable_files()
-    return written(folder, {**module_files(), **example_files(), **programs}, TAGS[kind])
+    return written(folder, {**module_files(), **example_files(), **shared_files(), **programs}, TAGS[kind])
 
 
 def build_wheel(wheel_directory, config_settings=None, metadata_directory=None):
@@ -142,14 +152,14 @@ def build_wheel(wheel_directory, config_settings=None, metadata_directory=None):
 
 def build_editable(wheel_directory, config_settings=None, metadata_directory=None):
     """Builds the wheel that `pip install -e .` installs: it leads to the module of this checkout."""
-    return written(wheel_directory, {"trlab.pth": f"{MODULE.parent}\n".encode()}, TAGS["any"])
+    return written(wheel_directory, {"trlab.pth": f"{MODULE.parent}\n".encode(), **shared_files()}, TAGS["any"])
 
 
 def build_sdist(sdist_directory, config_settings=None):
     """Builds an archive from which the same wheel can be built."""
     name = f"trlab-{version()}"
     sources = [TOP / "pyproject.toml", *Path(__file__).parent.glob("*.py"), RELEASE / "release.txt", RELEASE / "sources"]
-    sources += [*RELEASE.glob("trlab-x86-64-v*.gz"), *RELEASE.glob(PAGE), *node_scripts()]
+    sources += [*RELEASE.glob("trlab-x86-64-v*.gz"), *RELEASE.glob(PAGE), *node_scripts(), *files_of_share()]
     sources += [MODULE / path[len("trlab/") :] for path in module_files()]
     sources += [EXAMPLES / Path(path).name for path in example_files()]
     with tarfile.open(Path(sdist_directory) / f"{name}.tar.gz", "w:gz", format=tarfile.PAX_FORMAT) as archive:

@@ -115,10 +115,14 @@ class Roads(unittest.TestCase):
         self.rejects([ROAD, ["0"]], "road 1 of `start` has 1 x 1 cells, and the sweep has 1 x 5")
         self.rejects([5 * [6]], "road 0 of `start`: a car has the speed 6, and the limit is 5")
         self.rejects([ROAD], "leave `cars` and `densities` out", cars=[2])
-        self.rejects("even", "for one road write")
+        self.rejects("0.0.0", "for one road write")
         self.assertRaisesRegex(
             ValueError, "has 1 x 2 cells, and the sweep has 2 x 2", replace, PAIRS, start=[[0, None], [0, None]]
         )
+
+    def test_names_of_initial_states_are_no_roads(self):
+        for name in "even", "jammed", "random":
+            self.rejects(name, f"`start` is a road, or even, .* without quotation marks, not '{name}'")
 
     @needs("numpy")
     def test_roads_of_numpy(self):

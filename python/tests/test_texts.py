@@ -78,6 +78,12 @@ class InitialStates(unittest.TestCase):
             ValueError, "has its own cars", Job, limit=5, start=[0, None], cars=1, rule=Nasch(0), steps=0
         )
 
+    def test_names_of_initial_states_are_no_roads(self):
+        for limit, name in (5, "random"), (35, "random"), (5, "even"), (5, "jam"), (5, "moving"):
+            with self.assertRaisesRegex(ValueError, f"or even, moving, .*without quotation marks, not '{name}'"):
+                Job(limit=limit, start=name, length=10, cars=2, rule=Nasch(0), steps=0)
+        self.assertEqual(Job(limit=35, start=["random"], rule=Nasch(0), steps=0).road()[0][1], 10)
+
     def test_no_more_cars_than_cells(self):
         self.assertRaisesRegex(ValueError, "cars must be between 0 and 12", self.road, even, cars=13)
 

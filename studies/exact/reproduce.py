@@ -132,17 +132,17 @@ def print_early_rings(asked, found):
 
 
 def draw_shares(study, z, below):
-    """Both tests: the share of results above each level against the share that is expected below it."""
+    """Both tests: the share of results below each level against the share that is expected there."""
     wide = 1.358 / len(z) ** 0.5  # Kolmogorov's bound for 95 %
-    band = [(0, 1), (wide, 1), (1, wide), (1, 0), (1 - wide, 0), (0, 1 - wide)]
+    band = [(0, 0), (0, wide), (1 - wide, 1), (1, 1), (1, 1 - wide), (wide, 0)]
     _, axes = plt.subplots()
     axes.fill(*zip(*band), color="0.9", label=f"95 % band of {len(z)} results")
-    axes.plot([0, 1], [1, 0], "-", color="0.3", linewidth=1, label="as expected")
+    axes.plot([0, 1], [0, 1], "-", color="0.3", linewidth=1, label="as expected")
     results = {f"z of {len(z)} flows": [NormalDist().cdf(it) for it in z], f"chi-square of {len(below)} runs": below}
     for name, values in results.items():
-        greater = 1 - (numpy.arange(len(values)) + 0.5) / len(values)
-        axes.plot(sorted(values), greater, "o", markersize=3, label=name)
-    axes.set(xlim=(0, 1), ylim=(0, 1), xlabel="expected share of smaller results", ylabel="share of greater results")
+        smaller = (numpy.arange(len(values)) + 0.5) / len(values)
+        axes.plot(sorted(values), smaller, "o", markersize=3, label=name)
+    axes.set(xlim=(0, 1), ylim=(0, 1), xlabel="expected share of smaller results", ylabel="share of smaller results")
     axes.legend()
     study.save(axes)
 

@@ -18,6 +18,7 @@ CHANCES = ["0", "1/1024", "1/256", "1/64", "1/16", "1/4", "1/2"]
 DENSITIES = ["1/30", "1/15", "1/10", "2/15", "3/20", "1/6", "11/60", "1/5", "7/30", "3/10", "2/5", "3/5", "4/5"]
 REPETITIONS = 4
 SETTLING = {"1/1024": "1/10", "1/256": "1/15"}  # a density for each of these p
+DISTANT = ["1/30", "1/10", "1/6", "2/5", "4/5"]  # the densities of the figure of distances
 # The densities of the page.
 SHOWN = [float(Fraction(density)) for density in ["1/30", "1/10", "3/20", "1/6", "1/5", "2/5", "4/5"]]
 
@@ -99,16 +100,33 @@ def means_by_chance(frame, name_of_sweep=str):
 
 
 def draw(study, found):
-    """The triangle, and the means below it."""
-    _, axes = plt.subplots()
+    """The triangle with the means below it, and how their distances from it grow with p."""
+    figure, (axes, distances) = plt.subplots(1, 2, figsize=(10, 4.4))
     corners = [0, 1 / (LIMIT + 1), 1]
-    axes.plot(corners, [triangle(density) for density in corners], "-", color="C6", linewidth=1, label="the triangle")
+    axes.plot(corners, [triangle(density) for density in corners], "-", color="0.6", linewidth=1, label="p = 0, proved")
     for number, (p, its) in enumerate(found.items()):
         colour = "black" if number == 6 else f"C{number}"
         trlab.plot_means(its, ax=axes, linestyle="none", capsize=0, color=colour, label=f"p = {p}")
     axes.set(xlim=(0, 1), ylim=(0, 0.9), title="means ± standard error, random initial states")
     axes.legend()
+    draw_distances(distances, found)
     study.save(axes)
+
+
+def draw_distances(axes, found):
+    """The distances at some densities against p, with logarithmic scales: a distance in proportion to p is a diagonal."""
+    p = [float(Fraction(chance)) for chance in CHANCES[1:]]
+    for shown in DISTANT:
+        density = float(Fraction(shown))
+        its = [curve.loc[min(curve.index, key=lambda it: abs(it - density))] for curve in map(found.get, CHANCES[1:])]
+        axes.errorbar(
+            p, [triangle(density) - it.flow for it in its], yerr=[it.flow_sem for it in its], marker="o",
+            label=f"density {shown}",
+        )
+    axes.set(xscale="log", yscale="log", xlabel="p", ylabel="distance below the triangle (cars per step)")
+    axes.set(xticks=p, xticklabels=CHANCES[1:])
+    axes.minorticks_off()
+    axes.legend()
 
 
 def main():

@@ -11,6 +11,9 @@ from .._inputs.numbers import MAX_SPEED, checked_int
 from .._libraries import library
 from .._results.snapshots import Snapshots
 
+HUES = [(122, 16, 22), (208, 66, 24), (243, 154, 46), (142, 196, 232), (76, 142, 200), (26, 86, 150)]
+"""Red, green and blue of the colours of speeds, from 0 to the highest one, at equal distances: those of `trlab-lab`."""
+
 _LINE = {"marker": "o", "markersize": 3, "linewidth": 1, "elinewidth": 1, "capsize": 2}
 
 
@@ -51,7 +54,7 @@ def plot_space_time(
     snapshots: Snapshots, lane: int = 0, ax: Any = None, limit: Optional[int] = None, **style: Any
 ) -> Any:
     """Draw the space-time diagram of a lane and return the axes: the speed of the car in each cell (cells per step)
-    against its position, with time running down. Empty cells are white.
+    against its position, with time running down. Stopped cars are dark red, fast ones blue, and empty cells white.
 
         ax = trlab.plot_space_time(job.run(every=10, first=1000))
         ax.figure.savefig("jams.png", dpi=200)
@@ -78,12 +81,18 @@ def plot_space_time(
     image = axes.imshow(speeds, **{
         "aspect": "auto", "interpolation": "nearest",
         "extent": (-0.5, speeds.shape[1] - 0.5, steps[-1] + half, steps[0] - half),
-        "cmap": library("matplotlib.pyplot").get_cmap("viridis", highest + 1), "vmin": -0.5, "vmax": highest + 0.5,
+        "cmap": _colours_of_speeds(highest), "vmin": -0.5, "vmax": highest + 0.5,
         **style,
     })
     scale = axes.figure.colorbar(image, ax=axes, label=label("speed"))
     scale.set_ticks(range(0, highest + 1, 1 if highest < 10 else 5))
     return axes
+
+
+def _colours_of_speeds(highest: int) -> Any:
+    """A colour map with a colour for each speed from 0 to the highest one."""
+    colours = [[part / 255 for part in colour] for colour in HUES]
+    return library("matplotlib.colors").LinearSegmentedColormap.from_list("speeds", colours, highest + 1)
 
 
 def _need_means(means: pandas.DataFrame, x: str, y: str) -> None:

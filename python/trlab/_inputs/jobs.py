@@ -15,7 +15,7 @@ from .._results.snapshots import Snapshot, Snapshots, snapshots_in
 from .._results.tables import Table, Window
 from . import long_jobs, reading
 from .rules import Rule, Schedule, need_rule
-from .states import InitialState, even, warn_of_uneven_lanes
+from .states import InitialState, even, need_no_name, warn_of_uneven_lanes
 from .roads import Road, cars_on, lanes_of, speeds_of
 from .numbers import (
     MAX_ALL_STEPS, MAX_CELLS, MAX_SPEED, MAX_STEPS, Density, Key, cars_at, checked_int, checked_key, derived_key,
@@ -82,6 +82,7 @@ class Job:
         warn_of_uneven_lanes(self.start, [self.count()], self.length, self.lanes)
 
     def _store_road(self) -> None:
+        need_no_name(self.start)
         road = lanes_of(self.start, self.limit)
         if self.cars is not None or self.density is not None:
             raise ParameterError("a road as `start` has its own cars: leave `cars` and `density` out")

@@ -86,6 +86,17 @@ jammed = InitialState("jammed")
 """Stopped in one block, on the first cells of the road."""
 
 
+NAMES = {*PLACEMENTS, "moving", "jam", "random_cells"}
+"""Words that are probably meant as an initial state, although a lane of fast cars can have these characters too."""
+
+
+def need_no_name(start: object) -> None:
+    """Raises `ParameterError` if `start` is the name of an initial state as a string."""
+    if isinstance(start, str) and start in NAMES:
+        states = "even, moving, jammed or random_cells(seed), without quotation marks"
+        raise ParameterError(f"`start` is a road, or {states}, not {shown(start)}")
+
+
 def random_cells(seed: int, speed: Optional[int] = 0) -> InitialState:
     """Uniformly random cells, the same in every version of Python. `seed`, 0 to 2**256 - 1, is independent of `key`.
     `speed` is the initial speed of all cars in cells per step, 0 to 35; None means the maximum speed. Raises

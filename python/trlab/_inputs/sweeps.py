@@ -17,7 +17,7 @@ from .numbers import (
 )
 from .roads import Road, cars_on, roads_of
 from .rules import Rule, need_rule
-from .states import InitialState, even, no_warning_of_lanes, warn_of_uneven_lanes
+from .states import InitialState, even, need_no_name, no_warning_of_lanes, warn_of_uneven_lanes
 from .arguments import input_text, option
 
 
@@ -70,6 +70,7 @@ class Sweep:
             densities = _listed("densities", self.densities)
             store(self, densities=tuple(share("a density of `densities`", density) for density in densities))
         if not isinstance(self.start, InitialState):
+            need_no_name(self.start)
             if not (self.cars is None and self.densities is None):
                 raise ParameterError("roads as `start` have their own cars: leave `cars` and `densities` out")
             store(self, start=roads_of(self.start, self.length, self.lanes, self.limit))

@@ -17,7 +17,7 @@ const GROUPS = {
       },
     },
     {
-      name: "A platoon breaks up", file: "phantom_jams.job",
+      name: "A platoon breaks up", file: "platoon.job",
       words: "Twenty cars drive with equal gaps. Each brakes with probability 1/4, and the pattern is lost within a few steps.",
     },
     {

@@ -67,11 +67,11 @@ def path(drawing: Drawing, places: List[int], stroke: str, width: float, radius:
 def legend(drawing: Drawing) -> None:
     lines = (
         (BLUE, "", "the last car: the lowest of the lines j = 0, 1, .."), (FADED, "", "the cars ahead of it"),
-        (GREEN, "", "a line j: v_max, from step j on"), (RED, "4 3", "the j-th car ahead, felt one step later per car"),
+        (GREEN, "", "a line j: v_max, from step j on"), (RED, "4 3", "the j-th car ahead, felt a step later per car"),
     )
     for row, (stroke, dashes, words) in enumerate(lines):
         level = BOTTOM + 66 + 20 * (row // 2)
-        left = LEFT - 40 + 318 * (row % 2)
+        left = LEFT - 40 + 310 * (row % 2)
         drawing.path(f"M{left:.1f} {level - 4:.1f}h22", stroke, 2.5 if stroke == BLUE else 1.5, dashes=dashes)
         drawing.text(left + 28, level, words, size=12)
 

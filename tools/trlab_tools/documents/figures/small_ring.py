@@ -88,5 +88,5 @@ def draw() -> str:
     drawing.text((LEFT + RIGHT) / 2, 532, "density (cars per cell)", "middle")
     for brake, stroke in CHANCES.items():
         curve(above, below, brake, stroke)
-    legend(drawing, above.across(0.28), 252)
+    legend(drawing, above.across(0.22), 262)
     return drawing.svg()

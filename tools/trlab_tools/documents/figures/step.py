@@ -1,5 +1,5 @@
 """One step of the Nagel-Schreckenberg model, row by row."""
-from .svg import BLUE, INK, RED, Drawing, Lane
+from .svg import INK, Drawing, Lane
 
 CELLS, LIMIT = 20, 5
 # The cells of the cars and their speeds, and which of them brake at random.
@@ -47,7 +47,7 @@ def draw() -> str:
         drawing.text(170, lane.y + (14 if more else 20), title, "end", weight="bold")
         drawing.text(170, lane.y + 30, more, "end", 12)
         for (begin, _), cell, speed, old in zip(CARS, cells, speeds, before):
-            lane.car(cell, speed, BLUE if speed > old else RED if speed < old else None)
+            lane.car(cell, speed, INK if speed != old else None)
             if cell != begin:
                 hop(drawing, lane, lane.middle(begin), lane.middle(cell))
         before = speeds

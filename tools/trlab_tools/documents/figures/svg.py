@@ -3,19 +3,19 @@ from typing import List, Optional, Tuple
 
 # The colours of text and lines, frames, and stressed, allowed and forbidden things.
 INK, FRAME, BLUE, GREEN, RED = "#303030", "#b0b0b0", "#0072b2", "#00805c", "#c04000"
-# Red, green and blue of the colour map viridis at nine equal distances, as in docs/spacetime.awk.
-MAP = [
-    (68, 1, 84), (71, 45, 123), (59, 82, 139), (44, 114, 142), (33, 145, 140),
-    (40, 174, 128), (94, 201, 98), (173, 220, 48), (253, 231, 37),
-]
+# Red, green and blue of the colours of speeds at equal distances, as in docs/spacetime.awk.
+HUES = [(122, 16, 22), (208, 66, 24), (243, 154, 46), (142, 196, 232), (76, 142, 200), (26, 86, 150)]
+
+
+def shades(speed: int, fastest: int) -> List[int]:
+    """Red, green and blue of a car: dark red if it is stopped, blue at the highest speed."""
+    at = (len(HUES) - 1) * speed / fastest
+    k = min(int(at), len(HUES) - 2)
+    return [round(a + (b - a) * (at - k)) for a, b in zip(HUES[k], HUES[k + 1])]
 
 
 def colour(speed: int, fastest: int) -> str:
-    """The colour of a car: dark if it is stopped, light at the highest speed."""
-    at = 8 * 0.92 * speed / fastest
-    k = min(int(at), 7)
-    parts = (round(a + (b - a) * (at - k)) for a, b in zip(MAP[k], MAP[k + 1]))
-    return "#" + "".join(f"{part:02x}" for part in parts)
+    return "#" + "".join(f"{part:02x}" for part in shades(speed, fastest))
 
 
 class Drawing:
@@ -116,5 +116,6 @@ class Lane:
         room, side = self.size * 0.1, self.size * 0.8
         fill = colour(speed, self.fastest)
         self.drawing.box(self.left(cell) + room, self.y + room, side, side, fill, mark or fill, 5, 3 if mark else 1)
-        shade = "white" if speed <= 0.6 * self.fastest else INK
+        red, green, blue = shades(speed, self.fastest)
+        shade = "white" if 0.3 * red + 0.59 * green + 0.11 * blue < 140 else INK
         self.drawing.text(self.middle(cell), self.y + self.size * 0.66, str(speed), "middle", self.size * 0.5, shade, "bold")

@@ -1,9 +1,11 @@
 """Kinematic waves: without randomization the pattern of a relaxed lane moves ahead at v_max in free flow, and back by one
 cell per step in a jam."""
 from .runs import rows
-from .svg import INK, RED, Drawing, colour
+from .svg import INK, Drawing, colour
 
 LIMIT, CELLS, STEPS, SIZE, TOP = 3, 40, 34, 7, 44
+# A green that is lighter than the colours of cars.
+MARK = "#00b060"
 FREE = "000..0...1........2.....0..............."
 JAM = "0000000.0000.0...0......0.........0....."
 
@@ -22,13 +24,13 @@ def characteristics(drawing: Drawing, left: float, row: str, first: int, ahead: 
         inside = [(step, cell) for step, cell in ends if 0 <= cell <= CELLS]
         if len(inside) > 1:
             points = "L".join(f"{left + SIZE * cell:.1f} {TOP + SIZE * (step + 0.5):.1f}" for step, cell in (inside[0], inside[-1]))
-            drawing.path(f"M{points}", RED, 1.5)
+            drawing.path(f"M{points}", MARK, 1.6)
 
 
 def panel(drawing: Drawing, left: float, lane: str, ahead: int, words: str) -> None:
     first = relaxed_from(lane)
     drawing.text(left + SIZE * CELLS / 2, TOP - 24, words, "middle", weight="bold")
-    drawing.text(left + SIZE * CELLS / 2, TOP - 8, "cells", "middle", 12)
+    drawing.text(left + SIZE * CELLS / 2, TOP - 8, "position (cells)", "middle", 12)
     drawing.box(left, TOP, SIZE * CELLS, SIZE * (STEPS + 1), "white", "#d0d0d0", 0)
     shown = rows(LIMIT, lane, ["rule nasch 0"], STEPS)
     for speed in range(LIMIT + 1):
@@ -48,7 +50,7 @@ def legend(drawing: Drawing, left: float, y: float) -> None:
         x = left + 44 + 34 * speed
         drawing.box(x, y - 9, 10, 10, colour(speed, LIMIT), "none", 0)
         drawing.text(x + 14, y, str(speed), size=12)
-    drawing.path(f"M{left + 196:.1f} {y - 4:.1f}h24", RED, 1.5)
+    drawing.path(f"M{left + 196:.1f} {y - 4:.1f}h24", MARK, 1.6)
     drawing.text(left + 226, y, "characteristic lines of a relaxed lane", size=12)
 
 

@@ -1,0 +1,10 @@
+# Runs a sweep with eight random seeds and prints the eight tables, for a figure of their means with error bars:
+#
+#   sh docs/repeat.sh < examples/fundamental_diagram.sweep | awk -v limit=5 -f docs/diagram.awk > flow.svg
+#
+# Run it at the top of the repository, which has ./trlab.
+set -e
+sweep=$(sed '/^key /d')
+for key in 1 2 3 4 5 6 7 8; do
+    echo "$sweep" | sed "1a key $(printf %064d $key)" | ./trlab sweep
+done
