@@ -28,6 +28,24 @@ class Diagram(OnPage):
         self.page.click("sweep")
         self.hold(lambda: self.page.js("return lab.table").startswith("cars,cells,steps,distance,stopped,changes,flow\n20,1000,1,"))
 
+    def test_the_numbers_of_a_point(self):
+        """A click at a point shows its numbers; a click elsewhere sets the density."""
+        self.page.click("sweep")
+        self.has_marks(30)
+        place = self.page.js("""document.getElementById('diagram').scrollIntoView({block: 'center'});
+            const box = document.getElementById('diagram').getBoundingClientRect();
+            const point = [...document.querySelectorAll('#diagram circle.point')].find(it => it.textContent.startsWith('density 0.410'));
+            const {left, top, width} = point.getBoundingClientRect();
+            return [left + width / 2 - box.left + 3, top + width / 2 - box.top, point.textContent]""")
+        cars = self.page.value("cars")
+        self.page.click_at("diagram", *place[:2])
+        self.has(place[2], lambda: self.page.text("pointnumbers"))
+        self.assertRegex(place[2], r"^density 0\.410, flow 0\.3\d\d, v_max 5, 1000 cells$")
+        self.assertEqual(self.page.value("cars"), cars)
+        self.page.click_at("diagram", place[0], place[1] - 60)
+        self.hold(lambda: 410 <= int(self.page.value("cars")) <= 430)
+        self.assertEqual(self.page.text("pointnumbers"), "")
+
     def exact_curve(self):
         """The points of the exact curve that is drawn, as densities and flows, or None."""
         return self.page.js("""const line = document.querySelector('#diagram .exact'), top = lab.job.limit / (lab.job.limit + 1);

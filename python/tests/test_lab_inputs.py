@@ -34,6 +34,21 @@ class Inputs(OnPage):
                 self.hold(lambda: self.page.text("textverdict") == "Accepted." and self.page.step() >= 0)
                 self.assertEqual(self.page.text("fault"), "")
 
+    def test_the_same_example_again(self):
+        """When the list opens, the chosen example is its first line, so that choosing the same one is a change."""
+        text = self.examples()["two_cars.job"]
+        first = "const it = document.getElementById('example'); return [it.value, it.selectedOptions[0].text, it.options[0].text]"
+        self.page.set("example", "two_cars.job")
+        self.has_job(text)
+        self.has(["two_cars.job", "Two cars", "choose"], lambda: self.page.js(first))
+        self.page.set("limit", "3")
+        self.has_line("limit 3\n")
+        self.page.js("document.getElementById('example').dispatchEvent(new MouseEvent('mousedown', {bubbles: true}))")
+        self.assertEqual(self.page.js(first), ["", "Two cars", "Two cars"])
+        self.page.set("example", "two_cars.job")
+        self.has_job(text)
+        self.has(["two_cars.job", "Two cars", "choose"], lambda: self.page.js(first))
+
     def write(self, selector, text):
         self.page.js("const it = document.querySelector(arguments[0]); it.textContent = arguments[1]; it.dispatchEvent(new Event('input'))", selector, text)
 

@@ -54,6 +54,19 @@ class Playing(OnPage):
                 }))""")
             self.assertEqual(["".join(colours.get(it, ".") for it in row) for row in ring], list(found[step].lanes))
 
+    def test_steps_are_numbered_in_the_space_time_diagram(self):
+        numbered = """const {top, high} = lab.rows();
+            return [...document.querySelectorAll('#stepmarks span')].map(it => [+it.textContent, top + parseFloat(it.style.top) / high - 0.5])"""
+        for length, steps, now, apart in (10, 4, 4, 1), (100, 400, 60, 10), (1000, 5000, 700, 50):
+            with self.subTest(length=length, steps=steps):
+                self.open(Job(limit=5, length=length, cars=2, rule=Nasch(0.25), steps=steps).text())
+                self.hold(lambda: self.page.js("return lab.job.length") == length)
+                self.run_to(now)
+                step, top, found = self.page.step(), self.page.js("return lab.rows().top"), self.page.js(numbered)
+                self.assertEqual([number for number, _ in found], [it for it in range(0, step + 1, apart) if it >= top])
+                for number, row in found:
+                    self.assertAlmostEqual(number, row, places=3)
+
     def test_a_short_run_is_drawn_as_a_whole(self):
         for length, steps, wanted in (10, 4, 60), (60, 20, 14), (80, 40, 7), (300, 200, 3), (1000, 100, 1):
             with self.subTest(length=length, steps=steps):

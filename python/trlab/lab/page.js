@@ -289,6 +289,10 @@ function loadPython(source) {
   $("own").hidden = false;
   return python.translate();
 }
+function clear() {
+  fundamental.clear();
+  $("pointnumbers").textContent = "";
+}
 function openFile(file) {
   if (file.size > MOST_BYTES) return complain(`${file.name} is too long: at most ${MOST_BYTES} bytes are allowed.`);
   file.text().then(source => load(file.name, source)).catch(complain);
@@ -308,6 +312,23 @@ async function openLink() {
     stays = player.film === null;
     complain(`${fault.message}\nThe page ${stays ? "plays its first job instead" : "still plays the job that it had before"}.`);
   }
+}
+
+const CHOOSE = "choose";
+/** Before the list opens, the chosen example becomes its first line, so that choosing the same one again is a change. */
+function forget(select) {
+  if (!select.value) return;
+  select.options[0].text = select.selectedOptions[0].text;
+  select.selectedIndex = 0;
+}
+const NEAR = 8; // pixels from a point of the diagram that a finger may miss it by
+/** The numbers of the nearest point of the fundamental diagram, or nothing if the click is not at a point. */
+function pointAt({ clientX, clientY }) {
+  const near = [...document.querySelectorAll("#diagram .point")].map(point => {
+    const { left, top, width, height } = point.getBoundingClientRect();
+    return { point, far: Math.hypot(left + width / 2 - clientX, top + height / 2 - clientY) };
+  });
+  return near.filter(it => it.far <= NEAR).sort((one, other) => one.far - other.far)[0]?.point.textContent ?? "";
 }
 
 /** Put a slider below each number that has a range. */
@@ -337,7 +358,7 @@ function watchControls() {
 }
 function listen() {
   const click = {
-    brake, newkey: () => again({ key: String(crypto.getRandomValues(new Uint32Array(1))[0]) }), clear: () => fundamental.clear(),
+    brake, newkey: () => again({ key: String(crypto.getRandomValues(new Uint32Array(1))[0]) }), clear,
     open: () => $("file").click(), savejob: saving(file => save("traffic.job", [file], "text/plain")), savetable: saving(saveTable), savefilm: saving(saveFilm),
     savesweep: () => save("sweep.csv", [table], "text/csv"), savefigure: saveFigure, link: saving(copyLink),
   };
@@ -351,14 +372,20 @@ function listen() {
   };
   $("branches").onclick = () => sweepNow("branches", BRANCHES);
   $("file").onchange = event => event.target.files[0] && openFile(event.target.files[0]);
+  $("example").onmousedown = event => forget(event.currentTarget);
   $("example").onchange = event => {
     const name = event.target.value, found = tellExample(name);
+    event.target.options[0].text = CHOOSE;
+    if (!name) return;
     player.setPace(stepsOf(name, found));
     if (found?.job) showBranches(found.job).catch(complain);
-    else if (name) load(name, examples[name], found?.density).catch(complain);
+    else load(name, examples[name], found?.density).catch(complain);
   };
   $("numbers").ontoggle = () => player.redraw();
   $("diagram").onclick = event => {
+    const point = pointAt(event);
+    $("pointnumbers").textContent = point;
+    if (point) return;
     const box = $("diagram").getBoundingClientRect(), x = (event.clientX - box.left) / box.width * 360;
     set("cars", String(Math.round(clamp((x - across(0)) / (across(1) - across(0)), 0, 1) * job.length * job.lanes)));
   };

@@ -12,6 +12,8 @@ import { Rows, bandAt, carNow, drawBands, drawCurves, drawRing, fresh, isMixed, 
 export const $ = id => document.getElementById(id);
 const calm = matchMedia("(prefers-reduced-motion: reduce)").matches;
 const FASTEST = 2000; // steps per second
+const ROUND = [1, 2, 5, 10, 20, 50, 100, 200]; // distances of the numbered steps in the space-time diagram
+const APART = 45; // pixels between their numbers
 const REST = 5000; // After so long a pause, in milliseconds, a run ends; it is run again when needed.
 
 export class Player {
@@ -111,6 +113,7 @@ export class Player {
       const rows = rowsOf(view, width, height);
       drawCurves(curves.pen, curves.width, curves.height, view, rows);
       this.tell(rows.top);
+      this.markSteps(rows);
       this.drawn = this.step;
       this.hear.moved?.(now);
     }
@@ -134,6 +137,17 @@ export class Player {
     if ($("brake")) $("brake").disabled = car === null;
     if (!this.playing) $("silent").textContent = `Step ${step}: flow ${flow} ${unitOf("flow").words}, mean speed ${speed} ${unitOf("speed").words}, stopped ${stopped}. ${followed ?? ""}`;
     if ($("numbers")?.open) this.fillNumbers();
+  }
+  /** Write the numbers of some steps beside their rows in the space-time diagram, at round distances. */
+  markSteps({ high, top }) {
+    const apart = ROUND.find(steps => steps * high >= APART) ?? ROUND.at(-1), first = Math.ceil(top / apart) * apart, place = $("stepmarks");
+    const steps = upTo(Math.max(0, Math.floor((this.step - first) / apart) + 1)).map(k => first + k * apart);
+    while (place.childElementCount < steps.length) place.append(document.createElement("span"));
+    while (place.childElementCount > steps.length) place.lastChild.remove();
+    steps.forEach((step, k) => {
+      place.children[k].textContent = step;
+      place.children[k].style.top = `${(step - top + 0.5) * high}px`;
+    });
   }
   /** The last ten steps as a table. */
   fillNumbers() {
