@@ -2,27 +2,35 @@
 
 The strict reader knows the forms that pyproject.toml uses: tables, lists of tables, strings without escapes, lists of strings,
 booleans and comments. For any other form it raises an error with the line, because a guess could change the package."""
+import importlib
 import re
+from collections.abc import Iterator
+from types import ModuleType
+from typing import Any, Optional, Union
 
 try:
-    import tomllib
+    tomllib: Optional[ModuleType] = importlib.import_module("tomllib")
 except ImportError:
     tomllib = None
 
+# The values are booleans, strings, lists and tables.
+Table = dict[str, Any]
 # A comment belongs to the end of its line. Two brackets side by side start or end the header of a list of tables.
 TOKEN = re.compile(r'[ \t]*(?:#[^\n]*)?(\n|\Z|\[\[|\]\]|[][=,]|"[^"\\\x00-\x1f\x7f]*"|[\w.-]+)', re.A)
 KEY = re.compile(r"[\w-]+", re.A)
 HEADER = re.compile(r"[\w-]+(\.[\w-]+)*", re.A)
 
 
-def read(text):
+def read(text: str) -> Table:
     """The tables of a TOML file as nested dictionaries."""
-    return tomllib.loads(text) if tomllib else read_strictly(text)
+    found: Table = tomllib.loads(text) if tomllib else read_strictly(text)
+    return found
 
 
-def read_strictly(text):
+def read_strictly(text: str) -> Table:
     """The same without `tomllib`; ValueError with the line for every form that pyproject.toml does not use."""
-    top, headers = {}, {}
+    top: Table = {}
+    headers: dict[str, str] = {}
     table = top
     for line, words in statements(text):
         try:
@@ -35,9 +43,10 @@ def read_strictly(text):
     return top
 
 
-def statements(text):
+def statements(text: str) -> Iterator[tuple[int, list[str]]]:
     """The statements as lists of tokens, each with its first line. Only a list of values continues over several lines."""
-    line, place, words, first = 1, 0, [], 1
+    line, place, first = 1, 0, 1
+    words: list[str] = []
     while place < len(text):
         found = TOKEN.match(text, place)
         if not found:
@@ -54,7 +63,7 @@ def statements(text):
         yield first, words
 
 
-def value(words):
+def value(words: list[str]) -> Union[bool, str, list[str]]:
     """The boolean, the string or the list of strings that these tokens are."""
     if words in (["true"], ["false"]):
         return words == ["true"]
@@ -66,19 +75,19 @@ def value(words):
     raise ValueError(f"unknown form of a value: {' '.join(words)}")
 
 
-def is_string(word):
+def is_string(word: str) -> bool:
     """Whether a token is a string."""
     return word.startswith('"')
 
 
-def add(table, key, content):
+def add(table: Table, key: str, content: Any) -> None:
     """Adds a key, which the table must not have yet."""
     if key in table:
         raise ValueError(f"{key} is there twice")
     table[key] = content
 
 
-def opened(top, headers, words):
+def opened(top: Table, headers: dict[str, str], words: list[str]) -> Table:
     """The table that a header opens. `headers` has the brackets of each earlier header by its name."""
     brackets, name = words[0], words[1] if len(words) == 3 else ""
     if (brackets, words[-1]) not in {("[", "]"), ("[[", "]]")} or not HEADER.fullmatch(name):
@@ -95,11 +104,12 @@ def opened(top, headers, words):
         return inner(table, last)
     if before is None:
         add(table, last, [])
-    table[last].append({})
-    return table[last][-1]
+    new: Table = {}
+    table[last].append(new)
+    return new
 
 
-def inner(table, key):
+def inner(table: Table, key: str) -> Table:
     """The table of a key in a table, which is made if it is missing."""
     found = table.setdefault(key, {})
     if not isinstance(found, dict):

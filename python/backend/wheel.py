@@ -15,6 +15,7 @@ import sys
 import tarfile
 import zipfile
 from pathlib import Path
+from typing import Any, Optional
 
 import pyproject
 
@@ -28,21 +29,28 @@ NODE = TOP / "node"
 TAGS = {"native": "py3-none-manylinux_2_34_x86_64", "any": "py3-none-any"}
 PAGE = "trlab-lab.html"
 SCRIPT = "trlab/node/trlab-node.mjs"
+# The bytes of files by their paths in a wheel.
+Files = dict[str, bytes]
+# Settings of the caller, which change nothing here.
+Settings = Optional[dict[str, object]]
 # The date of every file in an archive, the first one that the format can write.
 NO_DATE = (1980, 1, 1, 0, 0, 0)
 
 
-def version():
+def version() -> str:
     """The version, which the module states."""
-    return re.search(r'^__version__ = "(.*)"$', (MODULE / "_version.py").read_text(), re.M)[1]
+    found = re.search(r'^__version__ = "(.*)"$', (MODULE / "_version.py").read_text(), re.M)
+    assert found is not None
+    return found[1]
 
 
-def project():
+def project() -> dict[str, Any]:
     """The table [project] of pyproject.toml."""
-    return pyproject.read((TOP / "pyproject.toml").read_text(encoding="utf-8"))["project"]
+    table: dict[str, Any] = pyproject.read((TOP / "pyproject.toml").read_text(encoding="utf-8"))["project"]
+    return table
 
 
-def metadata():
+def metadata() -> str:
     """The metadata of the package for installers, from the table [project]."""
     table = project()
     lines = ["Metadata-Version: 2.1", f"Name: {table['name']}", f"Version: {version()}", f"Summary: {table['description']}"]
@@ -54,7 +62,7 @@ def metadata():
     return "".join(line + "\n" for line in lines)
 
 
-def information(tag):
+def information(tag: str) -> Files:
     """The files that describe the package to an installer, by their paths in the wheel."""
     commands = "".join(f"{name} = {place}\n" for name, place in project()["scripts"].items())
     folder = f"trlab-{version()}.dist-info"
@@ -65,34 +73,34 @@ def information(tag):
     }
 
 
-def module_files():
+def module_files() -> Files:
     """The files of the module, by their paths in the wheel."""
     files = [file for file in MODULE.rglob("*") if file.is_file() and "__pycache__" not in file.parts]
     return {f"trlab/{file.relative_to(MODULE).as_posix()}": file.read_bytes() for file in files}
 
 
-def example_files():
+def example_files() -> Files:
     """The examples that the page of trlab-lab offers, by their paths in the wheel."""
     files = [file for file in EXAMPLES.iterdir() if file.suffix in {".job", ".sweep", ".rule", ".py"}]
     return {f"trlab/lab/examples/{file.name}": file.read_bytes() for file in files}
 
 
-def shared_files():
+def shared_files() -> Files:
     """The man page and the completion for bash, by their paths in the wheel; installers put them into share/ beside bin/."""
     return {f"trlab-{version()}.data/data/{file.relative_to(TOP).as_posix()}": file.read_bytes() for file in files_of_share()}
 
 
-def files_of_share():
+def files_of_share() -> list[Path]:
     return sorted(file for file in SHARE.rglob("*") if file.is_file())
 
 
-def native_files():
+def native_files() -> Files:
     """The packed native programs, by their paths in the wheel."""
     files = [RELEASE / "release.txt", *RELEASE.glob("trlab-x86-64-v*.gz")]
     return {f"trlab/programs/{file.name}": file.read_bytes() for file in files}
 
 
-def portable_files():
+def portable_files() -> Files:
     """The page with the program in WebAssembly, and the scripts for Node, by their paths in the wheel."""
     if not (RELEASE / PAGE).exists():
         sys.exit(f"trlab: there is no {RELEASE / PAGE}, so there is no program for this machine: release/make builds it on Linux")
@@ -100,12 +108,12 @@ def portable_files():
     return {**programs, **{f"trlab/node/{file.name}": file.read_bytes() for file in node_scripts()}}
 
 
-def node_scripts():
+def node_scripts() -> list[Path]:
     """The scripts of node/ that run the program."""
     return sorted([*NODE.glob("*.mjs"), NODE / "package.json"])
 
 
-def is_of_these_sources():
+def is_of_these_sources() -> bool:
     """Whether the packed programs are those of the sources that are here; an archive of the package has none."""
     if not (TOP / "crates.txt").exists():
         return True
@@ -113,7 +121,7 @@ def is_of_these_sources():
     return f"sources {asked.stdout.strip()}\n" in (RELEASE / "release.txt").read_text()
 
 
-def recorded(files):
+def recorded(files: Files) -> Files:
     """The files with their record, by which an installer checks them."""
     folder = f"trlab-{version()}.dist-info"
     lines = []
@@ -123,7 +131,7 @@ def recorded(files):
     return {**dict(sorted(files.items())), f"{folder}/RECORD": "".join([*lines, f"{folder}/RECORD,,\n"]).encode()}
 
 
-def written(folder, files, tag):
+def written(folder: str, files: Files, tag: str) -> str:
     """Writes a wheel of these files into a folder, and returns its name."""
     name = f"trlab-{version()}-{tag}.whl"
     files = {**files, **information(tag)}
@@ -136,7 +144,7 @@ def written(folder, files, tag):
     return name
 
 
-def build(folder, kind):
+def build(folder: str, kind: str) -> str:
     """Builds the wheel of a kind, "native" or "any", and returns its name."""
     if not is_of_these_sources():
         print("trlab: the packed programs are those of the last release, not of the sources here", file=sys.stderr)
@@ -144,18 +152,18 @@ def build(folder, kind):
     return written(folder, {**module_files(), **example_files(), **shared_files(), **programs}, TAGS[kind])
 
 
-def build_wheel(wheel_directory, config_settings=None, metadata_directory=None):
+def build_wheel(wheel_directory: str, config_settings: Settings = None, metadata_directory: Optional[str] = None) -> str:
     """Builds the wheel that `pip install .` installs: the one for Linux, or on other machines the one for any machine."""
     is_native = sys.platform == "linux" and platform.machine() in ("x86_64", "AMD64")
     return build(wheel_directory, "native" if is_native else "any")
 
 
-def build_editable(wheel_directory, config_settings=None, metadata_directory=None):
+def build_editable(wheel_directory: str, config_settings: Settings = None, metadata_directory: Optional[str] = None) -> str:
     """Builds the wheel that `pip install -e .` installs: it leads to the module of this checkout."""
     return written(wheel_directory, {"trlab.pth": f"{MODULE.parent}\n".encode(), **shared_files()}, TAGS["any"])
 
 
-def build_sdist(sdist_directory, config_settings=None):
+def build_sdist(sdist_directory: str, config_settings: Settings = None) -> str:
     """Builds an archive from which the same wheel can be built."""
     name = f"trlab-{version()}"
     sources = [TOP / "pyproject.toml", *Path(__file__).parent.glob("*.py"), RELEASE / "release.txt", RELEASE / "sources"]

@@ -6,7 +6,9 @@ import shutil
 import socket
 import subprocess
 import tempfile
+from collections.abc import Callable
 from pathlib import Path
+from typing import Any, Optional, Union
 
 from selenium.common.exceptions import WebDriverException
 from selenium.webdriver import Chrome, ChromeOptions, FirefoxOptions, Remote
@@ -15,9 +17,10 @@ from selenium.webdriver.remote.command import Command
 
 from tests.waiting import LIMIT, first_of
 
-CHROMIUM = shutil.which("chromium") or shutil.which("chromium-browser") or shutil.which("google-chrome")
-CHROMEDRIVER = shutil.which("chromedriver")
-FIREFOX = shutil.which("firefox-esr") or shutil.which("firefox")
+# The paths of the browsers and of a driver; empty if they are not installed.
+CHROMIUM = shutil.which("chromium") or shutil.which("chromium-browser") or shutil.which("google-chrome") or ""
+CHROMEDRIVER = shutil.which("chromedriver") or ""
+FIREFOX = shutil.which("firefox-esr") or shutil.which("firefox") or ""
 SETTINGS = {
     "marionette.port": 0, "app.update.disabledForTesting": True, "browser.shell.checkDefaultBrowser": False,
     "datareporting.policy.dataSubmissionEnabled": False, "browser.aboutwelcome.enabled": False, "browser.startup.page": 0,
@@ -36,8 +39,13 @@ COMMANDS = {
 }
 
 
-def started(kind, calm, dark):
+Driver = Union["Chromium", "Firefox"]
+
+
+def started(browser: str, calm: bool, dark: bool) -> Driver:
     """A driver whose browser has started. On a busy machine this may take longer than the minute that chromedriver waits."""
+    kinds: dict[str, Callable[[bool, bool], Driver]] = {"chromium": Chromium, "firefox": Firefox}
+    kind = kinds[browser]
     for _ in range(2):
         try:
             return kind(calm, dark)
@@ -49,7 +57,7 @@ def started(kind, calm, dark):
 class Chromium(Chrome):
     """A driver for Chromium. With `calm` the user wants no motion, and with `dark` a dark page."""
 
-    def __init__(self, calm=False, dark=False):
+    def __init__(self, calm: bool = False, dark: bool = False) -> None:
         options = ChromeOptions()
         options.binary_location = CHROMIUM
         for word in "--headless=new", "--no-sandbox", "--disable-gpu", "--hide-scrollbars":
@@ -61,12 +69,12 @@ class Chromium(Chrome):
         scheme = {"name": "prefers-color-scheme", "value": "dark" if dark else "light"}
         self.execute_cdp_cmd("Emulation.setEmulatedMedia", {"features": [scheme]})
 
-    def resize(self, width, height):
+    def resize(self, width: int, height: int) -> None:
         """Give the page a size in pixels."""
         size = {"width": width, "height": height, "deviceScaleFactor": 1, "mobile": width < 500}
         self.execute_cdp_cmd("Emulation.setDeviceMetricsOverride", size)
 
-    def errors(self):
+    def errors(self) -> list[str]:
         """The errors in the console since the last call."""
         return [it["message"] for it in self.get_log("browser") if it["level"] == "SEVERE"]
 
@@ -74,7 +82,7 @@ class Chromium(Chrome):
 class Marionette:
     """A Firefox without a window, and the connection to it, over which selenium executes its commands."""
 
-    def __init__(self, calm, dark):
+    def __init__(self, calm: bool, dark: bool) -> None:
         self.folder = tempfile.TemporaryDirectory()
         settings = {**SETTINGS, "ui.prefersReducedMotion": int(calm), "layout.css.prefers-color-scheme.content-override": int(not dark)}
         lines = [f"user_pref({json.dumps(name)}, {json.dumps(value)});\n" for name, value in settings.items()]
@@ -86,14 +94,14 @@ class Marionette:
         self.number = 0
         self.read()
 
-    def connected(self):
+    def connected(self) -> Optional[socket.socket]:
         try:
             port = int((Path(self.folder.name) / "MarionetteActivePort").read_text())
             return socket.create_connection(("127.0.0.1", port), timeout=LIMIT)
         except (OSError, ValueError):
             return None
 
-    def read(self):
+    def read(self) -> Any:
         size = b""
         while (sign := self.stream.read(1)) != b":":
             if not sign:
@@ -101,7 +109,7 @@ class Marionette:
             size += sign
         return json.loads(self.stream.read(int(size)))
 
-    def execute(self, command, words):
+    def execute(self, command: str, words: Optional[dict[str, Any]]) -> dict[str, Any]:
         """The result of a command of selenium, or of one of Marionette."""
         self.number += 1
         words = {name: value for name, value in (words or {}).items() if name != "sessionId" and command != Command.NEW_SESSION}
@@ -119,18 +127,18 @@ class Marionette:
 class Firefox(Remote):
     """A driver for Firefox. With `calm` the user wants no motion, and with `dark` a dark page."""
 
-    def __init__(self, calm=False, dark=False):
+    def __init__(self, calm: bool = False, dark: bool = False) -> None:
         self.marionette, self.seen = Marionette(calm, dark), 0
         super().__init__(self.marionette, options=FirefoxOptions())
         self._is_remote = False  # otherwise keys that are the name of a file would be sent as this file
 
-    def resize(self, width, height):
+    def resize(self, width: int, height: int) -> None:
         """Give the page a size in pixels. Firefox makes no window below 450 pixels."""
         for _ in range(2):
             bars = self.execute_script("return [outerWidth - innerWidth, outerHeight - innerHeight]")
             self.set_window_size(width + bars[0], height + bars[1])
 
-    def errors(self):
+    def errors(self) -> list[str]:
         """The errors in the console since the last call."""
         self.execute("Marionette:SetContext", {"value": "chrome"})
         found = self.execute_script("""return Services.console.getMessageArray().filter(it => it instanceof Ci.nsIScriptError
@@ -140,7 +148,7 @@ class Firefox(Remote):
         new, self.seen = found[self.seen:], len(found)
         return new
 
-    def quit(self):
+    def quit(self) -> None:
         self.execute(Command.QUIT, {"flags": ["eForceQuit"]})
         self.marionette.stream.close()
         self.marionette.socket.close()

@@ -1,5 +1,8 @@
 """Shared by the tests of the page: a server, a browser with its page, and calls that wait for a condition."""
 import threading
+import unittest
+from collections.abc import Callable, Iterable
+from typing import TYPE_CHECKING, Any, Optional, Protocol
 from unittest import mock
 
 import trlab
@@ -9,100 +12,122 @@ from trlab import Snapshots
 from trlab.lab import Lab, server
 from trlab._results.written import snapshots_in
 from trlab._runs.calls import ask
+from trlab._runs.children import Child
 
 # The snapshots that the page keeps: step, cells, flow, speed and share of stopped cars.
 SHOTS = """const {film} = lab.player;
 return film.shots.map(it => [it.step, String.fromCharCode(...it.cells), it.flow, it.speed, it.stopped])"""
 
 
-def snapshots(text):
+# The classes of tests are made of this class and of TestCase, whose calls it uses.
+if TYPE_CHECKING:
+    Base = unittest.TestCase
+else:
+    Base = object
+
+
+def snapshots(text: str) -> Snapshots:
     """The snapshots of the run of a job file."""
     return Snapshots(snapshots_in(ask(["run"], text).splitlines(True)))
 
 
-def job_of(**changes):
+def job_of(**changes: Any) -> str:
     """The job file of the page's first job, with changes."""
-    what = {"limit": 5, "length": 1000, "cars": 150, "start": trlab.random_cells(1), "rule": trlab.Nasch(0.25), "steps": 5000, "key": 1}
+    what: dict[str, Any] = {"limit": 5, "length": 1000, "cars": 150, "start": trlab.random_cells(1), "rule": trlab.Nasch(0.25), "steps": 5000, "key": 1}
     return trlab.Job(**{**what, **changes}).text()
 
 
-class OnPage:
+class Place(Protocol):
+    """Where a page is: a server, or a file."""
+
+    @property
+    def address(self) -> str:
+        """The address of the page."""
+
+    @property
+    def children(self) -> Iterable[Child]:
+        """The processes that run for the page."""
+
+
+class OnPage(Base):
     """A page in one browser, which is loaded again for each test."""
 
     browser = ""
+    lab: Place
+    page: Window
 
     @classmethod
-    def setUpClass(cls):
+    def setUpClass(cls) -> None:
         # On a busy machine it takes long until runs that have been replaced have ended.
         patience = mock.patch.object(server, "PATIENCE", LIMIT)
         patience.start()
         cls.addClassCleanup(patience.stop)
-        cls.lab = Lab()
-        cls.addClassCleanup(cls.lab.close)
-        thread = threading.Thread(target=cls.lab.serve_forever, kwargs={"poll_interval": 0.05}, daemon=True)
+        cls.lab = lab = Lab()
+        cls.addClassCleanup(lab.close)
+        thread = threading.Thread(target=lab.serve_forever, kwargs={"poll_interval": 0.05}, daemon=True)
         thread.start()
         cls.addClassCleanup(thread.join)
-        cls.addClassCleanup(cls.lab.shutdown)
+        cls.addClassCleanup(lab.shutdown)
         cls.page = Window(cls.browser, cls.lab.address)
         cls.addClassCleanup(cls.page.close)
 
-    def setUp(self):
+    def setUp(self) -> None:
         self.page.get("about:blank")
         self.page.get(self.lab.address)
         self.hold(lambda: self.page.js("return window.lab !== undefined && lab.player.film !== null && lab.player.step >= 0"))
         self.page.errors()
 
-    def examples(self):
+    def examples(self) -> dict[str, str]:
         """The examples that the page offers."""
         return server.examples()
 
-    def tearDown(self):
+    def tearDown(self) -> None:
         self.assertEqual(self.page.errors(), [])
 
-    def hold(self, condition):
+    def hold(self, condition: Callable[[], object]) -> None:
         """Wait for a condition. The page reacts to a control only when the server has written the new job file."""
         if not self.page.holds(condition):
             self.fail(self.page.js("return document.getElementById('fault')?.textContent") or "it does not become true")
 
-    def has(self, wanted, found):
+    def has(self, wanted: object, found: Callable[[], object]) -> None:
         """Wait until a call gives this value."""
         if not self.page.holds(lambda: found() == wanted):
             self.assertEqual(found(), wanted)
 
-    def has_job(self, wanted):
+    def has_job(self, wanted: str) -> None:
         self.has(wanted, self.page.job)
 
-    def has_line(self, wanted):
+    def has_line(self, wanted: str) -> None:
         if not self.page.holds(lambda: wanted in self.page.job()):
             self.assertIn(wanted, self.page.job())
 
-    def has_marks(self, count):
+    def has_marks(self, count: int) -> None:
         """The fundamental diagram has this number of points of one sweep; the run may have added its own."""
         self.hold(lambda: self.page.js("return lab.marks.some(it => it.points.length === arguments[0])", count))
 
-    def turn(self, words):
+    def turn(self, words: str) -> None:
         """Click on the button that plays and pauses, if it has this text: in one script, because a run may end between two."""
         self.page.js("const it = document.getElementById('play'); if (it.textContent === arguments[0]) it.click()", words)
 
-    def runs(self):
+    def runs(self) -> list[Child]:
         """The processes that run jobs for pages, without those that explain files."""
-        return [child for child in list(self.lab.children) if child.args[1] == "run"]
+        return [child for child in list(self.lab.children) if isinstance(child.args, list) and child.args[1] == "run"]
 
-    def only_run(self):
+    def only_run(self) -> Optional[Child]:
         """The process of the only run, or None."""
         found = self.runs()
         return found[0] if len(found) == 1 else None
 
-    def follows_none(self):
+    def follows_none(self) -> None:
         self.page.keys(Keys.ESCAPE)
         self.hold(lambda: self.page.js("return lab.player.car") is None)
 
-    def pause(self):
+    def pause(self) -> None:
         self.hold(lambda: not self.page.js("return window.lab.isWriting"))
         self.turn("Pause")
         self.hold(lambda: self.page.js("const it = lab.player; return it.scene?.step === it.step && it.phase === 1 && !it.moving && !it.stale"))
 
-    def run_to(self, step):
+    def run_to(self, step: int) -> None:
         """Play fast to a step at least, and pause."""
         self.hold(lambda: not self.page.js("return window.lab.isWriting"))
         # In one script, because the cars drive on between two scripts.
@@ -114,12 +139,13 @@ class OnPage:
             if (it.playing) it.setPlaying(false)""", step)
         self.pause()
 
-    def are_those_of_the_run(self):
+    def are_those_of_the_run(self) -> list[list[Any]]:
         """The kept snapshots, which are those of the job file. On a busy machine the first ones may be gone."""
-        shots, found = self.page.js(SHOTS), snapshots(self.page.job())
+        shots: list[list[Any]] = self.page.js(SHOTS)
+        found = snapshots(self.page.job())
         for step, cells, *_ in shots:
             self.assertEqual((step, cells), (found[step].step, "".join(found[step].lanes)))
         return shots
 
-    def open(self, text, name="a.job"):
+    def open(self, text: str, name: str = "a.job") -> None:
         self.page.js("lab.open(arguments[0], arguments[1])", name, text)

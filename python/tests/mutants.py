@@ -337,7 +337,7 @@ def first_failure(mutant: "tuple[str, str, str]") -> str:
         hypothesis.settings.register_profile("quick", phases=[hypothesis.Phase.generate])
         hypothesis.settings.load_profile("quick")
         with open(os.devnull, "w") as nowhere:
-            tests = unittest.defaultTestLoader.loadTestsFromNames(f"tests.{name}" for name in TESTS[file])
+            tests = unittest.defaultTestLoader.loadTestsFromNames([f"tests.{name}" for name in TESTS[file]])
             result = unittest.TextTestRunner(nowhere, failfast=True).run(tests)
             failed = [test for test, _ in result.errors + result.failures]
             return getattr(failed[0], "test_case", failed[0]).id() if failed else ""

@@ -3,11 +3,13 @@ import json
 import shutil
 import subprocess
 import tempfile
+from collections.abc import Callable, Sequence
 from pathlib import Path
+from typing import Any
 
 from trlab.lab.scripts import joined
 
-NODE = shutil.which("node") or shutil.which("nodejs")
+NODE = shutil.which("node") or shutil.which("nodejs") or ""
 MISSING = "" if NODE else "Node is not installed (nodejs)"
 CALLER = Path(__file__).with_suffix(".mjs").read_text()
 
@@ -16,7 +18,7 @@ class Thrown(Exception):
     """An error that a script throws on purpose, with its message as the argument."""
 
 
-def answers(calls, edit=lambda script: script):
+def answers(calls: Sequence[Sequence[object]], edit: Callable[[str], str] = lambda script: script) -> list[Any]:
     """The values of calls, each (module, function, argument, ..), or `Thrown` errors. `edit` changes the scripts first."""
     with tempfile.TemporaryDirectory() as folder:
         path = Path(folder) / "scripts.mjs"
@@ -27,7 +29,7 @@ def answers(calls, edit=lambda script: script):
     return [Thrown(it["error"]) if "error" in it else it["value"] for it in json.loads(ended.stdout)]
 
 
-def answer(*call):
+def answer(*call: object) -> Any:
     """The value of one call; raises `Thrown`."""
     [found] = answers([call])
     if isinstance(found, Thrown):

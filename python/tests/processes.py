@@ -4,15 +4,27 @@ import signal
 import subprocess
 import sys
 import uuid
+from collections.abc import Mapping, Sequence
 from pathlib import Path
+from typing import Union
 
 from trlab import find_program
 
 PYTHON = Path(__file__).resolve().parents[1]
 MARK = "TRLAB_TEST_MARK"
+Folder = Union[str, os.PathLike[str]]
 
 
-def logging_program(folder):
+class Marked(subprocess.Popen[str]):
+    """A process with pipes, and the mark that its environment and those of its own children have."""
+
+    def __init__(self, mark: str, command: Sequence[Folder], environment: Mapping[str, str]) -> None:
+        pipe = subprocess.PIPE
+        super().__init__(command, env=environment, text=True, stdin=pipe, stdout=pipe, stderr=subprocess.DEVNULL)
+        self.mark = mark
+
+
+def logging_program(folder: Folder) -> Path:
     """A script that runs trlab, and writes the first argument of each call into a file."""
     path = Path(folder) / "logging_trlab"
     path.write_text(f'#!/bin/sh\necho "$1" >> "{folder}/calls"\nexec "{find_program()}" "$@"\n')
@@ -20,24 +32,21 @@ def logging_program(folder):
     return path
 
 
-def calls(folder, argument):
+def calls(folder: Folder, argument: str) -> int:
     """The number of calls of the program with this word."""
     file = Path(folder) / "calls"
     return file.read_text().split().count(argument) if file.exists() else 0
 
 
-def child(script, *arguments, **changes):
+def child(script: str, *arguments: Folder, **changes: str) -> Marked:
     """A child process of Python that runs a script, with a mark in its environment that its own children inherit."""
     mark = uuid.uuid4().hex
     environment = {**os.environ, "PYTHONPATH": str(PYTHON), "TRLAB": find_program(), MARK: mark, **changes}
     command = [sys.executable, "-c", script, *arguments]
-    streams = {"stdin": subprocess.PIPE, "stdout": subprocess.PIPE, "stderr": subprocess.DEVNULL}
-    process = subprocess.Popen(command, env=environment, text=True, **streams)
-    process.mark = mark
-    return process
+    return Marked(mark, command, environment)
 
 
-def marked(mark, name=""):
+def marked(mark: str, name: str = "") -> list[int]:
     """The numbers of the processes with a mark whose command line begins with a name, except zombies."""
     numbers = []
     for folder in Path("/proc").glob("[0-9]*"):
@@ -52,7 +61,7 @@ def marked(mark, name=""):
     return numbers
 
 
-def kill(process):
+def kill(process: Marked) -> None:
     """Kills a child and the processes that it started itself, and waits for its pipe to close."""
     process.kill()
     process.wait()

@@ -6,7 +6,9 @@ import functools
 import operator
 import random
 import re
+from collections.abc import Callable
 from fractions import Fraction
+from typing import Any, Optional, Union
 
 from tests.expected import ALWAYS
 from trlab import RuleError
@@ -14,11 +16,13 @@ from trlab._rules.functions import rules_in
 
 WORDS = 16  # the random words of a car in a step
 MAX_CELLS = 100000  # of a lane
-JUMPS = {
+# What a car sees, by the names of a program's inputs.
+View = dict[str, Any]
+JUMPS: dict[str, Callable[..., Any]] = {
     "jump": lambda: True, "jlt": operator.lt, "jle": operator.le, "jtrue": lambda flag: flag,
     "jfalse": lambda flag: not flag,
 }
-INSTRUCTIONS = {
+INSTRUCTIONS: dict[str, Callable[..., Any]] = {
     "num": int, "copy": lambda value: value, "add": operator.add, "sub": operator.sub, "mul": operator.mul,
     "div": operator.floordiv,
     "min": min, "max": max, "not": operator.not_, "and": lambda a, b: a and b, "or": lambda a, b: a or b,
@@ -170,33 +174,35 @@ def clear(car, x, y=3):
 """
 
 
-def _choices(text):
+def _choices(text: str) -> list[str]:
     return [f"def {part}".rstrip("\n") for part in text.split("\ndef ")[1:]]
 
 
 class Writer:
     """Writes a random function. Its draws have `word=` all of them, or none."""
 
-    def __init__(self, dice, kind):
+    def __init__(self, dice: random.Random, kind: str) -> None:
         self.dice, self.kind, self.has_words = dice, kind, dice.random() < 0.4
-        self.draws, self.turns, self.numbers, self.flags = 0, 1, [], []
+        self.draws, self.turns = 0, 1
+        self.numbers: list[str] = []
+        self.flags: list[str] = []
         self.has_helpers, self.own = False, ["g", "g + 1", "-1", "MARGIN"]
 
-    def text(self):
+    def text(self) -> str:
         write = self.small if self.dice.random() < 0.8 else self.large
         function = write()
         helpers = self.helpers() if "helper(" in function or "clear(" in function else []
         return "\n".join(["MARGIN = 4", *helpers, f"@{self.kind}", "def f(car, g=2, p=0.25):", function, ""])
 
-    def helpers(self):
+    def helpers(self) -> list[str]:
         self.numbers, self.flags, self.has_helpers, self.own = ["x"], [], False, ["MARGIN"]
         inner = self.filled(self.dice.choice(_choices(INNER)))
         self.own = ["y", "y + 1", "MARGIN"]
         return [inner, *(self.filled(self.dice.choice(_choices(text))) for text in (HELPERS, CLEARS))]
 
-    def filled(self, text):
+    def filled(self, text: str) -> str:
         """A template with its holes filled."""
-        holes = {
+        holes: dict[str, Callable[[], str]] = {
             "n": lambda: self.number(self.dice.choice([0, 0, 1])),
             "c": lambda: self.condition(self.dice.choice([0, 1])),
             "k": lambda: self.dice.choice(["1", "2", "3", "5", "g"]),
@@ -206,10 +212,10 @@ class Writer:
         }
         return re.sub("{([nckpqt])}", lambda hole: holes[hole[1]](), text)
 
-    def word(self):
+    def word(self) -> str:
         return f", word={self.dice.randrange(WORDS)}" if self.has_words else ""
 
-    def small(self):
+    def small(self) -> str:
         """One or two statements with one feature each."""
         without_safe = [template for template in MOTIONS if "safe" not in template]
         kinds = MOTIONS if self.kind == "motion" else [*CHANGES, *CHANGES, *without_safe]
@@ -228,16 +234,16 @@ class Writer:
             )
         return "\n".join(f"    {line}" for line in [*lines, f"return {returned}"])
 
-    def constant(self):
+    def constant(self) -> str:
         return self.dice.choice(["0", "1", "1", "2", "3", "5", "7", "40", *self.own])
 
-    def seen(self):
+    def seen(self) -> str:
         inputs_of_change = ["sidegap", "sideback", "lane"] * 2 if self.kind == "change" else []
         return "car." + self.dice.choice(
             ["speed", "limit", "gap", "headspeed", "speed", "gap", "limit", *inputs_of_change]
         )
 
-    def draw(self):
+    def draw(self) -> str:
         if self.draws + self.turns > WORDS:
             return "car.gap > 2"
         self.draws += self.turns
@@ -245,7 +251,7 @@ class Writer:
         probability = self.dice.choice(PROBABILITIES if "g" in self.own else CONSTANT_PROBABILITIES)
         return f"car.draw({probability}{self.word()})"
 
-    def number(self, depth):
+    def number(self, depth: int) -> str:
         if depth <= 0 or self.dice.random() < 0.2:
             choice = self.dice.random()
             if self.numbers and choice < 0.45:
@@ -268,8 +274,11 @@ class Writer:
             forms = [f"helper(car, {first})", f"helper(car, {first}, {by})"]
         return self.dice.choice(forms)
 
-    def condition(self, depth):
-        choice, sign = self.dice.randrange(10), lambda: self.dice.choice(["<", "<=", ">", ">=", "==", "!="])
+    def sign(self) -> str:
+        return self.dice.choice(["<", "<=", ">", ">=", "==", "!="])
+
+    def condition(self, depth: int) -> str:
+        choice, sign = self.dice.randrange(10), self.sign
         if depth > 0 and choice < 3:
             first, second = self.condition(depth - 1), self.condition(depth - 1)
             both = f"({first} and {second})"
@@ -288,11 +297,11 @@ class Writer:
             return f"clear(car, {self.number(depth - 1)})"
         return f"{self.number(depth - 1)} {sign()} {self.number(depth - 1)}"
 
-    def large(self):
+    def large(self) -> str:
         self.has_helpers = self.dice.random() < 0.4
         return "\n".join([*self.block(1, 2, self.dice.choice([1, 2, 3, 4])), f"    return {self.result()}"])
 
-    def block(self, indent, depth, count):
+    def block(self, indent: int, depth: int, count: int) -> list[str]:
         lines, pad, before = [], "    " * indent, (list(self.numbers), list(self.flags))
         for _ in range(count):
             choice = self.dice.randrange(10)
@@ -317,7 +326,7 @@ class Writer:
             self.numbers, self.flags = before
         return lines
 
-    def decision(self, indent, depth):
+    def decision(self, indent: int, depth: int) -> list[str]:
         pad = "    " * indent
         lines = [f"{pad}if {self.condition(2)}:", *self.block(indent + 1, depth - 1, self.dice.choice([1, 2]))]
         if self.dice.random() < 0.15:
@@ -327,7 +336,7 @@ class Writer:
             lines += [f"{pad}{head}:", *self.block(indent + 1, depth - 1, 1)]
         return lines
 
-    def result(self):
+    def result(self) -> str:
         if self.kind == "change":
             return self.dice.choice(["car.side and ", "car.side and ", ""]) + self.condition(2)
         value = self.number(2)
@@ -340,14 +349,14 @@ class Numbered(ast.NodeTransformer):
     """Gives each draw its random word: counted in the order in which Python evaluates the text, with the turns of loops
     and the texts of called functions written out. A function gets the first word of its draws as a parameter `at`."""
 
-    def __init__(self, draws, constants):
+    def __init__(self, draws: dict[str, int], constants: dict[str, object]) -> None:
         self.draws, self.constants = draws, constants
         self.count, self.turns = 0, ""
 
-    def visit_For(self, node):
+    def visit_For(self, node: ast.For) -> ast.AST:
         values = eval(compile(ast.Expression(node.iter), "turns", "eval"), {"range": range}, dict(self.constants))
         outer, before = self.count, self.turns
-        name = node.target.id
+        name = ast.unparse(node.target)
         self.turns = f"{before} + [{', '.join(map(str, values))}].index({name}) * PER_{name}_{node.lineno}"
         node.body = [self.visit(part) for part in node.body]
         draws_of_turn = self.count - outer
@@ -357,9 +366,9 @@ class Numbered(ast.NodeTransformer):
         self.count, self.turns = outer + draws_of_turn * len(values), before
         return node
 
-    def visit_Call(self, node):
+    def visit_Call(self, node: ast.Call) -> ast.AST:
         self.generic_visit(node)
-        name = node.func.attr if isinstance(node.func, ast.Attribute) else node.func.id
+        name = ast.unparse(node.func).rpartition(".")[2]
         if name == "draw" and not node.keywords:
             node.keywords = [ast.keyword("count", self.now())]
             self.count += 1
@@ -368,13 +377,13 @@ class Numbered(ast.NodeTransformer):
             self.count += self.draws[name]
         return node
 
-    def now(self):
+    def now(self) -> ast.expr:
         return ast.parse(f"at + {self.count}{self.turns}", mode="eval").body
 
 
-def called_by_python(text, kind, given):
+def called_by_python(text: str, kind: str, given: dict[str, Any]) -> Callable[[Any], Any]:
     """The result of a function for a view, as Python calculates it."""
-    tree, draws = ast.parse(text), {}
+    tree, draws = ast.parse(text), dict[str, int]()
     for node in tree.body:
         if isinstance(node, ast.FunctionDef):
             with_defaults = node.args.args[len(node.args.args) - len(node.args.defaults):]
@@ -386,7 +395,7 @@ def called_by_python(text, kind, given):
             node.args.kwonlyargs.append(ast.arg("at"))
             node.args.kw_defaults.append(ast.Constant(0))
     # The decorators return the function itself.
-    names = {"motion": lambda function: function, "change": lambda function: function}
+    names: dict[str, Any] = {"motion": lambda function: function, "change": lambda function: function}
     exec(compile(ast.unparse(ast.fix_missing_locations(tree)), "a function", "exec"), names)
     return lambda view: names["f"](Car(view, kind), **given)
 
@@ -394,24 +403,29 @@ def called_by_python(text, kind, given):
 class Car:
     """A car in a view, when Python itself calls a function."""
 
-    def __init__(self, view, kind):
+    def __init__(self, view: Any, kind: str) -> None:
         self.view, self.kind = view, kind
 
-    def __getattr__(self, name):
+    def __getattr__(self, name: str) -> Any:
         return self.view[name]
 
-    def draw(self, probability, count=None, word=None):
-        word = word if word is not None else count if self.kind == "motion" else WORDS - 1 - count
-        return self.view["words"][word] // 2 < round(Fraction(probability) * ALWAYS)
+    def draw(self, probability: Any, count: Optional[int] = None, word: Optional[int] = None) -> bool:
+        if word is None:
+            assert count is not None
+            word = count if self.kind == "motion" else WORDS - 1 - count
+        drawn: int = self.view["words"][word]
+        return drawn // 2 < round(Fraction(probability) * ALWAYS)
 
-    def safe(self, speed):
-        return max(0, min(speed, self.gap, self.limit))
+    def safe(self, speed: int) -> int:
+        slowest: int = min(speed, self.gap, self.limit)
+        return max(0, slowest)
 
 
-def run_program(program, view):
+def run_program(program: str, view: View) -> Union[int, bool]:
     """The result of a program for a view: a speed, or whether the car changes lanes."""
     lines, labels = parsed(program)
-    registers, pc = {}, 0
+    registers: dict[str, int] = {}
+    pc = 0
     while True:
         name, *operands = lines[pc]
         pc += 1
@@ -430,7 +444,7 @@ def run_program(program, view):
 
 
 @functools.lru_cache(maxsize=8)
-def parsed(program):
+def parsed(program: str) -> tuple[list[list[str]], dict[str, int]]:
     """The name and the operands of each instruction of a program, and the numbers of the instructions by their
     labels."""
     lines = [line.split(";")[0].strip() for line in program.split("\n")[1:]]
@@ -439,14 +453,15 @@ def parsed(program):
     return [line.split(": ")[-1].replace(",", "").split() for line in lines], labels
 
 
-def random_view(dice):
+def random_view(dice: random.Random) -> View:
     """A view of a car: often with small numbers, and sometimes with the largest ones."""
     limit = dice.choice([1, 2, 3, 5, 5, 9, 20, 35])
     is_empty = dice.random() < 0.6
 
-    def cells():
+    def cells() -> int:
         small, large = [dice.randrange(50), dice.randrange(50)], [dice.randrange(MAX_CELLS), MAX_CELLS - 1]
-        return dice.choice([*range(9), *small, *large])
+        numbers: list[int] = [*range(9), *small, *large]
+        return dice.choice(numbers)
 
     return {
         "limit": limit, "speed": dice.choice([0, limit, dice.randint(0, limit)]),
@@ -459,11 +474,11 @@ def random_view(dice):
 class Tried:
     """A random function by its seed: its text and parameters, and its program, or the error."""
 
-    def __init__(self, seed):
+    def __init__(self, seed: object) -> None:
         self.dice = random.Random(seed)
         self.kind = self.dice.choice(["motion", "motion", "change"])
         self.text = Writer(self.dice, self.kind).text()
-        self.given = {}
+        self.given: dict[str, Any] = {}
         if self.dice.random() < 0.7:
             self.given = {"g": self.dice.choice([1, 2, 3]), "p": self.dice.choice([0, 0.5, 1, 0.7])}
         self.program, self.error = None, None
@@ -472,13 +487,14 @@ class Tried:
         except RuleError as error:
             self.error = str(error)
 
-    def has_other_error(self):
+    def has_other_error(self) -> bool:
         """Whether the error is not one that a function of the subset may have."""
         return self.error is not None and not any(message in self.error for message in EXPECTED)
 
-    def difference(self, views):
+    def difference(self, views: int) -> Optional[tuple[View, Any, Any]]:
         """The first random view for which the program and the function differ, with both results; None if there is
         none."""
+        assert self.program is not None
         by_python = called_by_python(self.text, self.kind, self.given)
         for _ in range(views):
             view = random_view(self.dice)
@@ -488,5 +504,5 @@ class Tried:
                 return view, expected, result
         return None
 
-    def __str__(self):
+    def __str__(self) -> str:
         return f"{self.text}{self.given}\n{self.program or self.error}"

@@ -10,16 +10,16 @@ UNREACHABLE, END, CALL, LOCAL_GET = b"\0", b"\x0b", b"\x10", b"\x20"
 I32_LOAD, I32_CONST, I32_ADD = b"\x28", b"\x41", b"\x6a"
 
 
-def section(number, content):
+def section(number: int, content: bytes) -> bytes:
     return bytes([number, len(content)]) + content
 
 
-def export(name, kind):
+def export(name: str, kind: int) -> bytes:
     """The export of the first object of this kind."""
     return bytes([len(name)]) + name.encode() + bytes([kind, 0])
 
 
-def module_of(code):
+def module_of(code: bytes) -> bytes:
     """A module whose `main`, with two parameters, consists of these instructions."""
     no_locals = b"\0"
     body = no_locals + code + END

@@ -35,7 +35,7 @@ def results_of_calls():
 
 def elsewhere():
     """As on a machine that no native program fits."""
-    for cached in location._packed, location._of_checkout, location._for_node:
+    for cached in location._packed, location.of_checkout, location._for_node:
         cached.cache_clear()
     environment = {name: value for name, value in os.environ.items() if name != "TRLAB"}
     without_name = mock.patch.dict(os.environ, environment, clear=True)
@@ -51,7 +51,7 @@ class Elsewhere(unittest.TestCase):
         for change in elsewhere():
             change.start()
             self.addCleanup(change.stop)
-        for cached in location._packed, location._of_checkout, location._for_node:
+        for cached in location._packed, location.of_checkout, location._for_node:
             self.addCleanup(cached.cache_clear)
 
 

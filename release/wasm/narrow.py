@@ -8,6 +8,8 @@ more bytes after each pointer. Everything else means the same with pointers of e
 forms below: any other is an error, which names it."""
 import re
 import sys
+from collections.abc import Iterable, Iterator
+from typing import Optional
 
 WIDE_TARGET = {
     'target datalayout = "e-m:e-p270:32:32-p271:32:32-p272:64:64-i64:64-i128:128-f80:128-n8:16:32:64-S128"\n':
@@ -104,12 +106,12 @@ class UnknownForm(Exception):
     """A line of an unknown form, whose meaning for pointers of 32 bits is therefore unknown."""
 
 
-def with_numbers(text):
+def with_numbers(text: str) -> str:
     """The pairs of a line, with a number for each pointer."""
     return re.sub(PAIR, lambda pair: re.sub(r"\bptr\b", "i64", pair[0]), text)
 
 
-def without_processor(words):
+def without_processor(words: str) -> str:
     """The attributes of a function, without those of the processor."""
     kept = OF_PROCESSOR.sub("", words).split()
     # The words of one attribute may have spaces in its brackets.
@@ -118,9 +120,10 @@ def without_processor(words):
     return " ".join(kept)
 
 
-def constant(head, types, values, alignment):
+def constant(head: str, types: str, values: str, alignment: str) -> str:
     """A constant in which four zero bytes follow each pointer."""
-    found, end = [], 0
+    found: list[tuple[str, str]] = []
+    end = 0
     while value := IN_CONSTANT.match(values, end):
         found.append((value[1] or value[3], value[2] or value[4]))
         end = value.end() + len(", ")
@@ -134,15 +137,15 @@ def constant(head, types, values, alignment):
 class Narrowing:
     """Rewrites the lines of one module in their order."""
 
-    def __init__(self):
+    def __init__(self) -> None:
         self.count = 0
 
-    def new(self):
+    def new(self) -> str:
         """An unused name for a number that was a pointer or becomes one."""
         self.count += 1
         return f"%wide.{self.count}"
 
-    def line(self, line):
+    def line(self, line: str) -> Optional[str]:
         """The line or lines for a line without its end; None for a hint that is dropped."""
         if line == PAUSE:
             return None
@@ -154,7 +157,7 @@ class Narrowing:
             return with_numbers(line)
         return self.rewritten(line)
 
-    def rewritten(self, line):
+    def rewritten(self, line: str) -> str:
         if found := LOAD.fullmatch(line):
             name, place, alignment = found.groups()
             number = self.new()
@@ -175,7 +178,7 @@ class Narrowing:
             return constant(*found.groups())
         raise UnknownForm(line)
 
-    def part(self, name, first, second, pair, index):
+    def part(self, name: str, first: str, second: str, pair: str, index: str) -> str:
         """One of the values of a pair; a pointer is made from the number in its place."""
         kinds = with_numbers(f"{{ {first}, {second} }}")
         if (first, second)[int(index)] != "ptr":
@@ -184,9 +187,9 @@ class Narrowing:
         return f"  {number} = extractvalue {kinds} {pair}, {index}\n  {name} = inttoptr i64 {number} to ptr"
 
 
-def narrowed(lines):
+def narrowed(lines: Iterable[str]) -> Iterator[str]:
     """The lines of a module, rewritten. Raises `UnknownForm` with the first line that has another form."""
-    narrowing, seen = Narrowing(), set()
+    narrowing, seen = Narrowing(), set[str]()
     for line in lines:
         if line.startswith("target "):
             if line not in WIDE_TARGET:

@@ -11,6 +11,7 @@ from typing import Any, Optional
 from trlab._runs.location import FEATURES_OF_V2, FEATURES_OF_V3
 
 from . import TOP, program
+from .processes import Process
 
 # The released program and the built one: each prints its arguments and its standard input, and ends with a status of its own.
 RELEASED = "#!/bin/sh\necho released \"$@\"\ncat\nexit 5\n"
@@ -39,6 +40,11 @@ NO_ROOM = "#!/bin/sh\necho no room >&2\nexit 1\n"
 LEVELS = V2, V3 = ("x86-64-v2", "x86-64-v3")
 OF_V2, OF_V3 = sorted(FEATURES_OF_V2), sorted(FEATURES_OF_V3)
 FLAGS = "#!/bin/sh\necho flags : fpu {}\n"
+
+
+# The output and the exit status of ./trlab; and both with its messages.
+Outcome = tuple[bytes, int]
+Ended = tuple[Outcome, str]
 
 
 class Checkout:
@@ -103,7 +109,7 @@ class Checkout:
     def start(
         self, call: Optional[str] = None, words: Iterable[str] = ("run", "--workers", "2"), cwd: str = "/", how: str = 'exec "$@"',
         user: Optional[int] = None, **more: str
-    ) -> "subprocess.Popen[bytes]":
+    ) -> Process:
         """./trlab, started with arguments by a shell that may set something first; its input is short."""
         paths = os.environ["PATH"].split(os.pathsep)
         others = [path for path in paths if not os.path.exists(os.path.join(path, "rt"))]
@@ -114,7 +120,7 @@ class Checkout:
         pipe = subprocess.PIPE
         return subprocess.Popen(called, cwd=cwd, env=env, stdin=pipe, stdout=pipe, stderr=pipe, user=user)
 
-    def call(self, **how: Any) -> tuple[tuple[bytes, int], str]:
+    def call(self, **how: Any) -> Ended:
         """The output, the status and the messages of ./trlab."""
         return end(self.start(**how))
 
@@ -137,7 +143,7 @@ class Checkout:
         return os.path.join(self.top, "out", name)
 
 
-def end(started: "subprocess.Popen[bytes]") -> tuple[tuple[bytes, int], str]:
+def end(started: Process) -> Ended:
     output, messages = started.communicate(b"text", timeout=program.LONGEST)
     return (output, started.returncode), messages.decode()
 

@@ -1,4 +1,20 @@
 """Processes that are observed while they run."""
+import subprocess
+from typing import IO
+
+Process = subprocess.Popen[bytes]
+
+
+def input_of(process: Process) -> IO[bytes]:
+    """The standard input of a process that was started with a pipe to it."""
+    assert process.stdin is not None
+    return process.stdin
+
+
+def output_of(process: Process) -> IO[bytes]:
+    """The standard output of a process that was started with a pipe from it."""
+    assert process.stdout is not None
+    return process.stdout
 
 
 def peak_of(pid: int) -> int:

@@ -1,50 +1,48 @@
-"""The program trlab that the commands run, and its runs on inputs."""
+"""The program trlab that the commands run, and its runs on inputs. Where a program can be, the package knows (location.py); the
+commands prefer the one that was built here, because it is the one to be tested."""
+import contextlib
 import functools
 import os
 import select
 import signal
-import subprocess
 import sys
 from collections.abc import Callable, Iterable, Iterator, Sequence
 from concurrent.futures import ProcessPoolExecutor
 from typing import Any, Optional, Union
 
+from trlab import ProgramNotFoundError
+from trlab._runs import location
+
 from . import TOP
 
 BUILT = TOP / "crates" / "trlab_program" / "out" / "trlab_program"
 LONGEST = 300  # seconds after which a run counts as a hang; this long because other work may slow everything down
+NOT_FOUND = "build the program first (./trlab --prove), or name one in TRLAB"
 # The exit statuses of the program.
 DONE, REFUSED, WORDS, MEMORY, DEVICE = range(5)
 Answer = tuple[Union[int, str], bytes]
 
 
-def of_release() -> Optional[str]:
-    """The released program that ./trlab runs, which it may unpack first; None if none belongs to the present sources."""
-    found = subprocess.run([TOP / "trlab", "--where"], stdout=subprocess.PIPE, text=True)
-    return found.stdout.rstrip("\n") if found.returncode == 0 else None
-
-
 def named_or_built() -> Optional[str]:
     """The program that TRLAB names, or the last one that was built here; None if there is none."""
-    named = os.environ.get("TRLAB")
-    return executable(named) if named else str(BUILT) if os.access(BUILT, os.X_OK) else None
+    return location.named() or (str(BUILT) if os.access(BUILT, os.X_OK) else None)
 
 
 @functools.cache
 def find() -> str:
     """The program that TRLAB names; otherwise the last one that was built here; otherwise the released one."""
-    return executable(named_or_built() or of_release())
+    try:
+        return named_or_built() or location.of_checkout() or sys.exit(NOT_FOUND)
+    except ProgramNotFoundError as error:
+        sys.exit(f"{error}\n{NOT_FOUND}")
 
 
 def find_fastest() -> str:
     """The program that TRLAB names; otherwise the released one, which is for this processor; otherwise the built one."""
-    return executable(os.environ.get("TRLAB") or of_release() or str(BUILT))
-
-
-def executable(path: Optional[str]) -> str:
-    if path is None or not os.access(path, os.X_OK):
-        sys.exit(f"{path or BUILT} is not an executable file: build it first (./trlab --prove), or name a program in TRLAB")
-    return os.path.abspath(path)
+    with contextlib.suppress(ProgramNotFoundError):
+        if not os.environ.get("TRLAB"):
+            return location.of_checkout() or find()
+    return find()
 
 
 def ended(pid: int) -> Union[int, str]:

@@ -44,8 +44,7 @@ def find_program() -> str:
     5. `trlab` on the `PATH`.
 
     Raises `ProgramNotFoundError` if none is found, if it is damaged, or if `TRLAB` names another file."""
-    named = os.environ.get("TRLAB")
-    return _named(named) if named else _packed() or _of_checkout() or _for_node() or _on_path() or _nowhere()
+    return named() or _packed() or of_checkout() or _for_node() or _on_path() or _nowhere()
 
 
 def sha256_of_program(path: str) -> str:
@@ -87,7 +86,11 @@ def printed_by(path: str, option: str) -> Optional[str]:
     return os.fsdecode(output) if process.returncode == 0 and len(output) <= _MAX_OUTPUT else None
 
 
-def _named(name: str) -> str:
+def named() -> Optional[str]:
+    """The program that `TRLAB` names, or None if it names none. Raises `ProgramNotFoundError` if it names another file."""
+    name = os.environ.get("TRLAB")
+    if not name:
+        return None
     path = Path(os.path.expanduser(name)).absolute()
     if not path.is_file():
         raise ProgramNotFoundError(f"TRLAB is {name!r}, and there is no file {path}")
@@ -174,7 +177,9 @@ def _unpacked(packed: Path, path: Path, sha256: str) -> bool:
 
 
 @functools.lru_cache(maxsize=None)
-def _of_checkout() -> Optional[str]:
+def of_checkout() -> Optional[str]:
+    """The program of the checkout, as `./trlab` finds it, or None if this is no checkout, or if no native program fits.
+    Raises `ProgramNotFoundError` if the checkout has no program of its sources."""
     if not fits_native_programs() or not (_SCRIPT.parent / "release").is_dir():
         return None
     if not _SCRIPT.is_file() or not os.access(_SCRIPT, os.X_OK):

@@ -5,7 +5,9 @@ Reads a job with one lane and `rule nasch t`, and writes its snapshots as trlab 
 needs only a few instructions per random number. `tuned` chooses a loop without divisions and without a branch on the random
 number. Prints on standard error how long the steps and snapshots took, in seconds: wall-clock time and CPU time, both
 without compilation."""
+import io
 import sys
+from typing import IO, Any
 
 import ring
 
@@ -15,13 +17,15 @@ try:
 except ImportError:
     sys.exit("numba is not installed")
 
+Numbers = np.ndarray[Any, np.dtype[np.int64]]
+Bytes = np.ndarray[Any, np.dtype[np.uint8]]
 STEP = np.frombuffer(b"step ", dtype=np.uint8)
 SPEEDS = np.frombuffer(ring.SPEEDS, dtype=np.uint8)
 BUFFER = 1 << 16  # bytes of snapshots that are written at once
 
 
 @njit(cache=True)
-def advance(places, speeds, cells, limit, brake, seed):
+def advance(places: Numbers, speeds: Numbers, cells: int, limit: int, brake: np.uint64, seed: np.uint64) -> np.uint64:
     """Takes a step and returns the new seed. The cars keep their order on the ring, so each looks at the next one."""
     cars = len(places)
     for k in range(cars):
@@ -39,7 +43,7 @@ def advance(places, speeds, cells, limit, brake, seed):
 
 
 @njit(cache=True)
-def advance_tuned(places, speeds, cells, limit, brake, seed):
+def advance_tuned(places: Numbers, speeds: Numbers, cells: int, limit: int, brake: np.uint64, seed: np.uint64) -> np.uint64:
     """The same in one loop, without divisions."""
     first = places[0]
     for k in range(len(places)):
@@ -58,7 +62,7 @@ def advance_tuned(places, speeds, cells, limit, brake, seed):
 
 
 @njit(cache=True)
-def draw(places, speeds, cells, step, out, at):
+def draw(places: Numbers, speeds: Numbers, cells: int, step: int, out: Bytes, at: int) -> int:
     """Draws a snapshot into a buffer, below its line `step N`, and returns the position of its end."""
     out[at:at + 5] = STEP
     at, rest = at + 6, step
@@ -78,7 +82,10 @@ def draw(places, speeds, cells, step, out, at):
 
 
 @njit(cache=True)
-def fill(is_tuned, places, speeds, cells, limit, brake, seed, step, steps, out):
+def fill(
+    is_tuned: bool, places: Numbers, speeds: Numbers, cells: int, limit: int, brake: np.uint64, seed: np.uint64, step: int,
+    steps: int, out: Bytes
+) -> tuple[np.uint64, int, int]:
     """Draws snapshots and takes steps until the buffer is full; returns the seed, the next step and the bytes drawn."""
     at = 0
     while step <= steps and at + cells + 20 <= len(out):
@@ -91,7 +98,7 @@ def fill(is_tuned, places, speeds, cells, limit, brake, seed, step, steps, out):
     return seed, step, at
 
 
-def run(limit, lane, brake, steps, out, is_tuned):
+def run(limit: int, lane: bytes, brake: int, steps: int, out: IO[bytes], is_tuned: bool) -> None:
     """Runs a job."""
     start = np.frombuffer(lane, dtype=np.uint8)
     cells, places = len(start), np.flatnonzero(start != ord("."))
@@ -100,14 +107,10 @@ def run(limit, lane, brake, steps, out, is_tuned):
     while step <= steps:
         road = places, speeds, cells, limit, np.uint64(brake), np.uint64(seed)
         seed, step, end = fill(is_tuned, *road, step, steps, pictures)
-        out.write(pictures[:end])
+        out.write(pictures[:end].data)
 
 
-class Nowhere:
-    """An output that is discarded."""
-    write = staticmethod(len)
-
-
-job, is_tuned = ring.read_job(sys.stdin.read()), sys.argv[1:] == ["tuned"]
-run(*job[:3], 1, Nowhere, is_tuned)
-ring.measured(lambda: run(*job, sys.stdout.buffer, is_tuned))
+limit, lane, brake, steps = ring.read_job(sys.stdin.read())
+is_tuned = sys.argv[1:] == ["tuned"]
+run(limit, lane, brake, 1, io.BytesIO(), is_tuned)
+ring.measured(lambda: run(limit, lane, brake, steps, sys.stdout.buffer, is_tuned))

@@ -4,6 +4,7 @@
 Reads a job with one lane and `rule nasch t`, and writes its snapshots as trlab does, but with NumPy's own generator.
 Prints on standard error how long the steps and snapshots took, in seconds: wall-clock time and CPU time."""
 import sys
+from typing import IO, Any
 
 import ring
 
@@ -12,10 +13,11 @@ try:
 except ImportError:
     sys.exit("NumPy is not installed")
 
+Numbers = np.ndarray[Any, np.dtype[np.int64]]
 SPEEDS = np.frombuffer(ring.SPEEDS, dtype=np.uint8)
 
 
-def picture(cells, places, speeds):
+def picture(cells: int, places: Numbers, speeds: Numbers) -> bytes:
     """The row of a lane in a snapshot, with its line feed."""
     lane = np.full(cells + 1, ord("."), dtype=np.uint8)
     lane[places] = SPEEDS[speeds]
@@ -23,7 +25,7 @@ def picture(cells, places, speeds):
     return lane.tobytes()
 
 
-def run(limit, lane, brake, steps, out):
+def run(limit: int, lane: bytes, brake: int, steps: int, out: IO[bytes]) -> None:
     """Runs a job. The cars keep their order on the ring, so each looks at the next one."""
     draw, chance = np.random.default_rng(1), brake / ring.PARTS
     start = np.frombuffer(lane, dtype=np.uint8)
@@ -39,5 +41,5 @@ def run(limit, lane, brake, steps, out):
         out.write(b"step %d\n" % step + picture(cells, places, speeds))
 
 
-job = ring.read_job(sys.stdin.read())
-ring.measured(lambda: run(*job, sys.stdout.buffer))
+limit, lane, brake, steps = ring.read_job(sys.stdin.read())
+ring.measured(lambda: run(limit, lane, brake, steps, sys.stdout.buffer))

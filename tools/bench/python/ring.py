@@ -2,12 +2,13 @@
 import os
 import sys
 import time
+from collections.abc import Callable
 
 SPEEDS = b"0123456789abcdefghijklmnopqrstuvwxyz"
 PARTS = 2**31  # a probability p is written as p * 2^31
 
 
-def read_job(text):
+def read_job(text: str) -> tuple[int, bytes, int, int]:
     """The maximum speed, the lane, p * 2^31 and the number of steps of a job with one lane and `rule nasch`."""
     lines = [line.split() for line in text.splitlines()]
     words = {line[0]: line[1:] for line in lines}
@@ -16,7 +17,7 @@ def read_job(text):
     return int(words["limit"][0]), words["lane"][0].encode(), int(words["rule"][1]), int(words["steps"][0])
 
 
-def measured(call):
+def measured(call: Callable[[], object]) -> None:
     """Prints the minimum time of a call on standard error: wall-clock time and CPU time, in seconds. The environment
     variable TURNS sets the number of calls in one process, because Python itself starts slowly."""
     took = []

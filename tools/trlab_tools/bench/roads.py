@@ -1,7 +1,7 @@
 """Rows of one road each: trlab with one worker, compared with the programs without proofs; and its memory."""
 import os
 from collections.abc import Callable, Iterator
-from typing import Any, NamedTuple
+from typing import Any, NamedTuple, Optional
 
 from . import measuring
 from .rows import Programs, Row, a_move, wish
@@ -21,7 +21,7 @@ LONG = 100000, 0.3
 WIDE, TUNED = "wide ", "tuned "
 HEAP = "rickert 536870912 1"
 # The wanted maximum of the time of trlab over the time of other programs, by rule, cells and density.
-WANTED: dict[tuple[str, tuple[int, float | None]], dict[str, float]] = {
+WANTED: dict[tuple[str, tuple[int, Optional[float]]], dict[str, float]] = {
     ("nasch 0", LONG): {"plain": 1.1, "numba": 0.55, "NumPy": 0.2},
     ("nasch 536870912", LONG): {"floor": 1.35, "NumPy": 0.85},
     ("vdr 33554432 1610612736", LONG): {"floor": 1.3},
@@ -40,7 +40,7 @@ class Road(NamedTuple):
     rule: str
     lanes: int
     cells: int
-    density: float | None
+    density: Optional[float]
 
     def pictures(self) -> list[str]:
         if self.density is None:
@@ -57,7 +57,7 @@ class Road(NamedTuple):
     def draws(self) -> bool:
         return self.rule != "nasch 0"
 
-    def size(self) -> tuple[int, float | None]:
+    def size(self) -> tuple[int, Optional[float]]:
         return self.cells, self.density
 
     def is_asked(self) -> bool:

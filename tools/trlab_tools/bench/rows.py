@@ -1,7 +1,7 @@
 """A row of the table, and the table as text: all of it as tab-separated values, a few rows of it in Markdown."""
 import re
 from collections.abc import Collection, Iterable
-from typing import NamedTuple
+from typing import NamedTuple, Union
 
 from . import measuring
 
@@ -43,9 +43,9 @@ class Row(NamedTuple):
     """A measurement: its subject; the lanes, their cells and all cars, if it is of a road; the nanoseconds per car and step of
     trlab and of other programs; further results; and the wanted values."""
     what: str
-    lanes: int | str
-    cells: int | str
-    cars: int | str
+    lanes: Union[int, str]
+    cells: Union[int, str]
+    cars: Union[int, str]
     times: dict[str, measuring.Time]
     beside: str = ""
     wanted: tuple[str, ...] = ()
@@ -55,18 +55,15 @@ class Row(NamedTuple):
         return self.times["trlab"].cpu / self.times[other].cpu
 
     def cell(self, column: str) -> str:
-        match column:
-            case "what" | "lanes" | "cells" | "cars" | "beside":
-                return str(getattr(self, column))
-            case "trlab" if "trlab" in self.times:
-                return f"{self.times['trlab'].cpu:.1f}"
-            case "wall clock" if "trlab" in self.times:
-                return f"{self.times['trlab'].clock:.1f}"
-            case "wanted":
-                return ", ".join(self.wanted)
-            case other if other in self.times:
-                return f"{self.times[other].cpu:.1f} ({self.ratio(other):.2f})"
-        return ""
+        if column in ("what", "lanes", "cells", "cars", "beside"):
+            return str(getattr(self, column))
+        if column == "wanted":
+            return ", ".join(self.wanted)
+        if column == "wall clock":
+            return f"{self.times['trlab'].clock:.1f}" if "trlab" in self.times else ""
+        if column not in self.times:
+            return ""
+        return f"{self.times[column].cpu:.1f}" + ("" if column == "trlab" else f" ({self.ratio(column):.2f})")
 
 
 def wish(what: str, is_met: bool) -> str:

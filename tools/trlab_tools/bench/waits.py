@@ -4,10 +4,9 @@ import subprocess
 import time
 from collections.abc import Callable, Iterator, Sequence
 
+from ..processes import Process
 from . import measuring
 from .rows import Programs, Row, wish
-
-Process = subprocess.Popen[bytes]
 
 SECONDS = 1.0
 COUNTS = 1, 4

@@ -12,6 +12,7 @@ from .reader import Job, Sweep
 
 Dice = random.Random
 Test = TypeVar("Test")
+Read = TypeVar("Read")
 
 MAX_CELLS = 60000  # of all snapshots of a run, or of all steps of a sweep
 WIDE = 400  # one in 400 jobs has a road that several workers share
@@ -232,8 +233,8 @@ def is_small(says: object) -> bool:
 
 
 def random_text(
-    seed: int, number: int, read: Callable[[str, bytes], tuple[Test, object]]
-) -> tuple[str, bytes, tuple[Test, object]]:
+    seed: int, number: int, read: Callable[[str, bytes], tuple[Test, Read]]
+) -> tuple[str, bytes, tuple[Test, Read]]:
     """The command and the input with this number, which takes little work, and the result of `read` for both."""
     dice = random.Random(f"{seed} {number}")
     while True:

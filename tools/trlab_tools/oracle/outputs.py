@@ -13,6 +13,8 @@ from .reader import SPEEDS, Check, Job, Sweep, read_check, read_job, read_sweep
 
 # An exit status, or the reason why there is none.
 Status = Union[int, str]
+# A test of the status and the output of a command, and what the input is.
+Expectation = tuple[Callable[[Status, bytes], bool], Union[Job, Sweep, Check, Fault]]
 
 REFUSED_PROGRAM = re.compile(rb"refused at (0|[1-9][0-9]*) reason ([1-9]|1[0-2])\n")
 NOTE = re.compile(rb"note (0|[1-9][0-9]*)(?: r[0-7] (?:[0-9]+ [0-9]+|flag|side))*(?: side)?\n")
@@ -113,9 +115,7 @@ def is_table(sweep: Sweep, status: Status, output: bytes) -> bool:
     )
 
 
-def expectation(
-    command: str, text: bytes
-) -> tuple[Callable[[Status, bytes], bool], Union[Job, Sweep, Check, Fault]]:
+def expectation(command: str, text: bytes) -> Expectation:
     """A test of the exit status and output of a command for an input, and the job, sweep, check or fault of the input."""
     try:
         if command == "check":

@@ -9,16 +9,19 @@ import hashlib
 import os
 import re
 import subprocess
+from collections.abc import Iterable
 
 from .. import TOP
 from . import trials
-from .bodies import Body, Crate, Verdict
+from .bodies import OF_CLAUSE, Body, Crate, Verdict
 
 # The mean number of rounds of which one is tried again although its verdicts are recorded.
 ONE_OF = 16
 HEAD = "# Written by `tools/mutants --write`: each wrong body, a function that it changes, and what the prover says of it.\n"
 LOGIC = re.compile(r"\blogic (\w+)")
 MAX_CHARACTERS = 150
+# What the prover says of the functions that each body changes, by the body's name and their paths.
+Recorded = dict[str, dict[str, str]]
 
 
 @functools.cache
@@ -32,9 +35,10 @@ def logic() -> str:
 
 def sum_of(crate: Crate) -> str:
     """The checksum of all on which the verdicts on a crate's bodies depend."""
+    crates = os.path.dirname(crate.folder)
     own = [os.path.join(crate.folder, part) for part in ("src", "specs", "proofs", "must-fail", "wrong.edit")]
-    lower = [str(TOP / "crates" / name / part) for name in crate.lower for part in ("src", "specs")]
-    return hashlib.sha256(f"{logic()} {trials.sum_of([*own, *lower], str(TOP))}".encode()).hexdigest()
+    lower = [os.path.join(crates, name, part) for name in crate.lower for part in ("src", "specs")]
+    return hashlib.sha256(f"{logic()} {trials.sum_of([*own, *lower], os.path.dirname(crates))}".encode()).hexdigest()
 
 
 @functools.cache
@@ -53,31 +57,50 @@ def path_of(crate: Crate) -> str:
     return os.path.join(crate.folder, "wrong.verdicts")
 
 
-def read(crate: Crate) -> dict[str, dict[str, str]]:
-    """What the prover says of the functions that each body changes, by the body's name and their paths; nothing if the record
-    is not current."""
+def read(crate: Crate) -> Recorded:
+    """The record of a crate; nothing if it is not current, or if it has a body, or a function of a body, that is not there."""
     if not os.path.exists(path_of(crate)):
         return {}
     with open(path_of(crate), encoding="utf-8") as file:
         head, *rows = [line.rstrip("\n").split("\t") for line in file if not line.startswith("#")]
     if head != ["sources", sum_of(crate)]:
         return {}
-    recorded: dict[str, dict[str, str]] = {}
+    recorded: Recorded = {}
     for body, path, line in rows:
         recorded.setdefault(body, {})[path] = line
-    return recorded
+    return recorded if is_of(crate, recorded) else {}
 
 
-def verdict_on(crate: Crate, body: Body, recorded: dict[str, dict[str, str]]) -> Verdict:
+def is_of(crate: Crate, recorded: Recorded) -> bool:
+    """Whether the crate has all bodies of a record, and each changes the functions that the record has for it."""
+    bodies = {body.name: body for body in crate.bodies}
+    return recorded.keys() <= bodies.keys() and all(
+        paths.keys() <= crate.changed_by(bodies[name]).keys() for name, paths in recorded.items()
+    )
+
+
+def has_round(crate: Crate, number: int, round_: Iterable[Body], recorded: Recorded) -> bool:
+    """Whether the verdicts on the bodies of a round are those of the record: it has all of them, and the sample has not drawn
+    this round."""
+    return recorded.keys() >= {body.name for body in round_} and not is_in_sample(crate, number)
+
+
+def verdict_on(crate: Crate, body: Body, recorded: Recorded) -> Verdict:
     """The verdict on a body that is in the record."""
     changed = crate.changed_by(body)
     return Verdict({changed[path]: line for path, line in recorded[body.name].items()}, "")
 
 
+def shortened(line: str) -> str:
+    """The beginning of what the prover says, with the words that show whether a clause was refused."""
+    found = OF_CLAUSE.search(line)
+    return line[:max(MAX_CHARACTERS, found.end() if found else 0)].replace("\t", " ")
+
+
 def write(crate: Crate, verdicts: list[tuple[Body, Verdict]]) -> None:
-    """Record the verdicts on all bodies of a crate."""
+    """Record the verdicts on all bodies of a crate. A body that no function refuses gets no row, so that it is tried again."""
     rows = [
-        f"{body.name}\t{change.path}\t{line[:MAX_CHARACTERS]}\n"
+        f"{body.name}\t{change.path}\t{shortened(line)}\n"
         for body, verdict in sorted(verdicts, key=lambda it: it[0].name)
         for change, line in verdict.refusing.items()
     ]

@@ -1,0 +1,25 @@
+"""The lines of the shell in a document, which run as those of a reader: beside the program, docs/ and examples/."""
+import contextlib
+import os
+import subprocess
+import tempfile
+from collections.abc import Iterator
+
+from .. import TOP, program
+
+
+@contextlib.contextmanager
+def folder_of_reader() -> Iterator[str]:
+    """A new folder with the trlab, docs and examples of this repository."""
+    with tempfile.TemporaryDirectory() as folder:
+        os.symlink(program.find(), os.path.join(folder, "trlab"))
+        for name in "docs", "examples":
+            os.symlink(TOP / name, os.path.join(folder, name))
+        yield folder
+
+
+def run(lines: str, folder: str) -> tuple[str, bool]:
+    """The output of lines of the shell in a folder, and whether they succeed."""
+    words = ["bash", "-euo", "pipefail", "-c", lines]
+    ran = subprocess.run(words, cwd=folder, stdout=subprocess.PIPE, stderr=subprocess.STDOUT, text=True)
+    return ran.stdout, ran.returncode == 0
