@@ -130,7 +130,7 @@ function mark_step(scale, room,  step, k) {
 # A lane: its frame, a path for each speed, and its axis of positions.
 function panel(lane, x,  speed, y, step, mark, k) {
     printf "<rect x=\"%.1f\" y=\"%d\" width=\"%.1f\" height=\"%.1f\" fill=\"white\" stroke=\"#b0b0b0\"/>\n", x, top, wide, high
-    # What is outside of the lane is not shown: the line of a car that passes its end goes on there.
+    # Nothing outside of the lane is shown: the line of a car that passes its end would go on there.
     printf "<svg x=\"%.1f\" y=\"%d\" width=\"%.1f\" height=\"%.1f\" viewBox=\"0 0 %d %d\" preserveAspectRatio=\"none\">\n", \
         x, top, wide, high, cells, steps
     if (count_of[lane]) {

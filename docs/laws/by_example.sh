@@ -1,10 +1,10 @@
 #!/bin/bash
-# Checks the laws of docs/LAWS.md on runs of ./trlab, and prints for each law an example and what it shows.
+# Checks the laws of docs/LAWS.md on runs of ./trlab, and prints an example of each law with its meaning.
 #
 #   bash docs/laws/by_example.sh [PART ..]
 #
-# Without a part all of them run, which takes some seconds. Run it at the top of the repository, where it writes into the
-# folder study. The scripts next to it count and compare; their first lines say how. The output of all parts is in
+# Without a part all of them run, which takes some seconds. Run it at the top of the repository; it writes into the
+# folder study there. The scripts next to it count and compare; their first lines say how. The output of all parts is in
 # docs/laws/by_example.txt.
 set -euo pipefail
 
