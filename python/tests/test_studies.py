@@ -229,10 +229,10 @@ class Studies(unittest.TestCase):
         names = [*QUICK, *(SLOW if os.environ.get("TRLAB_SLOW_STUDIES") else [])]
         with tempfile.TemporaryDirectory() as folder, ThreadPoolExecutor() as pool:
             results = pool.map(lambda name: run_python(Path(folder) / name, f"studies/paper/{name}.py"), names)
-            for name, (figures, printed) in zip(names, results):
+            for name, drawn in zip(names, results):
                 with self.subTest(script=name):
-                    self.assertEqual(set(figures), {f"{name}.svg"})
-                    printed_words, expected_words = "\n".join(printed).split(), pages[name].split()
+                    self.assertEqual(set(drawn.figures), {f"{name}.svg"})
+                    printed_words, expected_words = "\n".join(drawn.printed).split(), pages[name].split()
                     self.assertEqual(len(printed_words), len(expected_words))
                     self.assertEqual(
                         [pair for pair in zip(printed_words, expected_words) if not is_rounded_alike(*pair)], []
