@@ -50,6 +50,8 @@ class Inputs(OnPage):
         self.has(["two_cars.job", "Two cars", "choose"], lambda: self.page.js(first))
 
     def write(self, selector, text):
+        """Replace the text of an editor, once the page has no change that it still has to write there."""
+        self.hold(lambda: not self.page.js("return lab.isWriting"))
         self.page.js("const it = document.querySelector(arguments[0]); it.textContent = arguments[1]; it.dispatchEvent(new Event('input'))", selector, text)
 
     def test_a_job_file_that_you_type(self):
