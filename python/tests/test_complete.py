@@ -203,7 +203,7 @@ class Statuses(unittest.TestCase):
 
 # Sweeps that take minutes, and write no output until they end; a signal comes after the first line.
 ENDLESS = """
-import signal, sys, trlab
+import os, signal, sys, threading, trlab
 from concurrent.futures import ProcessPoolExecutor, ThreadPoolExecutor
 long = trlab.Sweep(limit=5, length=100000, lanes=2, cars=[99999], rule=trlab.Rickert(0.25, 1), warm=0, measure=500000)
 short = trlab.Sweep(limit=5, length=10, cars=[1], rule=trlab.Nasch(0), warm=0, measure=1)
@@ -212,6 +212,9 @@ way, cache = sys.argv[1:]
 signal.signal(signal.SIGHUP, signal.SIG_DFL)  # `nohup` has its processes ignore it
 if way == "handled":
     signal.signal(signal.SIGTERM, lambda *_: sys.exit(7))
+def receive():
+    signal.pthread_kill(threading.get_ident(), int(os.read(0, 9) or 0))
+threading.Thread(target=receive, daemon=True).start()
 print("ready", flush=True)
 if way in ("sweep", "handled"):
     long.sweep()
@@ -231,13 +234,17 @@ else:
 class Signals(unittest.TestCase):
     """SIGTERM and SIGHUP end a study as they would without trlab, and its programs with it."""
 
-    def try_one(self, way, number, programs):
+    def try_one(self, way, number, programs, in_thread=False):
         with tempfile.TemporaryDirectory() as cache:
             process = child(ENDLESS, way, cache)
             try:
                 self.assertEqual(process.stdout.readline(), "ready\n")
                 self.assertTrue(holds(lambda: len(marked(process.mark, find_program())) == programs))
-                process.send_signal(number)
+                if in_thread:
+                    process.stdin.write(f"{int(number)}\n")
+                    process.stdin.flush()
+                else:
+                    process.send_signal(number)
                 status = process.wait()
                 self.assertTrue(holds(lambda: not marked(process.mark, find_program())))
                 if way != "processes":
@@ -251,6 +258,12 @@ class Signals(unittest.TestCase):
             for number in signal.SIGTERM, signal.SIGHUP:
                 with self.subTest(way=way, signal=number):
                     self.assertEqual(self.try_one(way, number, programs), -number)
+
+    def test_a_signal_that_does_not_interrupt_the_main_thread(self):
+        """Another thread gets it. The same happens if it comes just before the main thread waits."""
+        for way, programs in {"sweep": 1, "inner": 2, "threads": 2, "processes": 2}.items():
+            with self.subTest(way=way):
+                self.assertEqual(self.try_one(way, signal.SIGTERM, programs, in_thread=True), -signal.SIGTERM)
 
     def test_a_handler_of_the_script_stays(self):
         self.assertEqual(self.try_one("handled", signal.SIGTERM, 1), 7)

@@ -4,9 +4,9 @@ from __future__ import annotations
 import itertools
 import threading
 from concurrent.futures import BrokenExecutor, Executor, Future, ThreadPoolExecutor, wait
-from contextlib import contextmanager, nullcontext
+from contextlib import contextmanager, nullcontext, suppress
 from pathlib import Path
-from queue import SimpleQueue
+from queue import Empty, SimpleQueue
 from collections.abc import Callable, Iterable, Iterator, Mapping
 from typing import Any, Optional, TypeVar, Union, overload
 
@@ -15,7 +15,7 @@ from .cache import Cache
 from .ownership import Lease
 from .progress import Line, Progress, reporter
 from .processes import Processes, Setting, new_processes, set_to, setting
-from .systems import after_fork, processors
+from .systems import SPAN, after_fork, processors
 from .._inputs.jobs import Job
 from .._inputs.sweeps import Sweep
 from .._inputs.numbers import checked_int
@@ -149,7 +149,7 @@ def _results(
         submit(waiting)
         try:
             for done in range(1, len(named) + 1):
-                future = finished.get()
+                future = _next_of(finished)
                 name = names.pop(future)
                 result = _result_of(future, are_errors_kept)
                 submit(1)
@@ -188,6 +188,13 @@ def _running(
             if executor is None:
                 pool.shutdown()
             del _RUNS[lease.path]
+
+
+def _next_of(finished: SimpleQueue[Future[Any]]) -> Future[Any]:
+    """The next call that has ended, after waits that are short enough for signals."""
+    while True:
+        with suppress(Empty):
+            return finished.get(timeout=SPAN)
 
 
 def _result_of(future: Future[Any], are_errors_kept: bool) -> Any:

@@ -19,7 +19,7 @@ from .node import command_of
 from .ownership import remove_owned
 from .requests import Length, Request
 from .signals import Ending, need_exit_statuses
-from .systems import after_fork
+from .systems import after_fork, wait_for_output
 
 if TYPE_CHECKING:
     from .cache import Cache
@@ -199,6 +199,7 @@ def _processes_now() -> Iterator[Processes]:
 
 def _blocks(output: IO[bytes], request: Request, length: Length) -> Generator[bytes, None, bytes]:
     """The blocks of an output; if it is a rejection there are none, and its text is returned."""
+    wait_for_output(output)
     block = output.read(max(map(len, _REJECTIONS)))
     if block.startswith(_REJECTIONS) and not request.is_explanation():
         return block + output.read(_MAX_MESSAGE)

@@ -3,13 +3,28 @@ from __future__ import annotations
 
 import os
 import platform
+import select
 import signal
 import subprocess
 import sys
 from collections.abc import Callable
+from typing import IO
 
 ENDING_SIGNALS = tuple(getattr(signal, name) for name in ("SIGTERM", "SIGHUP") if hasattr(signal, name))
 """The signals that end this process and its programs with it."""
+
+SPAN = 0.5
+"""The seconds after which a wait of the main thread begins again. Python runs the handler of a signal in the main thread, between two
+of its own instructions. A signal that comes just before a wait, or to another thread, is noticed only when the wait ends."""
+
+
+def wait_for_output(stream: IO[bytes]) -> None:
+    """Waits until a pipe has its first bytes or is closed. On Windows, which cannot wait for pipes, it returns at once."""
+    if hasattr(select, "poll"):
+        poll = select.poll()
+        poll.register(stream, select.POLLIN)
+        while not poll.poll(1000 * SPAN):
+            pass
 
 
 def fits_native_programs() -> bool:
