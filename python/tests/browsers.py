@@ -16,7 +16,7 @@ if TYPE_CHECKING or IS_INSTALLED:
 else:
     Keys = None
 
-# The end of a script that acts. A user sees what an action has changed before the next one: the page writes its job file anew
+# The end of a script that acts. A user sees what an action has changed before the next one: the page writes its job file again
 # soon after a change, and draws once per frame. A page that is hidden draws nothing.
 DRAWN = """for (let k = 0; !document.hidden && k < (globalThis.lab?.isWriting ? 600 : 2); k++)
     await new Promise(go => requestAnimationFrame(go));"""

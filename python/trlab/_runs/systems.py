@@ -14,8 +14,9 @@ ENDING_SIGNALS = tuple(getattr(signal, name) for name in ("SIGTERM", "SIGHUP") i
 """The signals that end this process and its programs with it."""
 
 SPAN = 0.5
-"""The seconds after which a wait of the main thread begins again. Python runs the handler of a signal in the main thread, between two
-of its own instructions. A signal that comes just before a wait, or to another thread, is noticed only when the wait ends."""
+"""The seconds after which a wait of the main thread begins again. Python runs the handler of a signal in the main
+thread, between two of its own instructions. A signal that comes just before a wait, or to another thread, is noticed
+only when the wait ends."""
 
 
 def wait_for_output(stream: IO[bytes]) -> None:
