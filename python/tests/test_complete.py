@@ -230,6 +230,19 @@ else:
         pass
 """
 
+# The signal comes when the program runs already, and before its process is known.
+IN_BETWEEN = """
+import os, signal, trlab
+from trlab._runs import processes
+class Child(processes.Child):
+    def __init__(self, *arguments, **options):
+        super().__init__(*arguments, **options)
+        os.kill(os.getpid(), signal.SIGTERM)
+trlab.find_program()
+processes.Child = Child
+trlab.Sweep(limit=5, length=100000, lanes=2, cars=[99999], rule=trlab.Rickert(0.25, 1), warm=0, measure=500000).sweep()
+"""
+
 
 class Signals(unittest.TestCase):
     """SIGTERM and SIGHUP end a study as they would without trlab, and its programs with it."""
@@ -264,6 +277,14 @@ class Signals(unittest.TestCase):
         for way, programs in {"sweep": 1, "inner": 2, "threads": 2, "processes": 2}.items():
             with self.subTest(way=way):
                 self.assertEqual(self.try_one(way, signal.SIGTERM, programs, in_thread=True), -signal.SIGTERM)
+
+    def test_a_signal_while_a_program_is_started(self):
+        process = child(IN_BETWEEN)
+        try:
+            self.assertEqual(process.wait(), -signal.SIGTERM)
+            self.assertTrue(holds(lambda: not marked(process.mark, find_program())))
+        finally:
+            kill(process)
 
     def test_a_handler_of_the_script_stays(self):
         self.assertEqual(self.try_one("handled", signal.SIGTERM, 1), 7)

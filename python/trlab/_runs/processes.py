@@ -51,7 +51,7 @@ class Processes:
     def start(self, request: Request, source: IO[bytes], messages: IO[bytes]) -> Child:
         """A new process, which is killed if all were stopped before."""
         program = find_program()
-        with self._lock:
+        with self._lock, _ENDING.late():
             try:
                 command = [*command_of(program), *request.arguments]
                 process = Child(command, stdin=source, stdout=subprocess.PIPE, stderr=messages)

@@ -31,6 +31,7 @@ class Ending:
 
     def __init__(self, stop: Callable[[], object]) -> None:
         self._stop, self._users = stop, 0
+        self._is_late, self._number = False, 0
         after_fork(self._forget)
 
     @contextmanager
@@ -49,12 +50,30 @@ class Ending:
                 if self._users == 0:
                     self._replace(self._end, signal.SIG_DFL)
 
+    @contextmanager
+    def late(self) -> Iterator[None]:
+        """A signal waits until the end of the block, which is short. A program that has started inside the block, and that
+        is not known yet, would otherwise go on without this process."""
+        if threading.current_thread() is not threading.main_thread():
+            yield
+            return
+        self._is_late = True
+        try:
+            yield
+        finally:
+            self._is_late = False
+            if self._number:
+                self._end(self._number, None)
+
     def _replace(self, old: object, new: object) -> None:
         for number in ENDING_SIGNALS:
             if signal.getsignal(number) == old:
                 signal.signal(number, new)  # type: ignore[arg-type]
 
     def _end(self, number: int, _: Optional[FrameType]) -> None:
+        if self._is_late:
+            self._number = number
+            return
         self._stop()
         signal.signal(number, signal.SIG_DFL)
         os.kill(os.getpid(), number)
@@ -63,5 +82,5 @@ class Ending:
 
     def _forget(self) -> None:
         """A new process of the system has nothing to stop."""
-        self._users = 0
+        self._users, self._is_late, self._number = 0, False, 0
         self._replace(self._end, signal.SIG_DFL)
