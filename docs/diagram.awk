@@ -8,6 +8,10 @@
 #
 #   awk -v limit=5 -f docs/diagram.awk flow.csv    also draws the flow without random braking, which is proved, in grey
 #   awk -v changes=1 -f docs/diagram.awk flow.csv  draws the rate of lane changes instead of the flow
+#
+# A table of `sweep` that ends after a whole row is also the table of a sweep with fewer points, so that only the exit status
+# of trlab shows whether it is complete. Tables that share one curve must have the same points. After an error of trlab,
+# docs/repeat.sh prints no table, and in bash `set -o pipefail` gives the status of `./trlab sweep .. | awk ..`.
 
 BEGIN {
     FS = ","
@@ -32,6 +36,7 @@ $0 == sweep_heading || $0 == series_heading {
         row[label[tables]] = labels
         curve_of[label[tables]] = tables
     }
+    end_table(tables - 1)
     if (is_series) add_point(0, 0)
     columns = NF
     next
@@ -44,13 +49,33 @@ FNR == 1 { refuse("this is not a table of trlab sweep or trlab series: " $0) }
 is_series && $2 > 0 { add_point($1, y[tables, points[tables]] + $5 / $2); next }
 
 # A point of a fundamental diagram: its flow or rate of lane changes, on the curve of the first table with its label.
-!is_series { add_result(curve_of[label[tables]], $1 / $2, !changes ? $7 / 1000000 : $1 * $3 ? 1000 * $6 / ($1 * $3) : 0) }
+!is_series {
+    check_point($1 "," $2 "," $3)
+    add_result(curve_of[label[tables]], $1 / $2, !changes ? $7 / 1000000 : $1 * $3 ? 1000 * $6 / ($1 * $3) : 0)
+}
 
 # Whether the flow of a row follows from its distance, cells and steps: in a row that is cut off it does not.
 function is_row(before,  area, difference) {
     area = $(2 + before) * $(3 + before)
     difference = area ? $(4 + before) / area - $(7 + before) / 1000000 : 1
     return difference > -0.000001 && difference < 0.000002
+}
+
+# Rejects a row if the first table of the curve has another point there.
+function check_point(point,  whole) {
+    whole = curve_of[label[tables]]
+    rows[tables]++
+    if (whole == tables) point_of[tables, rows[tables]] = point
+    else if (point_of[whole, rows[tables]] != point) refuse_rows("table " tables " has other cars, cells, steps or more rows")
+}
+
+# Rejects a table with fewer rows than the first table of the curve.
+function end_table(t) {
+    if (t && !is_series && rows[t] < rows[curve_of[label[t]]]) refuse_rows("table " t " has only " rows[t] + 0 " rows")
+}
+
+function refuse_rows(which) {
+    refuse("tables of one curve must have the same points, but " which ": if a sweep ended early, run it again")
 }
 
 function refuse(why) {
@@ -172,7 +197,8 @@ function legend(name,  y) {
 
 END {
     if (failed) exit 1
-    if (!tables) refuse("there is no table: did trlab reject its input?")
+    if (!tables) refuse("there is no table: did trlab reject its input, or end early?")
+    end_table(tables)
     for (t = 1; t <= tables && !is_series; t++) if (curve_of[label[t]] == t) take_means(t)
     has_triangle = limit > 0 && !is_series && !changes
     if (has_triangle && highest < limit / (limit + 1)) highest = limit / (limit + 1)

@@ -6,6 +6,9 @@
 # next cell, and moving cars are flatter than their cells: otherwise fast cars at nearly equal distances would look like a
 # pattern that moves backwards. Two lanes are drawn side by side. Snapshots may be several steps apart, at equal distances;
 # then there are no lines.
+#
+# An output that ends after a whole snapshot is also that of a run with fewer steps, so that only the exit status of trlab
+# shows whether it is complete; in bash, `set -o pipefail` gives it. An output that ends within a snapshot is rejected.
 
 BEGIN {
     signs = "0123456789abcdefghijklmnopqrstuvwxyz"
@@ -15,6 +18,7 @@ BEGIN {
 }
 
 $1 == "step" {
+    end_snapshot()
     if (!steps++) first = $2
     else if (steps == 2) every = $2 - first
     else if ($2 != first + (steps - 1) * every) refuse("the snapshots are not at equal distances of steps: step " $2)
@@ -28,6 +32,7 @@ $1 == "step" {
 !steps { refuse("this is not the output of trlab run: " $0) }
 
 {
+    if (cells && length($0) != cells) refuse_lane()
     cells = length($0)
     for (x = 0; x < cells; x += run) {
         sign = substr($0, x + 1, 1)
@@ -36,7 +41,17 @@ $1 == "step" {
         draw(lane, index(signs, sign) - 1, x, run)
         for (k = 0; k < run; k++) follow(lane, index(signs, sign) - 1, x + k)
     }
-    if (++lane > lanes) lanes = lane
+    lane++
+    if (steps == 1) lanes = lane
+}
+
+# Rejects a snapshot with fewer or more lanes than the first one.
+function end_snapshot() {
+    if (steps && (!lane || lane != lanes)) refuse_lane()
+}
+
+function refuse_lane() {
+    refuse("line " NR " is not a whole lane, or a lane is missing above it: the run ended early, so run it again")
 }
 
 function refuse(why) {
@@ -182,6 +197,7 @@ function legend(x,  speed, y, title) {
 
 END {
     if (failed) exit 1
+    end_snapshot()
     if (!cells) refuse("there is no snapshot: did trlab reject its input, or is `--from` after the last step?")
     fastest += 0
     for (place in now) finish(now[place], substr(place, 1, index(place, SUBSEP) - 1))

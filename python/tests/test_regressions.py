@@ -18,6 +18,7 @@ import sys
 import tempfile
 import unittest
 import warnings
+from dataclasses import replace
 from pathlib import Path
 
 import trlab
@@ -38,6 +39,7 @@ SEM = "sem" if IS_NEW else "error"
 random_cells = trlab.random_cells if IS_NEW else trlab.random
 write_inputs = trlab.write_inputs if IS_NEW else trlab.write_texts
 PACKAGE = Path(trlab.__file__).parents[1]
+FAILED_WRITE = 4
 
 
 def means(frame, axis):
@@ -79,6 +81,13 @@ def python(script, *arguments, before=(), **environment):
     command = [*before, sys.executable, "-c", script, *arguments]
     environment_of_script = {**os.environ, "PYTHONPATH": str(PACKAGE), "TRLAB": trlab.find_program(), **environment}
     return subprocess.run(command, env=environment_of_script, cwd="/", capture_output=True, text=True).stdout
+
+
+def figure(script, text):
+    """The exit status and the output of a script of docs/ for this text."""
+    command = ["timeout", str(LIMIT), "awk", "-f", str(PACKAGE.parent / "docs" / script)]
+    drawn = subprocess.run(command, input=text, capture_output=True, text=True)
+    return drawn.returncode, drawn.stdout
 
 
 class Frames(unittest.TestCase):
@@ -332,10 +341,37 @@ class Runs(unittest.TestCase):
 
     def test_a_figure_of_a_run(self):
         """diagram.awk rejects a text that is not a table."""
-        command = ["timeout", str(LIMIT), "awk", "-f", str(PACKAGE.parent / "docs/diagram.awk")]
-        drawn = subprocess.run(command, input=job().run().text().encode(), capture_output=True)
-        self.assertEqual(drawn.returncode, 1)
-        self.assertEqual(drawn.stdout, b"")
+        self.assertEqual(figure("diagram.awk", job().run().text()), (1, ""))
+
+    def test_a_figure_of_tables_that_end_early(self):
+        """diagram.awk rejects a table that ends in a row, or before the other tables of its curve. A table that ends after
+        a whole row is the table of a sweep with fewer points, so that nothing in it is wrong."""
+        sweep = Sweep(limit=2, length=20, cars=[5, 10, 15], rule=Nasch(1 / 4), warm=10, measure=100)
+        table = sweep.sweep().text()
+        shorter = "".join(table.splitlines(True)[:-1])
+        self.assertEqual(shorter, replace(sweep, cars=[5, 10]).sweep().text())
+        self.assertEqual(figure("diagram.awk", table + table)[0], 0)
+        for tables in table[:-3], table + shorter, shorter + table, table + table.splitlines(True)[0]:
+            self.assertEqual(figure("diagram.awk", tables), (1, ""))
+
+    def test_a_figure_of_a_run_that_ends_early(self):
+        """spacetime.awk rejects an output that ends within a snapshot."""
+        for road in ["0.0......"], ["0.0......", ".0......."]:
+            snapshots = Job(limit=2, start=road, rule=Nasch(1 / 4), steps=10).run().text()
+            self.assertEqual(figure("spacetime.awk", snapshots)[0], 0)
+            before, step, lanes = snapshots.rpartition("step 10\n")
+            for end in "st", step, step + lanes[:5], step + lanes + "0":
+                self.assertEqual(figure("spacetime.awk", before + end), (1, ""))
+        self.assertEqual(figure("spacetime.awk", before + step + lanes.splitlines(True)[0]), (1, ""))
+
+    def test_a_repeated_sweep_that_ends_early(self):
+        """repeat.sh prints no table if one of its sweeps fails."""
+        program = self.place / "trlab"
+        program.write_text(f"#!/bin/sh\ncat >> read\necho cars\ntest $(grep -c key read) != 3 || exit {FAILED_WRITE}\n")
+        program.chmod(0o755)
+        words = ["sh", str(PACKAGE.parent / "docs/repeat.sh")]
+        repeated = subprocess.run(words, input="sweep 1\n", cwd=self.place, capture_output=True, text=True)
+        self.assertEqual((repeated.returncode, repeated.stdout), (FAILED_WRITE, ""))
 
 
 if __name__ == "__main__":
