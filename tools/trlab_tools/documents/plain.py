@@ -1,6 +1,7 @@
 """Is the English of messages and pages plain? Help texts, explanations, the messages of ./trlab, the docstrings of the
 Python package, the pages for users and those with a word limit may use few of the words that often replace a noun or a
-condition. The guides must have enough of the words that connect and advise, and sentences that are neither choppy nor long."""
+condition. The guides, and so the references, must have enough of the words that connect and advise, and sentences that are
+neither choppy nor long."""
 import ast
 import os
 import re
@@ -19,8 +20,13 @@ DOCUMENTED = ast.Module, ast.ClassDef, ast.FunctionDef
 GUIDES = "README TUTORIAL CHEATSHEET FAQ MODELS PROGRAMS PYTHON STUDIES LAWS LAWS_BY_EXAMPLE LAB ERRORS SPEED".split()
 FOLDERS = "cases examples node studies studies/1992 studies/1996 studies/1998 studies/exact studies/paper studies/triangle".split()
 PAGES = ["README.md", *(f"docs/{name}.md" for name in GUIDES), *(f"{name}/README.md" for name in FOLDERS)]
-# Together these may not have fewer connecting words per 1000 than half of the share in Python's language reference.
-CONNECTED = "README TUTORIAL CHEATSHEET FAQ MODELS PROGRAMS PYTHON STUDIES LAB SPEED COURSE".split()
+# The pages of each kind may together not have fewer connecting words per 1000 than half of the share in Python's language
+# reference.
+CONNECTED = {
+    "guides": "README TUTORIAL CHEATSHEET FAQ MODELS PROGRAMS PYTHON STUDIES LAB SPEED COURSE".split(),
+    "references": "LAWS VERIFIER FILES RELIABILITY".split(),
+    "pages for maintainers": "ARCHITECTURE BOOK CALLS DECISIONS EMBEDDING EXTENDING GLOSSARY GUARANTEES README".split(),
+}
 CONNECTING = {"can": 2.2, "when": 2.0, "will": 1.4, "should": 1.3, "but": 0.8}
 MEAN_SENTENCE = 14, 20
 NO_SENTENCES = re.compile(r"^```.*?^```$|<!-- .*? -->.*?<!-- end -->|^ *(?:\||!\[|<img|#).*?$|\]\([^)]*\)", re.M | re.S)
@@ -71,21 +77,27 @@ def sentences(text: str) -> Iterator[list[str]]:
                 yield words
 
 
-def guides_are_connected() -> Verdicts:
-    """Whether the guides together have enough of each connecting word, and the mean length of their sentences."""
-    pages = (content(f"{'' if name == 'README' else 'docs/'}{name}.md") for name in CONNECTED)
-    found = [words for page in pages for words in sentences(page)]
-    words = re.findall(r"[a-z][\w'-]*", " ".join(" ".join(words) for words in found).lower())
-    for word, least in CONNECTING.items():
-        share = 1000 * words.count(word) / len(words)
-        yield share >= least, f"the guides have only {share:.1f} {word!r} per 1000 words: give reasons, contrasts and advice"
-    mean = sum(map(len, found)) / len(found)
-    yield MEAN_SENTENCE[0] <= mean <= MEAN_SENTENCE[1], f"the sentences of the guides have {mean:.1f} words on average"
+def path_of(kind: str, name: str) -> str:
+    """The path of a page of this kind."""
+    folder = "docs/dev/" if kind == "pages for maintainers" else "" if name == "README" else "docs/"
+    return f"{folder}{name}.md"
+
+
+def pages_are_connected() -> Verdicts:
+    """Whether the pages of each kind together have enough of each connecting word, and the mean length of their sentences."""
+    for kind, names in CONNECTED.items():
+        found = [words for name in names for words in sentences(content(path_of(kind, name)))]
+        words = re.findall(r"[a-z][\w'-]*", " ".join(" ".join(words) for words in found).lower())
+        for word, least in CONNECTING.items():
+            share = 1000 * words.count(word) / len(words)
+            yield share >= least, f"the {kind} have only {share:.1f} {word!r} per 1000 words: give reasons, contrasts and advice"
+        mean = sum(map(len, found)) / len(found)
+        yield MEAN_SENTENCE[0] <= mean <= MEAN_SENTENCE[1], f"the sentences of the {kind} have {mean:.1f} words on average"
 
 
 def verdicts() -> Verdicts:
     """For each text whether it has few of these words, and their share."""
-    yield from guides_are_connected()
+    yield from pages_are_connected()
     for name, text in texts():
         share = 1000 * len(STAND_INS.findall(text)) / len(text.split())
         yield share <= MAX_STAND_INS, f"{name}: {share:.1f} of 1000 words match STAND_INS of plain.py"
