@@ -54,7 +54,6 @@ has an example for each task.
 {overview}
 """
 INDEX = re.compile(r"<!-- tools/reference -->\n.*?<!-- end -->", re.S)
-SUMMARY = re.compile(r"(.+?)(?::|\.(?=\s+[A-Z`]|$))", re.S)
 CODE = re.compile(r"`(?:trlab\.)?([\w.]+)(?:\(\))?`")
 
 Definition = tuple[ast.AST, str]
@@ -321,12 +320,6 @@ def page() -> str:
     return "\n\n".join(part.strip("\n") for part in parts) + "\n"
 
 
-def summary(docstring: str) -> str:
-    """The first sentence of a docstring, or its part before a colon, in one line."""
-    first = SUMMARY.match(docstring)
-    return " ".join((first[1] if first else docstring).split()).replace("|", r"\|").replace("**", r"\*\*")
-
-
 def in_repository(name: str) -> str:
     """The address of a name's section in the guide, as browsers of repositories make it from the heading."""
     title = next(title for title, names in GROUPS.items() if name in names)
@@ -337,20 +330,22 @@ def on_site(name: str) -> str:
     return f"{PAGE.rpartition('/')[2]}#{anchor(name)}"
 
 
-def row(package: Package, name: str, address: Link) -> str:
-    node, docstring = package.known[name]
-    said = f"{summary(docstring)}."
-    if isinstance(node, ast.ClassDef) and (found := package.members(node)):
-        said += f" Has {', '.join(f'`.{method}`' for method in found)}."
-    return f"| [`{name}`]({address(name)}) | {said} |"
+def entry(package: Package, name: str, address: Link) -> str:
+    """A name with its address, and for a class its methods and properties."""
+    node, _ = package.known[name]
+    members = package.members(node) if isinstance(node, ast.ClassDef) else {}
+    return f"[`{name}`]({address(name)})" + (f" ({', '.join(f'`.{member}`' for member in members)})" if members else "")
 
 
 def index(address: Link = in_repository) -> str:
-    """The index of the guide: each name with its address and a summary."""
+    """The index of the guide: each name with its address, by the first letter."""
     package = Package()
-    names = sorted((name for group in GROUPS.values() for name in group), key=lambda name: (name.lower(), name))
-    rows = [row(package, name, address) for name in names]
-    return "\n".join(["<!-- tools/reference -->", "| name | summary |", "|---|---|", *rows, "<!-- end -->"])
+    entries: dict[str, list[str]] = {}
+    for name in sorted((name for group in GROUPS.values() for name in group), key=lambda name: (name.lower(), name)):
+        entries.setdefault(name[0].upper(), []).append(entry(package, name, address))
+    rows = [f"| {letter} | {', '.join(names)} |" for letter, names in entries.items()]
+    head = "| | names, and in brackets their methods and properties |", "|---|---|"
+    return "\n".join(["<!-- tools/reference -->", *head, *rows, "<!-- end -->"])
 
 
 def with_index(guide: str, address: Link = in_repository) -> str:
