@@ -89,10 +89,10 @@ class OnPage(Base):
         if not self.page.holds(condition):
             self.fail(self.page.js("return document.getElementById('fault')?.textContent") or "it does not become true")
 
-    def has(self, wanted: object, found: Callable[[], object]) -> None:
+    def has(self, expected: object, actual: Callable[[], object]) -> None:
         """Wait until a call gives this value."""
-        if not self.page.holds(lambda: found() == wanted):
-            self.assertEqual(found(), wanted)
+        if not self.page.holds(lambda: actual() == expected):
+            self.assertEqual(actual(), expected)
 
     def has_job(self, wanted: str) -> None:
         self.has(wanted, self.page.job)
@@ -115,8 +115,8 @@ class OnPage(Base):
 
     def only_run(self) -> Optional[Child]:
         """The process of the only run, or None."""
-        found = self.runs()
-        return found[0] if len(found) == 1 else None
+        runs = self.runs()
+        return runs[0] if len(runs) == 1 else None
 
     def follows_none(self) -> None:
         self.page.keys(Keys.ESCAPE)
@@ -142,9 +142,9 @@ class OnPage(Base):
     def are_those_of_the_run(self) -> list[list[Any]]:
         """The kept snapshots, which are those of the job file. On a busy machine the first ones may be gone."""
         shots: list[list[Any]] = self.page.js(SHOTS)
-        found = snapshots(self.page.job())
+        expected = snapshots(self.page.job())
         for step, cells, *_ in shots:
-            self.assertEqual((step, cells), (found[step].step, "".join(found[step].lanes)))
+            self.assertEqual((step, cells), (expected[step].step, "".join(expected[step].lanes)))
         return shots
 
     def open(self, text: str, name: str = "a.job") -> None:

@@ -31,7 +31,7 @@ def answers(calls: Sequence[Sequence[object]], edit: Callable[[str], str] = lamb
 
 def answer(*call: object) -> Any:
     """The value of one call; raises `Thrown`."""
-    [found] = answers([call])
-    if isinstance(found, Thrown):
-        raise found
-    return found
+    [result] = answers([call])
+    if isinstance(result, Thrown):
+        raise result
+    return result

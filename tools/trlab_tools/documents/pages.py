@@ -102,7 +102,7 @@ def controls_are_on_the_page() -> Verdicts:
 
 
 def verdicts() -> Verdicts:
-    for tried in (
+    for test in (
         words_are_few,
         index_has_all_pages,
         reproduced_numbers_are_of_studies,
@@ -112,4 +112,4 @@ def verdicts() -> Verdicts:
         solutions_are_measured,
         controls_are_on_the_page,
     ):
-        yield from tried()
+        yield from test()

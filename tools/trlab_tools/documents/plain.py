@@ -48,8 +48,8 @@ def literals(path: str) -> str:
 
 def docstrings(path: str) -> str:
     """The docstrings of a Python file."""
-    found = (ast.get_docstring(node) for node in ast.walk(ast.parse(content(path))) if isinstance(node, DOCUMENTED))
-    return " ".join(text for text in found if text)
+    texts = (ast.get_docstring(node) for node in ast.walk(ast.parse(content(path))) if isinstance(node, DOCUMENTED))
+    return " ".join(text for text in texts if text)
 
 
 def texts() -> Iterator[tuple[str, str]]:
@@ -74,12 +74,12 @@ def sentences(text: str) -> Iterator[list[str]]:
 def guides_are_connected() -> Verdicts:
     """Whether the guides together have enough of each connecting word, and the mean length of their sentences."""
     pages = (content(f"{'' if name == 'README' else 'docs/'}{name}.md") for name in CONNECTED)
-    found = [words for page in pages for words in sentences(page)]
-    words = re.findall(r"[a-z][\w'-]*", " ".join(" ".join(words) for words in found).lower())
+    all_sentences = [words for page in pages for words in sentences(page)]
+    words = re.findall(r"[a-z][\w'-]*", " ".join(" ".join(words) for words in all_sentences).lower())
     for word, least in CONNECTING.items():
         share = 1000 * words.count(word) / len(words)
         yield share >= least, f"the guides have only {share:.1f} {word!r} per 1000 words: give reasons, contrasts and advice"
-    mean = sum(map(len, found)) / len(found)
+    mean = sum(map(len, all_sentences)) / len(all_sentences)
     yield MEAN_SENTENCE[0] <= mean <= MEAN_SENTENCE[1], f"the sentences of the guides have {mean:.1f} words on average"
 
 

@@ -70,8 +70,8 @@ def render(folder: str, to: str, more: str = "", *, top: object = TOP) -> tuple[
     configuration = os.path.join(folder, f"{os.path.basename(to)}.yml")
     write(configuration, CONFIGURATION.format(top=top, to=to) + more)
     words = ["mkdocs", "build", "--strict", "--clean", "--config-file", configuration]
-    ran = subprocess.run(words, stdout=subprocess.PIPE, stderr=subprocess.STDOUT, text=True, errors="replace")
-    return ran.returncode == 0, ran.stdout
+    process = subprocess.run(words, stdout=subprocess.PIPE, stderr=subprocess.STDOUT, text=True, errors="replace")
+    return process.returncode == 0, process.stdout
 
 
 def render_plain(folder: str, to: str) -> tuple[bool, str]:
@@ -88,8 +88,8 @@ def links(folder: str, site: str) -> Iterator[Link]:
     configuration = os.path.join(folder, "linkcheckerrc")
     write(configuration, LINKCHECKER)
     words = ["linkchecker", "--config", configuration, *pages_below(site)]
-    ran = subprocess.run(words, stdout=subprocess.PIPE, stderr=subprocess.DEVNULL, text=True, errors="replace")
-    lines = [line for line in ran.stdout.splitlines() if not line.startswith("# ")]
+    process = subprocess.run(words, stdout=subprocess.PIPE, stderr=subprocess.DEVNULL, text=True, errors="replace")
+    lines = [line for line in process.stdout.splitlines() if not line.startswith("# ")]
     for row in csv.DictReader(lines, delimiter=";"):
         page = row["parentname"].partition("#")[0].removeprefix(f"file://{site}/")
         yield Link(page, row["urlname"], row["warningstring"] or ("" if row["valid"] == "True" else row["result"]))

@@ -17,8 +17,8 @@ LEFT, WIDE, HIGH, ROW = 236, 150, 26, 35
 def layers() -> Iterator[tuple[str, str, dict[str, list[str]]]]:
     """The layers, lowest first: the name of each, its subject, and its crates with the crates that they use."""
     with open(CRATES, encoding="utf-8") as file:
-        found = LAYER.findall(file.read())
-    for name, about, lines in found:
+        sections = LAYER.findall(file.read())
+    for name, about, lines in sections:
         if name != BESIDE:
             yield name, about, {crate: used.split() for crate, used in re.findall(r"^(\w+):(.*)$", lines, re.M)}
 
