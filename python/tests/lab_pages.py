@@ -33,8 +33,8 @@ def snapshots(text: str) -> Snapshots:
 
 def job_of(**changes: Any) -> str:
     """The job file of the page's first job, with changes."""
-    what: dict[str, Any] = {"limit": 5, "length": 1000, "cars": 150, "start": trlab.random_cells(1), "rule": trlab.Nasch(0.25), "steps": 5000, "key": 1}
-    return trlab.Job(**{**what, **changes}).text()
+    parameters: dict[str, Any] = {"limit": 5, "length": 1000, "cars": 150, "start": trlab.random_cells(1), "rule": trlab.Nasch(0.25), "steps": 5000, "key": 1}
+    return trlab.Job(**{**parameters, **changes}).text()
 
 
 class Place(Protocol):
@@ -94,12 +94,12 @@ class OnPage(Base):
         if not self.page.holds(lambda: actual() == expected):
             self.assertEqual(actual(), expected)
 
-    def has_job(self, wanted: str) -> None:
-        self.has(wanted, self.page.job)
+    def has_job(self, expected: str) -> None:
+        self.has(expected, self.page.job)
 
-    def has_line(self, wanted: str) -> None:
-        if not self.page.holds(lambda: wanted in self.page.job()):
-            self.assertIn(wanted, self.page.job())
+    def has_line(self, line: str) -> None:
+        if not self.page.holds(lambda: line in self.page.job()):
+            self.assertIn(line, self.page.job())
 
     def has_marks(self, count: int) -> None:
         """The fundamental diagram has this number of points of one sweep; the run may have added its own."""

@@ -80,15 +80,15 @@ class Means(unittest.TestCase):
     @given(studies(), st.data())
     def test_some_missing_runs_change_nothing_else(self, study, data):
         runs = trlab.per_run(study.frame)
-        kept = runs[[data.draw(st.booleans()) for _ in range(len(runs))]]
-        if not len(kept):
-            return self.assertRaisesRegex(FrameError, "no rows", trlab.means, kept, "seed")
-        sizes = set(kept.groupby(study.names).size()) if study.names else {len(kept)}
+        rest = runs[[data.draw(st.booleans()) for _ in range(len(runs))]]
+        if not len(rest):
+            return self.assertRaisesRegex(FrameError, "no rows", trlab.means, rest, "seed")
+        sizes = set(rest.groupby(study.names).size()) if study.names else {len(rest)}
         if len(sizes) > 1:
-            self.assertRaisesRegex(FrameError, "groups have", trlab.means, kept, "seed")
-        means = trlab.means(kept, over="seed", of="flow", unequal=True)
+            self.assertRaisesRegex(FrameError, "groups have", trlab.means, rest, "seed")
+        means = trlab.means(rest, over="seed", of="flow", unequal=True)
         for place, (n, mean, sem) in as_dict(means).items():
-            flows = [row.flow for choice, row in kept.iterrows() if not study.names or choice[:-1] == place]
+            flows = [row.flow for choice, row in rest.iterrows() if not study.names or choice[:-1] == place]
             self.assertEqual(n, len(flows))
             self.assertAlmostEqual(mean, statistics.fmean(flows))
             self.assertTrue(math.isnan(sem) if n == 1 else abs(sem - statistics.stdev(flows) / n**0.5) < 1e-12)

@@ -68,11 +68,11 @@ class ForEveryone(OnPage):
         self.open_everything(self.page)
         controls = self.page.js(CONTROLS + "return [...controls, ...document.querySelectorAll('canvas, #diagram')].filter(it => it.checkVisibility())")
         self.assertGreater(len(controls), 50)
-        said = [self.page.spoken(it) for it in controls]
-        for role, name in said:
+        spoken = [self.page.spoken(it) for it in controls]
+        for role, name in spoken:
             self.assertTrue(name.strip() and role not in ("none", "generic"), (role, name))
-        for wanted in (("button", "Make it brake"), ("button", "Both branches"), ("button", "Save a film"), ("combobox", "Compare with"), ("combobox", "Units")):
-            self.assertIn(wanted, [(role.replace("listbox", "combobox"), name) for role, name in said])
+        for expected in (("button", "Make it brake"), ("button", "Both branches"), ("button", "Save a film"), ("combobox", "Compare with"), ("combobox", "Units")):
+            self.assertIn(expected, [(role.replace("listbox", "combobox"), name) for role, name in spoken])
 
     def test_order_of_focus(self):
         self.open_everything(self.page)
@@ -163,8 +163,8 @@ class ForEveryone(OnPage):
         self.page.js("document.getElementById('numbers').open = true")
         self.hold(lambda: self.page.js("return document.querySelectorAll('#rows tr').length") == 10)
         row = Table.read(Row, ask(["series"], self.page.job()))[self.page.step() - 1]
-        wanted = f"{row.step}{row.flow:.4f}{row.speed:.3f}{row.stopped_share:.3f}"
-        self.has(wanted, lambda: self.page.js("return document.querySelector('#rows tr').textContent"))
+        expected = f"{row.step}{row.flow:.4f}{row.speed:.3f}{row.stopped_share:.3f}"
+        self.has(expected, lambda: self.page.js("return document.querySelector('#rows tr').textContent"))
         self.hold(lambda: f"Step {row.step}: flow" in self.page.text("silent"))
 
     def test_numbers_are_not_cut(self):
