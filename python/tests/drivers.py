@@ -76,7 +76,7 @@ class Chromium(Chrome):
 
     def errors(self) -> list[str]:
         """The errors in the console since the last call."""
-        return [it["message"] for it in self.get_log("browser") if it["level"] == "SEVERE"]
+        return [entry["message"] for entry in self.get_log("browser") if entry["level"] == "SEVERE"]
 
 
 class Marionette:

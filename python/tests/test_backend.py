@@ -45,6 +45,7 @@ def information(text: str, *hidden: str) -> str:
 class Backend(unittest.TestCase):
     @unittest.skipUnless(pyproject.tomllib, "Python has no tomllib before 3.11")
     def test_both_readers_give_the_same(self) -> None:
+        assert pyproject.tomllib is not None
         for text in TEXT, SEVERAL_LINES:
             self.assertEqual(pyproject.read_strictly(text), pyproject.tomllib.loads(text))
 

@@ -73,12 +73,12 @@ class Children(unittest.TestCase):
 
     def test_a_status_that_something_else_takes_is_lost(self) -> None:
         """It is lost for every call of `Child` that comes afterwards."""
-        for call in Child.exit_status, Child.kill, Child.wait:
-            with self.subTest(call=call.__name__), python_running("raise SystemExit(3)") as child:
+        for name in "exit_status", "kill", "wait":
+            with self.subTest(call=name), python_running("raise SystemExit(3)") as child:
                 os.waitpid(child.pid, 0)
                 with mock.patch.object(os, "kill", side_effect=AssertionError("another process may have this number")):
-                    if call != Child.exit_status:
-                        call(child)
+                    if name != "exit_status":
+                        getattr(child, name)()
                     self.assertRaisesRegex(ExitStatusError, "is lost", child.exit_status)
 
 

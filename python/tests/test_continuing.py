@@ -4,6 +4,7 @@ import unittest
 from collections.abc import Iterator
 from contextlib import contextmanager
 from dataclasses import replace
+from typing import Any
 from unittest import mock
 
 from tests.by_pictures import windows
@@ -152,7 +153,7 @@ class LongRuns(unittest.TestCase):
 
     def test_a_run_can_be_left(self) -> None:
         with short_inputs(20):
-            snapshots = ONE.snapshots()
+            snapshots: Any = ONE.snapshots()
             self.assertEqual([next(snapshots).step for _ in range(25)], list(range(25)))
             snapshots.close()
 

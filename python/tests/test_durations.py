@@ -29,10 +29,10 @@ class RecordedProcesses:
     """The processes of the program that a block starts."""
 
     def __enter__(self) -> list[Child]:
-        self.processes, child = [], processes.Child
+        self.processes: list[Child] = []
 
         def start(*arguments: Any, **options: Any) -> Child:
-            self.processes.append(child(*arguments, **options))
+            self.processes.append(Child(*arguments, **options))
             return self.processes[-1]
 
         self.patch = mock.patch.object(processes, "Child", start)
@@ -58,7 +58,8 @@ class Durations(unittest.TestCase):
         self.assertEqual(JOB.time_until(lambda window: window.step == 60), Duration(time=60, observed=True))
 
     def test_windows_must_fill_the_run(self) -> None:
-        for options in {"every": 7}, {"first": 60}, {"every": 61}, {"every": 0}, {"first": 1.5}:
+        wrong_options: list[dict[str, Any]] = [{"every": 7}, {"first": 60}, {"every": 61}, {"every": 0}, {"first": 1.5}]
+        for options in wrong_options:
             self.assertRaisesRegex(
                 ParameterError, "(every|first) must be|no window of .* fits|are not whole windows", JOB.time_until,
                 stopped, **options,
@@ -91,7 +92,8 @@ class Durations(unittest.TestCase):
         self.assertEqual([process.returncode for process in started], [-signal.SIGKILL])
 
     def test_a_condition_is_true_or_false(self) -> None:
-        for result in 0, 1, None, "no", [], (), 1.5:
+        results: list[Any] = [0, 1, None, "no", [], (), 1.5]
+        for result in results:
             self.assertRaisesRegex(
                 ParameterError, "must return True or False, not ", LONG.time_until, lambda window: result
             )
@@ -102,7 +104,8 @@ class Durations(unittest.TestCase):
     def test_truth_values_of_numpy(self) -> None:
         import numpy
 
-        self.assertEqual(JOB.time_until(lambda window: numpy.int64(window.stopped) > 1), JOB.time_until(stopped))
+        of_numpy: Any = lambda window: numpy.int64(window.stopped) > 1
+        self.assertEqual(JOB.time_until(of_numpy), JOB.time_until(stopped))
         for result in numpy.array([True]), numpy.array([True, False]), numpy.int64(1), numpy.float64(0):
             self.assertRaisesRegex(
                 ParameterError, "must return True or False, not ", JOB.time_until, lambda window: result
@@ -116,7 +119,7 @@ class Durations(unittest.TestCase):
             self.assertEqual(list(Path(folder).iterdir()), [])
             self.assertEqual(durations, {0: JOB.time_until(stopped), 1: LONG.time_until(stopped)})
         # The long run was stopped with its event.
-        self.assertIn(-signal.SIGKILL, [process.returncode for process in started if process.args[1] == "series"])
+        self.assertIn(-signal.SIGKILL, [process.returncode for process in started if process.args[1] == "series"])  # type: ignore[index]
 
     def test_a_cut_output_is_an_error(self) -> None:
         heading = ",".join(trlab.Window._fields).replace("flow_millionths", "flow")

@@ -112,8 +112,7 @@ class Arrays(Folder):
         for number in signal.SIGTERM, signal.SIGKILL:
             with self.subTest(signal=number):
                 shell = child(SHELL, str(script), SLURM_ARRAY_TASK_ID="1")
-                unfinished = lambda: [*self.folder.glob(".long.new.*")]
-                self.assertTrue(holds(lambda: any(file.stat().st_size > 100000 for file in unfinished())))
+                self.assertTrue(holds(lambda: any(file.stat().st_size > 100000 for file in self.folder.glob(".long.new.*"))))
                 if number == signal.SIGTERM:
                     shell.terminate()
                     self.assertEqual(shell.wait(), 143)

@@ -5,6 +5,7 @@ import os
 import pickle
 import tempfile
 import unittest
+from collections.abc import Callable
 from fractions import Fraction
 from pathlib import Path
 from typing import Any
@@ -12,7 +13,7 @@ from typing import Any
 import trlab
 from tests.skips import needs
 from trlab import FrameError, Grid, Job, Nasch, ParameterError, Point, Rickert, SlowToStart, Sweep
-from trlab import Table, Window, key_for, random_cells, read_tables, write_inputs
+from trlab import Rule, Table, Window, key_for, random_cells, read_tables, write_inputs
 
 
 def job(p: float, density: float, seed: int, key: int) -> Job:
@@ -27,8 +28,8 @@ def last(job: Job) -> Table[Window]:
     return job.series(every=20, first=10)
 
 
-JOBS = {"p": [0.25, "1/2"], "density": [0.1, 0.2, 0.5], "seed": range(4)}
-SWEEPS = {"p": [0.25, 0.5], "seed": range(4)}
+JOBS: dict[str, Any] = {"p": [0.25, "1/2"], "density": [0.1, 0.2, 0.5], "seed": range(4)}
+SWEEPS: dict[str, Any] = {"p": [0.25, 0.5], "seed": range(4)}
 
 
 class Keys(unittest.TestCase):
@@ -41,11 +42,13 @@ class Keys(unittest.TestCase):
         self.assertEqual(key_for(chance=0.25, density=0.1, seed=3), permanent)
 
     def test_equal_parameters_have_equal_keys(self) -> None:
-        keys = {key_for(seed=seed, p=p) for seed in (3, 3.0, Fraction(3)) for p in (0.25, Fraction(1, 4))}
+        seeds: list[Any] = [3, 3.0, Fraction(3)]
+        shares: list[Any] = [0.25, Fraction(1, 4)]
+        keys = {key_for(seed=seed, p=p) for seed in seeds for p in shares}
         self.assertEqual(keys, {key_for(p=0.25, seed=3)})
 
     def test_other_parameters_have_other_keys(self) -> None:
-        others = [
+        others: list[dict[str, Any]] = [
             {}, {"a": 1}, {"b": 1}, {"a": "1"}, {"a": 2}, {"a": 0.1}, {"a": Fraction(1, 10)}, {"a": 1, "b": 1},
             {"a": "x\nb=1"},
         ]
@@ -79,7 +82,7 @@ class Inputs(unittest.TestCase):
 
     @needs("pandas")
     def test_names_for_values(self) -> None:
-        rules = {"nasch": Nasch(0.25), "slow": SlowToStart("1/64", 0.75)}
+        rules: dict[str, Rule] = {"nasch": Nasch(0.25), "slow": SlowToStart("1/64", 0.75)}
         grid = Grid(lambda rule, key: Job(limit=5, length=50, cars=5, rule=rule, steps=30, key=key), rule=rules)
         self.assertEqual([job.rule for job in grid.inputs.values()], list(rules.values()))
         self.assertEqual(list(grid.run(call=last).index.get_level_values("rule")), ["nasch", "slow"])
@@ -137,7 +140,7 @@ class Inputs(unittest.TestCase):
                 ParameterError, "`p` changes only the key", Grid, lambda p, key: job(0.25, 0.1, 0, key), p=values
             )
         # A parameter that is used for some values of another one is used.
-        rules = {"nasch": lambda q: Nasch(0.25), "slow": lambda q: SlowToStart(0.25, q)}
+        rules: dict[str, Callable[[float], Rule]] = {"nasch": lambda q: Nasch(0.25), "slow": lambda q: SlowToStart(0.25, q)}
         Grid(lambda rule, q, seed, key: Job(limit=5, length=20, cars=4, rule=rules[rule](q), steps=9, key=key),
              rule=["nasch", "slow"], q=[0.5, 0.75], seed=[0, 1])
 

@@ -108,7 +108,7 @@ class Answers(Serving):
                 continue
             output = self.text(kind, text)
             lines = output.splitlines(True)
-            self.assertEqual("".join(it for it in lines if not it.startswith("trlab: ")), ask([kind], text), name)
+            self.assertEqual("".join(line for line in lines if not line.startswith("trlab: ")), ask([kind], text), name)
             if kind == "run":
                 self.assertEqual(self.text("explain", text), ask(["explain", "run"], text), name)
                 self.assertEqual(self.text("series", text), ask(["series"], text), name)
@@ -141,7 +141,7 @@ class Rules(Serving):
         self.assertEqual(answer["motion"], rules_in(text)["drive"](p=0.5))
         self.assertEqual(answer["change"], rules_in(text)["overtake"]())
         self.assertEqual(answer["budgets"]["drive"], rules_in(text)["drive"]().budget)
-        sliders = [(it["rule"], it["name"], it["value"], it["most"], it["step"]) for it in answer["parameters"]]
+        sliders = [(slider["rule"], slider["name"], slider["value"], slider["most"], slider["step"]) for slider in answer["parameters"]]
         self.assertEqual(sliders, [("drive", "p", 0.5, 1, 0.01), ("overtake", "p", 0.5, 1, 0.01), ("overtake", "ahead", 2, 10, 1)])
 
     def test_a_choice_among_rules(self):
@@ -255,7 +255,7 @@ class Processes(Serving):
         processes = list(self.lab.children)
         self.lab.shutdown()
         self.lab.close()
-        self.assertTrue(all(it.returncode is not None for it in processes))
+        self.assertTrue(all(process.returncode is not None for process in processes))
         self.assertRaises(ConnectionAbortedError, self.lab.start, ["run"], b"")
 
 
@@ -332,7 +332,7 @@ class Exports(unittest.TestCase):
                     main(["--export", str(page)])
                 run, script, style, sums = parts_of(page.read_text())
             self.assertEqual(run, ask(["run"], text), path.name)
-            self.assertEqual(sums, [base64.b64encode(hashlib.sha256(it.encode()).digest()).decode() for it in (script, style)])
+            self.assertEqual(sums, [base64.b64encode(hashlib.sha256(source.encode()).digest()).decode() for source in (script, style)])
             self.assertIsNone(re.search(r"^(import|export)\b", script, re.M))
 
     def test_pictures(self):

@@ -142,7 +142,7 @@ class Diagram(OnPage):
             self.page.get(path.as_uri())
             self.hold(lambda: self.page.js("return window.lab?.player.step >= 0"))
             self.run_to(120)
-            self.assertEqual([it[1] for it in self.page.js(SHOTS)], ["".join(it.lanes) for it in snapshots])
+            self.assertEqual([shot[1] for shot in self.page.js(SHOTS)], ["".join(shot.lanes) for shot in snapshots])
             self.page.click("back")
             self.hold(lambda: self.page.step() == 119)
             self.assertEqual(self.page.errors(), [])

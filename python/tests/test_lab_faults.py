@@ -64,10 +64,10 @@ class Faults(OnPage):
                 top, high = self.page.js("const {top, high} = lab.rows(); return [top, high]")
                 for now in range(max(top, step - 20), step + 1):
                     for lane, cells in enumerate(snapshots[now].lanes):
-                        expected = [self.colour_of(it, colours) for it in self.pixels(cells, wide)]
+                        expected = [self.colour_of(pixel, colours) for pixel in self.pixels(cells, wide)]
                         self.near(self.dots("spacetime", wide, (now - top) * high + math.floor((lane + 0.5) / lanes * high)), expected)
                 for lane, cells in enumerate(snapshots[step].lanes):  # the whole road, above its enlarged part
-                    expected = [self.colour_of(it, colours) for it in self.pixels(cells, wide)]
+                    expected = [self.colour_of(pixel, colours) for pixel in self.pixels(cells, wide)]
                     self.near(self.dots("band", wide, 10 if lanes == 1 else 5 + 11 * lane), expected)
                 self.assertIn("Colours of pixels are mean speeds", self.page.text("mixed"))
         self.open(job_of(length=100, cars=30))
@@ -82,7 +82,7 @@ class Faults(OnPage):
                 width, height, lens = self.page.js("const it = document.getElementById('band'); return [it.width, it.height, lab.player.lens]")
                 near = round(width / 9 + 1e-9)
                 tall, top = (26, height - 27) if lanes == 1 else (19, height - 39)
-                colours = {tuple(it): str(v) for v, it in enumerate(self.colours()[::100])}
+                colours = {tuple(colour): str(v) for v, colour in enumerate(self.colours()[::100])}
                 for lane, cells in enumerate(snapshots[step].lanes):
                     first = lens - near / 2
                     drawn = self.page.js("""const [first, near, y] = arguments, canvas = document.getElementById('band'), pen = canvas.getContext('2d');
@@ -92,7 +92,7 @@ class Faults(OnPage):
                         })""", first, near, top + lane * tall + tall // 2)
                     from_cell = math.ceil(first)
                     expected = (cells + cells)[from_cell:from_cell + near - 2]
-                    self.assertEqual("".join(colours.get(tuple(it), ".") for it in drawn), expected)
+                    self.assertEqual("".join(colours.get(tuple(colour), ".") for colour in drawn), expected)
 
     # Numbers
 

@@ -180,12 +180,12 @@ class Whole(unittest.TestCase):
     def test_it_loads_nothing(self):
         policy = re.search('http-equiv="Content-Security-Policy" content="([^"]*)"', self.text)[1]
         style, script = re.search("<style>(.*?)</style>", self.text, re.S)[1], re.search('<script type="module">(.*?)</script>', self.text, re.S)[1]
-        sums = [f"'sha256-{base64.b64encode(hashlib.sha256(it.encode()).digest()).decode()}'" for it in (script, style)]
+        sums = [f"'sha256-{base64.b64encode(hashlib.sha256(source.encode()).digest()).decode()}'" for source in (script, style)]
         self.assertEqual(policy, f"default-src 'none'; script-src {sums[0]} 'wasm-unsafe-eval'; style-src {sums[1]}; worker-src blob:; "
                          "img-src data:; base-uri 'none'; form-action 'none'")
-        links = {it.replace("\\", "") for it in re.findall(r"""\b\w+://[^\s"'`<]*|\b(?:src|href)=[^\s>]*""", self.text)}
+        links = {source.replace("\\", "") for source in re.findall(r"""\b\w+://[^\s"'`<]*|\b(?:src|href)=[^\s>]*""", self.text)}
         # Links to papers lead elsewhere, but only if you click them.
-        addresses = {it for it in links if not it.startswith("https://doi.org/")}
+        addresses = {source for source in links if not source.startswith("https://doi.org/")}
         self.assertEqual(addresses, {"http://www.w3.org/2000/svg", 'href="data:,"'})
         self.assertNotIn("import ", script)
 

@@ -41,18 +41,18 @@ class Playing(OnPage):
                 return [lines, [top, high]]""")
             colours = self.page.js("return Object.fromEntries([0, 1, 2, 3, 4, 5].map(v => [lab.colour(v / 5).join() + ',255', String(v)]))")
             expected = [lane for snapshot in run[top:step + 1] for lane in snapshot.lanes]
-            self.assertEqual(["".join(colours.get(it, ".") for it in row) for row in drawn], expected)
+            self.assertEqual(["".join(colours.get(colour, ".") for colour in row) for row in drawn], expected)
             road = self.page.js("""const {film} = lab.player, canvas = document.getElementById('band'), pen = canvas.getContext('2d');
                 const tall = film.lanes === 2 ? 24 : 30, first = (canvas.height - tall * film.lanes) / 2;
                 return Array.from({length: film.lanes}, (_, lane) => Array.from({length: film.length}, (_, x) =>
                     [...pen.getImageData((x + 0.5) * canvas.width / film.length, first + (lane + 0.5) * tall, 1, 1).data].join()))""")
-            self.assertEqual(["".join(colours.get(it, ".") for it in row) for row in road], list(run[step].lanes))
+            self.assertEqual(["".join(colours.get(colour, ".") for colour in row) for row in road], list(run[step].lanes))
             ring = self.page.js("""const {film} = lab.player, pen = document.getElementById('ring').getContext('2d'), tall = film.lanes === 2 ? 13 : 18;
                 return Array.from({length: film.lanes}, (_, lane) => Array.from({length: film.length}, (_, x) => {
                     const angle = (x + 0.5) / film.length * 2 * Math.PI, away = 146 - 2.5 - lane * (tall + 5) - tall / 2;
                     return [...pen.getImageData(150 + away * Math.sin(angle), 150 - away * Math.cos(angle), 1, 1).data].join();
                 }))""")
-            self.assertEqual(["".join(colours.get(it, ".") for it in row) for row in ring], list(run[step].lanes))
+            self.assertEqual(["".join(colours.get(colour, ".") for colour in row) for row in ring], list(run[step].lanes))
 
     def test_steps_are_numbered_in_the_space_time_diagram(self):
         numbered = """const {top, high} = lab.rows();
@@ -63,7 +63,7 @@ class Playing(OnPage):
                 self.hold(lambda: self.page.js("return lab.job.length") == length)
                 self.run_to(now)
                 step, top, numbers = self.page.step(), self.page.js("return lab.rows().top"), self.page.js(numbered)
-                self.assertEqual([number for number, _ in numbers], [it for it in range(0, step + 1, apart) if it >= top])
+                self.assertEqual([number for number, _ in numbers], [number_ for number_ in range(0, step + 1, apart) if number_ >= top])
                 for number, row in numbers:
                     self.assertAlmostEqual(number, row, places=3)
 
@@ -179,7 +179,7 @@ class Playing(OnPage):
         self.assertIn(f"The page keeps the last 4,000 snapshots: back to step {first}", self.page.text("kept"))
         shots = dict((step, cells) for step, cells, *_ in self.page.js(SHOTS))
         head = self.page.job().replace("steps 500000", f"steps {last}")
-        self.assertEqual([shots[it.step] for it in snapshots(head)[first:]], list(shots.values()))
+        self.assertEqual([shots[snapshot.step] for snapshot in snapshots(head)[first:]], list(shots.values()))
         self.page.click("again")
         self.hold(lambda: self.page.step() >= 0 and self.page.js("return lab.player.film.first") == 0)
 

@@ -109,7 +109,7 @@ class Files(unittest.TestCase):
     def test_random_jobs(self):
         draw = Controls(1)
         jobs = [draw.job() for _ in range(600)]
-        self.same([("jobs", "jobFile", it) for it in jobs], [job_of(it).text() for it in jobs])
+        self.same([("jobs", "jobFile", job) for job in jobs], [job_of(job).text() for job in jobs])
 
     def test_random_sweeps(self):
         draw = Controls(2)
@@ -127,7 +127,7 @@ class Files(unittest.TestCase):
         roads = [(7, (100000, 2, 60000)), *((seed, shapes[k % 7]) for k, seed in enumerate(seeds))]
         parameters = {"limit": 5, "start": "random", "steps": 0, "rules": [{"at": 0, "model": "nasch", "p": 0, "q": 0}]}
         jobs = [{**parameters, "key": str(seed), "length": length, "lanes": lanes, "cars": cars} for seed, (length, lanes, cars) in roads]
-        self.same([("jobs", "jobFile", it) for it in jobs], [job_of(it).text() for it in jobs])
+        self.same([("jobs", "jobFile", job) for job in jobs], [job_of(job).text() for job in jobs])
 
     def test_random_numbers(self):
         seeds = [0, 7, 2**200 + 1]
@@ -191,8 +191,8 @@ class Errors(unittest.TestCase):
             calls = [("jobs", "jobFile", {**self.job, field: value}) for field in ("limit", "lanes", "length", "cars", "steps", "key", "start")]
             calls += [("jobs", "sweepFile", {**sweep, field: value}) for field in ("limit", "lanes", "length", "warm", "measure", "key")]
             rules = [{**self.job["rules"][0], field: value} for field in ("at", "model", "p")]
-            calls += [("jobs", "jobFile", {**self.job, "rules": [it]}) for it in rules]
-            calls += [("jobs", "jobFile", {**self.job, "rules": [self.job["rules"][0], {"at": 3, **it}]}) for it in rules]
+            calls += [("jobs", "jobFile", {**self.job, "rules": [rule]}) for rule in rules]
+            calls += [("jobs", "jobFile", {**self.job, "rules": [self.job["rules"][0], {"at": 3, **rule}]}) for rule in rules]
             for call, error in zip(calls, answers([call for call in calls if not (value == "5" and call[2].get("key") == "5")])):
                 self.assertIsInstance(error, Thrown, call)
 
@@ -273,7 +273,7 @@ class Curves(unittest.TestCase):
         cases = [(limit, 77, rule, 1) for rule in rules for limit in (1, 2, 5, 35)]
         for (limit, *_), curve in zip(cases, self.curves(*cases)):
             self.assertEqual(curve["kind"], "triangle")
-            self.assertEqual([it["density"] for it in curve["points"]], [0, 1 / (limit + 1), 1])
+            self.assertEqual([vertex["density"] for vertex in curve["points"]], [0, 1 / (limit + 1), 1])
             for point in curve["points"]:
                 self.assertAlmostEqual(point["flow"], float(trlab.exact.triangle(limit, point["density"])), places=15)
 
@@ -281,7 +281,7 @@ class Curves(unittest.TestCase):
         cases = [(1, length, {"model": "nasch", "p": brake}, 1) for length in (1, 2, 3, 12, 99, 100, 1000, 100000) for brake in (1e-9, 0.01, 1 / 3, 0.9999, 1 - 1e-9, 1)]
         for (_, length, rule, _), curve in zip(cases, self.curves(*cases)):
             counts = sorted({round(k * length / 100) for k in range(101)})
-            self.assertEqual([it["density"] for it in curve["points"]], [cars / length for cars in counts])
+            self.assertEqual([point_["density"] for point_ in curve["points"]], [cars / length for cars in counts])
             for cars, point in list(zip(counts, curve["points"]))[:: 1 if length < 100000 else 9]:
                 expected = trlab.exact.flow_as_float(length, cars, rule["p"])
                 self.assertTrue(math.isclose(point["flow"], expected, rel_tol=1e-9, abs_tol=1e-300), (length, rule, cars, point["flow"], expected))
@@ -325,15 +325,15 @@ class Planted(unittest.TestCase):
         """Each planted error changes a result that the other tests compare with Python."""
         draw, vdr = Controls(8), {"model": "vdr", "p": 0.25, "q": 0.5, "motion": "", "change": ""}
         jobs, sweeps = [draw.job() for _ in range(250)], [{**draw.sweep(), "warm": 3, "measure": 4} for _ in range(40)]
-        texts = [text for text in (text_of(lambda: job_of(it)) for it in jobs) if text]
-        calls = [("jobs", "jobFile", it) for it in jobs] + [("jobs", "sweepFile", it) for it in sweeps]
-        calls += [("reading", "controlsOf", it) for it in texts]
-        calls += [("checks", "partsOf", "brake", it) for it in (1e-10, 0.5 / 2**31, 1.5 / 2**31, 2.5 / 2**31, 0.3)]
-        calls += [("checks", "decimalOf", it) for it in (1, 715827883, 2**20, 2**31 - 1)]
+        texts = [text for text in (text_of(lambda: job_of(item)) for item in jobs) if text]
+        calls = [("jobs", "jobFile", item) for item in jobs] + [("jobs", "sweepFile", item) for item in sweeps]
+        calls += [("reading", "controlsOf", item) for item in texts]
+        calls += [("checks", "partsOf", "brake", item) for item in (1e-10, 0.5 / 2**31, 1.5 / 2**31, 2.5 / 2**31, 0.3)]
+        calls += [("checks", "decimalOf", item) for item in (1, 715827883, 2**20, 2**31 - 1)]
         calls.append(("random", "draws", "7", 99))
         rules = vdr, {**vdr, "q": 0.25}, {**vdr, "p": 0, "q": 0}
         calls += [("exact", "exactCurve", {"limit": limit, "length": 99, "lanes": 1, "rule": rule}) for rule in rules for limit in (1, 2)]
-        shown = lambda changed: [str(it) if isinstance(it, Thrown) else it for it in changed]
+        shown = lambda changed: [str(item) if isinstance(item, Thrown) else item for item in changed]
         right = shown(answers(calls))
         for old, new in PLANTED:
             with self.subTest(old=old, new=new):

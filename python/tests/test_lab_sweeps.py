@@ -70,7 +70,7 @@ class SweepsOfThePage(OnPage):
         self.hold(lambda: len(self.curves()) == 2)
         self.assertEqual([state for _, state, _ in self.curves()], ["moving", "jam"])
         for name, state, points in self.curves():
-            self.assertEqual(points, [[it.density, it.flow] for it in self.swept(start=BRANCHES[state])])
+            self.assertEqual(points, [[point.density, point.flow] for point in self.swept(start=BRANCHES[state])])
         rows = self.page.js("return [...document.querySelectorAll('.legend-row')].map(it => it.textContent)")
         self.assertEqual(rows, [f"p 0.25, 0.75, {state} start: v_max 3, 60 cells" for state in ("moving", "jammed")])
         colours = self.page.js("return [...document.querySelectorAll('#diagram polyline:not(.exact)')].map(it => it.getAttribute('stroke')).slice(-2)")

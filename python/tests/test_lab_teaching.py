@@ -200,7 +200,7 @@ class Teaching(OnPage):
         self.follows_in_the_new_run(car)
         self.run_to(50)
         shots = self.page.js("return lab.player.film.shots.map(it => String.fromCharCode(...it.cells))")
-        self.assertEqual(shots, ["".join(it.lanes) for it in snapshots(self.page.job())][:len(shots)])
+        self.assertEqual(shots, ["".join(snapshot.lanes) for snapshot in snapshots(self.page.job())][:len(shots)])
 
     def test_a_car_on_two_lanes_brakes_by_the_button(self):
         text = self.show_job(rule=Rickert("1/4", "1/2"), lanes=2, cars=48)

@@ -3,12 +3,13 @@ import unittest
 import warnings
 from collections.abc import Callable
 from dataclasses import replace
+from typing import Any
 
 from trlab import Job, Nasch, Sweep, TrlabWarning, even, jammed, moving, random_cells
 from trlab._inputs.states import halved, surplus
 
-JOB = dict(limit=5, length=1000, lanes=2, rule=Nasch(0), steps=1)
-SWEEP = dict(limit=5, length=1000, lanes=2, rule=Nasch(0), warm=1, measure=1)
+JOB: dict[str, Any] = dict(limit=5, length=1000, lanes=2, rule=Nasch(0), steps=1)
+SWEEP: dict[str, Any] = dict(limit=5, length=1000, lanes=2, rule=Nasch(0), warm=1, measure=1)
 
 
 def cars_by_lane(job: Job) -> list[int]:

@@ -6,6 +6,7 @@ import subprocess
 import sys
 import tempfile
 import unittest
+from collections.abc import Callable
 from pathlib import Path
 from typing import Any
 from unittest import mock
@@ -49,7 +50,10 @@ class Named(Folder):
 
     def test_a_program_that_vanishes_or_changes_after_it_was_found(self) -> None:
         job = Job(limit=5, length=10, cars=1, rule=Nasch(0), steps=1)
-        for change in os.unlink, lambda path: os.chmod(path, 0o644), lambda path: Path(path).write_text("#!/nowhere\n"):
+        changes: list[Callable[[str], object]] = [
+            os.unlink, lambda path: os.chmod(path, 0o644), lambda path: Path(path).write_text("#!/nowhere\n"),
+        ]
+        for change in changes:
             path = self.script(b"#!/bin/sh\necho trlab 0\n")
             with mock.patch("trlab._runs.processes.find_program", return_value=path):
                 change(path)
@@ -77,7 +81,8 @@ class Packed(Folder):
         self.write(gzip.compress(self.content))
         home = mock.patch.dict(os.environ, XDG_CACHE_HOME=str(self.home))
         packed = mock.patch.object(location, "_PACKED", self.packed)
-        for change in home, packed:
+        changes: list[Any] = [home, packed]
+        for change in changes:
             change.start()
             self.addCleanup(change.stop)
 

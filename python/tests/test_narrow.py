@@ -184,10 +184,11 @@ int main(void) {{
 class Numbers(unittest.TestCase):
     def test_numbers_of_128_bits(self) -> None:
         dice, maximum = random.Random(1), 2**64 - 1
-        four_words = lambda: [
-            dice.choice((0, 1, maximum, 1 << 63, dice.getrandbits(64), dice.getrandbits(32))) for _ in range(4)
-        ]
-        operands = [(*four_words(), by) for by in range(128) for _ in range(20)]
+
+        def word() -> int:
+            return dice.choice((0, 1, maximum, 1 << 63, dice.getrandbits(64), dice.getrandbits(32)))
+
+        operands = [(word(), word(), word(), word(), shift) for shift in range(128) for _ in range(20)]
         with tempfile.TemporaryDirectory() as folder:
             source, program = Path(folder, "numbers.c"), Path(folder, "numbers")
             source.write_text(PROGRAM.format(numbers=HERE / "numbers.c"))

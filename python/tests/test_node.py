@@ -6,8 +6,8 @@ import subprocess
 import sys
 import tempfile
 import unittest
-from contextlib import AbstractContextManager
 from pathlib import Path
+from typing import Any
 from unittest import mock
 
 import trlab
@@ -35,7 +35,7 @@ def results_of_calls() -> tuple[object, ...]:
     return JOB.run().text(), JOB.series(every=20).text(), SWEEP.sweep().text(), program
 
 
-def elsewhere() -> tuple[AbstractContextManager[object], AbstractContextManager[object]]:
+def elsewhere() -> tuple[Any, ...]:
     """As on a machine that no native program fits."""
     for cached in location._packed, location.of_checkout, location._for_node:
         cached.cache_clear()
@@ -60,6 +60,7 @@ class Elsewhere(unittest.TestCase):
 @needs_node
 class Results(Elsewhere):
     def test_the_script_is_found_and_gives_the_same(self) -> None:
+        assert PROGRAM is not None
         self.assertEqual(find_program(), str(PROGRAM.script))
         self.assertEqual(results_of_calls(), self.native_results)
         self.assertEqual(trlab.run_all([SWEEP, SWEEP], Sweep.sweep), [SWEEP.sweep()] * 2)
@@ -72,6 +73,7 @@ class Results(Elsewhere):
         self.assertIn("valid job", trlab.explain(JOB))
 
     def test_a_cache_knows_the_program(self) -> None:
+        assert PROGRAM is not None
         version, digest = program_identity()
         self.assertEqual(version, f"trlab {trlab.__version__}")
         self.assertEqual(digest, hashlib.sha256(PROGRAM.module()).hexdigest())
@@ -82,7 +84,7 @@ class Results(Elsewhere):
                 self.assertEqual(dict(trlab.results([JOB], cache=folder)), first)
 
     def test_a_run_that_is_left_ends(self) -> None:
-        snapshots = Job(limit=5, length=1000, cars=200, rule=Nasch("1/4"), steps=500000).snapshots()
+        snapshots: Any = Job(limit=5, length=1000, cars=200, rule=Nasch("1/4"), steps=500000).snapshots()
         next(snapshots)
         self.assertEqual(len(children_of_node()), 1)
         snapshots.close()
@@ -138,6 +140,7 @@ class NotThere(Elsewhere):
 class Named(unittest.TestCase):
     @needs_node
     def test_trlab_may_name_the_script(self) -> None:
+        assert PROGRAM is not None
         with mock.patch.dict(os.environ, TRLAB=str(PROGRAM.script)):
             self.assertEqual(find_program(), str(PROGRAM.script))
             self.assertEqual(SWEEP.sweep().text().count("\n"), 3)

@@ -1,6 +1,7 @@
 """Plots: the contents of the axes of matplotlib, and the arguments that are rejected."""
 import io
 import unittest
+from typing import Any
 
 import trlab
 from tests.libraries import numpy, pyplot
@@ -14,6 +15,10 @@ def job(p: float, density: float, seed: int, key: int) -> Job:
 
 
 class Plots(unittest.TestCase):
+    windows: Any
+    runs: Any
+    means: Any
+
     @classmethod
     def setUpClass(cls) -> None:
         cls.windows = Grid(job, p=[0.25, 0.5], density=[0.4, 0, 0.1, 0.2], seed=range(3)).run(
@@ -99,7 +104,7 @@ class SpaceTimes(Plots):
         speeds = [[-1 if cell == "." else int(cell) for cell in snapshot.lanes[1]] for snapshot in part]
         drawn = image.get_array()
         # The image masks empty cells, or has NaN there.
-        drawn = drawn.filled(-1) if numpy.ma.isMaskedArray(drawn) else numpy.nan_to_num(drawn, nan=-1)
+        drawn = drawn.filled(-1) if isinstance(drawn, numpy.ma.MaskedArray) else numpy.nan_to_num(drawn, nan=-1)
         numpy.testing.assert_array_equal(drawn, speeds)
         self.assertEqual(axes.get_xlabel(), "position (cells)")
         self.assertEqual(axes.get_ylabel(), "time (steps)")

@@ -2,6 +2,7 @@
 import pickle
 import tempfile
 import unittest
+from typing import Any, Union
 
 from tests.processes import replaced_program
 from tests.skips import needs
@@ -100,7 +101,8 @@ class Tables(unittest.TestCase):
         table.to_numpy()["cars"] += 1
         table.append(self.rows[0])
         self.assertEqual(table.to_numpy()["cars"].tolist(), [1, 2, 1])
-        for empty in Table(Window), Table.read(Point, HEADING):
+        empty_tables: list[Table[Any]] = [Table(Window), Table.read(Point, HEADING)]
+        for empty in empty_tables:
             self.assertEqual(empty.to_numpy().shape, (0,))
 
     @needs("pandas")
@@ -108,7 +110,8 @@ class Tables(unittest.TestCase):
         import numpy
 
         sweep = Sweep(limit=5, length=20, rule=Nasch("1/4"), warm=5, measure=9, cars=[0, 1, 7, 20]).sweep()
-        for table in sweep, Table(Point, list(sweep)), ONE.series(every=8), Table(Point):
+        tables: list[Table[Any]] = [sweep, Table(Point, list(sweep)), ONE.series(every=8), Table(Point)]
+        for table in tables:
             frame = table.to_pandas()
             counts = [name for name in table.kind._fields if name != "flow_millionths"]
             self.assertEqual([*frame.columns], [*counts, "density", "flow", "speed", "stopped_share", "change_rate"])
@@ -167,7 +170,8 @@ class Runs(unittest.TestCase):
             for place in RUN.index(".") + 0, len(RUN) - 3:
                 text = RUN[:place] + character + RUN[place + 1:]
                 line = RUN[:place].count("\n") + 1
-                for run in text, text.encode("latin-1"), text.replace("\n", "\r\n"):
+                runs: list[Union[str, bytes]] = [text, text.encode("latin-1"), text.replace("\n", "\r\n")]
+                for run in runs:
                     with self.assertRaisesRegex(
                         OutputFormatError, f"^line {line} of the run has a character that is neither"
                     ):

@@ -4,8 +4,10 @@ import signal
 import tempfile
 import unittest
 import warnings
+from collections.abc import Callable
 from dataclasses import replace
 from pathlib import Path
+from typing import Any, Optional
 
 from tests.by_pictures import windows
 from tests.expected import DEVICE_FAILED, MORE_THAN_THE_GAP, NEEDS_TWO_LANES, QUARTER, WRONG_ARGUMENTS
@@ -14,7 +16,7 @@ from tests.waiting import holds
 from trlab import (
     Job, Nasch, Own, ParameterError, Point, ProgramError, RejectedInputError, RenamedError, Rickert, SlowToStart,
 )
-from trlab import Snapshots, Sweep, Table, Window
+from trlab import Rule, Snapshots, Sweep, Table, Window
 from trlab import check, even, find_program, jammed, moving, random_cells, read_tables, run_all, write_inputs
 from trlab._results.tables import point_of
 from trlab._runs.calls import ask
@@ -52,7 +54,8 @@ class Sweeps(unittest.TestCase):
 
 class Runs(unittest.TestCase):
     def test_the_example(self) -> None:
-        job = Job(limit=5, start=[0, None, 0] + 7 * [None], rule=Nasch(0), steps=4)
+        two_cars: list[Optional[float]] = [0, None, 0, *7 * [None]]
+        job = Job(limit=5, start=two_cars, rule=Nasch(0), steps=4)
         self.assertEqual(job.text(), example("two_cars.job"))
         snapshots = job.run(workers=3)
         text = "".join(
@@ -63,7 +66,7 @@ class Runs(unittest.TestCase):
         self.assertEqual(list(job.snapshots()), snapshots)
 
     def test_a_run_can_be_left(self) -> None:
-        snapshots = Job(limit=5, length=1000, cars=100, rule=Nasch(0), steps=500000).snapshots()
+        snapshots: Any = Job(limit=5, length=1000, cars=100, rule=Nasch(0), steps=500000).snapshots()
         self.assertEqual(next(snapshots).step, 0)
         snapshots.close()
 
@@ -100,8 +103,9 @@ class Runs(unittest.TestCase):
 
     def test_numbers_of_steps_are_checked(self) -> None:
         job = Job(limit=5, start=[0, None], rule=Nasch(0), steps=5)
+        calls: list[Callable[..., object]] = [job.run, job.series, lambda **options: list(job.snapshots(**options))]
         for options in {"every": 0}, {"every": 500001}, {"first": -1}, {"first": 500001}:
-            for call in job.run, job.series, lambda **options: list(job.snapshots(**options)):
+            for call in calls:
                 self.assertRaisesRegex(ParameterError, "(every|first) must be between", call, **options)
 
     def test_more_than_a_pipe_can_hold(self) -> None:
@@ -121,7 +125,8 @@ class Series(unittest.TestCase):
 
     def test_snapshots_have_the_counts_of_a_sweep(self) -> None:
         # On one lane, or if all cars start on lane 0 of two, a job numbers its cars as the first point of a sweep does.
-        for lanes, cars, rule in (1, 17, Nasch(0.25)), (2, 20, Rickert(0.25, 0.75)):
+        roads: list[tuple[int, int, Rule]] = [(1, 17, Nasch(0.25)), (2, 20, Rickert(0.25, 0.75))]
+        for lanes, cars, rule in roads:
             with warnings.catch_warnings():
                 warnings.simplefilter("ignore")
                 sweep = Sweep(limit=5, length=60, lanes=lanes, rule=rule, warm=20, measure=100, cars=[cars])
@@ -194,7 +199,7 @@ class Rejections(unittest.TestCase):
         self.assertEqual(rejected.line, 5)
         self.assertEqual(rejected.first, 12)
         self.assertEqual(rejected.last, 15)
-        self.assertIn("0.25", rejected.found)
+        self.assertIn("0.25", rejected.found or "")
         [repair] = rejected.repairs
         self.assertEqual(repair["edits"], [{"line": 5, "first": 12, "last": 15, "replacement": str(QUARTER)}])
 
@@ -246,7 +251,8 @@ class Many(unittest.TestCase):
 
     def test_the_first_that_fails(self) -> None:
         with self.assertRaisesRegex(RejectedInputError, "fault line 5 cause 4"):
-            run_all([Job(limit=5, length=5, cars=1, rule=rule, steps=1) for rule in (Nasch(0), Rickert(0, 0))], Job.run)
+            rules: list[Rule] = [Nasch(0), Rickert(0, 0)]
+            run_all([Job(limit=5, length=5, cars=1, rule=rule, steps=1) for rule in rules], Job.run)
 
     def test_by_files(self) -> None:
         with tempfile.TemporaryDirectory(prefix="a blank ") as folder:

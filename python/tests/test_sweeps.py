@@ -3,16 +3,18 @@ import hashlib
 import unittest
 from dataclasses import replace
 from statistics import fmean, stdev
-from typing import Any
+from typing import Any, Optional
 
 from tests.expected import NEEDS_TWO_LANES
 from tests.skips import needs
 from trlab import Nasch, Point, RejectedInputError, Rickert, Sweep, Table, even, jammed, moving, random_cells
 
 SWEEP = Sweep(limit=5, length=60, rule=Nasch(0.25), warm=20, measure=100, cars=[10, 20, 20], key=7)
-ROAD = [0, None, 3, None, None]
-ROADS = Sweep(limit=5, length=5, rule=Nasch(0.25), warm=3, measure=8, start=[ROAD, [None, 2, None, 1, 0]])
-PAIRS = Sweep(limit=5, length=2, lanes=2, rule=Rickert(0, 1), warm=0, measure=9, start=3 * [[[0, None], [None, None]]])
+ROAD: list[Optional[float]] = [0, None, 3, None, None]
+OTHER_ROAD: list[Optional[float]] = [None, 2, None, 1, 0]
+ROADS = Sweep(limit=5, length=5, rule=Nasch(0.25), warm=3, measure=8, start=[ROAD, OTHER_ROAD])
+PAIR: list[list[Optional[float]]] = [[0, None], [None, None]]
+PAIRS = Sweep(limit=5, length=2, lanes=2, rule=Rickert(0, 1), warm=0, measure=9, start=3 * [PAIR])
 
 
 def digest(purpose: str, digits: str, number: int) -> str:
@@ -30,7 +32,7 @@ class InitialStates(unittest.TestCase):
             self.assertEqual(job.key, digest("point", f"{7:064x}", number))
             self.assertEqual(job.start, random_cells(int(digest("seed", f"{3:064x}", number), 16), speed=1))
             self.assertEqual(job.steps, 120)
-            self.assertEqual(job.cars, sweep.cars[number])
+            self.assertEqual(job.cars, (sweep.cars or [])[number])
             self.assertEqual(job.rule, sweep.rule)
         upper = replace(sweep, key=64 * "A").jobs()
         self.assertEqual(upper, replace(sweep, key=64 * "a").jobs())
@@ -140,7 +142,7 @@ class Sizes(unittest.TestCase):
     def test_more_points_than_an_input_has(self) -> None:
         sweep = replace(SWEEP, length=10, warm=0, measure=5, cars=401 * [5])
         first, second, third = sweep.parts()
-        self.assertEqual([len(part.cars) for part in (first, second, third)], [200, 200, 1])
+        self.assertEqual([len(part.cars or []) for part in (first, second, third)], [200, 200, 1])
         self.assertEqual(
             [first.key, second.key, third.key], [7, *(digest("part", f"{7:064x}", number) for number in (1, 2))]
         )
@@ -178,7 +180,8 @@ class Sizes(unittest.TestCase):
 class Means(unittest.TestCase):
     def test_points_are_independent_and_have_the_exact_mean(self) -> None:
         # The stationary flow of three cars on eight cells, from all transition probabilities of this ring.
-        exact, shape = 387 / 1568, {"limit": 1, "length": 8, "rule": Nasch(0.25), "warm": 50, "measure": 200}
+        exact = 387 / 1568
+        shape: dict[str, Any] = {"limit": 1, "length": 8, "rule": Nasch(0.25), "warm": 50, "measure": 200}
         for start in random_cells(1), jammed, moving:
             flows = [point.flow for point in Sweep(**shape, cars=200 * [3], start=start).sweep(runners=2)]
             self.assertLess(abs(fmean(flows) - exact), 3 * stdev(flows) / 200**0.5)

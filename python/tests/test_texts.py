@@ -1,9 +1,11 @@
 """Input files: the Python that a user writes, and the exact file."""
 import unittest
 from fractions import Fraction
+from typing import Any, Optional
 
 from tests.expected import ALWAYS, HALF, QUARTER, TENTH, THIRD
-from trlab import InitialState, Job, Nasch, Own, Rickert, SlowToStart, Sweep, even, jammed, moving, random_cells
+from trlab import Density, InitialState, Job, Nasch, Own, Probability, Rickert, SlowToStart, Sweep
+from trlab import even, jammed, moving, random_cells
 from trlab._inputs.numbers import cars_at, key_digits, parts
 
 DEFAULT_KEY, KEY_1 = "key " + 64 * "0", "key " + 63 * "0" + "1"
@@ -15,9 +17,11 @@ def lines(*texts: str) -> str:
 
 class Units(unittest.TestCase):
     def test_a_probability_is_rounded_to_the_nearest_multiple(self) -> None:
-        for probability in 0.25, "1/4", "0.25", Fraction(1, 4):
+        quarters: list[Probability] = [0.25, "1/4", "0.25", Fraction(1, 4)]
+        for probability in quarters:
             self.assertEqual(parts(probability), QUARTER)
-        self.assertEqual([parts(probability) for probability in (0, 0.1, "1/3", 1)], [0, TENTH, THIRD, ALWAYS])
+        others: list[Probability] = [0, 0.1, "1/3", 1]
+        self.assertEqual(list(map(parts, others)), [0, TENTH, THIRD, ALWAYS])
 
     def test_no_probability_is_outside_0_to_1(self) -> None:
         for probability in -0.001, 1.001, "5/4":
@@ -31,7 +35,8 @@ class Units(unittest.TestCase):
             self.assertRaisesRegex(ValueError, "key must be", key_digits, key)
 
     def test_a_density_is_the_nearest_count(self) -> None:
-        self.assertEqual([cars_at(density, 1000) for density in (0, 0.0854, "1/3", 1)], [0, 85, 333, 1000])
+        densities: list[Density] = [0, 0.0854, "1/3", 1]
+        self.assertEqual([cars_at(density, 1000) for density in densities], [0, 85, 333, 1000])
         self.assertRaisesRegex(ValueError, "density must be between 0 and 1", cars_at, 1.5, 10)
 
 
@@ -61,12 +66,14 @@ class InitialStates(unittest.TestCase):
         self.assertEqual(self.road(random_cells(1, speed=3))[0].count("3"), 4)
 
     def test_speeds_are_a_road(self) -> None:
-        job = Job(limit=35, start=[0, None, 35, None, 10], rule=Nasch(0), steps=0)
+        speeds: list[Optional[float]] = [0, None, 35, None, 10]
+        job = Job(limit=35, start=speeds, rule=Nasch(0), steps=0)
         self.assertIn("\nlane 0.z.a\n", job.text())
         self.assertEqual(job.length, 5)
         self.assertEqual(job.lanes, 1)
         self.assertEqual(job.road(), [[0, None, 35, None, 10]])
-        two_lanes = Job(limit=5, start=[[0, -1], [None, 5]], rule=Nasch(0), steps=0)
+        lanes: list[list[Optional[float]]] = [[0, -1], [None, 5]]
+        two_lanes = Job(limit=5, start=lanes, rule=Nasch(0), steps=0)
         self.assertEqual(two_lanes.length, 2)
         self.assertEqual(two_lanes.lanes, 2)
         self.assertEqual(two_lanes.cells(), 4)
@@ -117,7 +124,8 @@ class InputFiles(unittest.TestCase):
         )
 
     def test_cars_or_densities(self) -> None:
-        for points in {}, {"cars": [1], "densities": [0.1]}:
+        wrong_points: list[dict[str, Any]] = [{}, {"cars": [1], "densities": [0.1]}]
+        for points in wrong_points:
             self.assertRaisesRegex(
                 ValueError, "either `cars` or `densities`", Sweep, limit=5, length=10, rule=Nasch(0), warm=0, measure=1,
                 **points,

@@ -71,7 +71,10 @@ class Units(unittest.TestCase):
         self.assertRaisesRegex(FrameError, "has a unit to convert", trlab.to_si, frame[["x"]])
 
     def test_nothing_but_numbers_above_0(self) -> None:
-        for values in {"cell": 0}, {"step": -1}, {"cell": float("inf")}, {"step": float("nan")}, {"cell": True}:
+        wrong_units: list[dict[str, float]] = [
+            {"cell": 0}, {"step": -1}, {"cell": float("inf")}, {"step": float("nan")}, {"cell": True},
+        ]
+        for values in wrong_units:
             self.assertRaisesRegex(
                 ParameterError, f"`{next(iter(values))}` must be", trlab.to_si, frame_of(flow=0.5), **values
             )

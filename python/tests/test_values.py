@@ -13,6 +13,7 @@ from concurrent.futures import ProcessPoolExecutor
 from dataclasses import replace
 from multiprocessing import Pool
 from pathlib import Path
+from typing import Any
 from unittest import mock
 
 import trlab
@@ -96,7 +97,7 @@ class Values(unittest.TestCase):
         self.assertEqual(repr(Snapshots()), "<no snapshots>")
 
     def test_a_star_import_leaves_names_of_python(self) -> None:
-        names = {}
+        names: dict[str, object] = {}
         exec("from trlab import *", names)
         self.assertFalse({"map", "random"} & set(names))
         self.assertTrue(set(trlab.__all__) <= set(names))
@@ -115,7 +116,7 @@ class Construction(unittest.TestCase):
             call(*others, **values)
 
     def test_numbers_are_in_their_ranges(self) -> None:
-        job = dict(limit=5, length=10, cars=1, rule=Nasch(0), steps=1)
+        job: dict[str, Any] = dict(limit=5, length=10, cars=1, rule=Nasch(0), steps=1)
         for name, values in {
             "limit": (0, 36), "length": (0, 100001), "steps": (-1,), "lanes": (0, 3), "cars": (-1, 11),
             "key": (-1, 2**256)
@@ -124,7 +125,7 @@ class Construction(unittest.TestCase):
                 self.rejects(ValueError, name, Job, **{**job, name: value})
         for name in "limit", "length", "steps", "cars":
             self.rejects(TypeError, f"{name} must be a whole number, .*, not 1.0", Job, **{**job, name: 1.0})
-        sweep = dict(limit=5, length=10, rule=Nasch(0), warm=0, measure=1, cars=[1])
+        sweep: dict[str, Any] = dict(limit=5, length=10, rule=Nasch(0), warm=0, measure=1, cars=[1])
         for name, value in dict(warm=-1, measure=0, cars=[11], length=100001, limit=36, lanes=3, key="7").items():
             self.rejects(ValueError, name, Sweep, **{**sweep, name: value})
         for name in "limit", "length", "warm", "measure":
@@ -163,14 +164,16 @@ class Construction(unittest.TestCase):
         self.rejects(TypeError, "key must be a whole number or 64 hexadecimal digits, not 1.0", replace, JOB, key=1.0)
 
     def test_cars_or_a_density(self) -> None:
-        for cars in {}, {"cars": 1, "density": 0.1}:
+        wrong_cars: list[dict[str, Any]] = [{}, {"cars": 1, "density": 0.1}]
+        for cars in wrong_cars:
             self.assertRaisesRegex(
                 ValueError, "either `cars` or `density`", Job, limit=5, length=10, rule=Nasch(0), steps=1, **cars
             )
 
     def test_options_have_names(self) -> None:
         # A reader of `run(10)` cannot know whether 10 is a number of steps or of threads.
-        for call in JOB.run, JOB.snapshots, JOB.series, SWEEP.sweep:
+        calls: list[Callable[..., object]] = [JOB.run, JOB.snapshots, JOB.series, SWEEP.sweep]
+        for call in calls:
             self.assertRaisesRegex(TypeError, "positional argument", call, 1)
 
     def test_old_names_name_the_new_ones(self) -> None:
@@ -226,7 +229,7 @@ class Construction(unittest.TestCase):
         self.assertEqual(list(job.at), [2, 4])
         self.assertEqual(len(job.at), 2)
         with self.assertRaisesRegex(TypeError, "does not support item assignment"):
-            job.at[3] = Nasch(0)
+            job.at[3] = Nasch(0)  # type: ignore[index]
         self.assertEqual(job.at, replace(job).at)
         self.assertEqual(hash(job), hash(replace(job)))
         self.assertEqual(pickle.loads(pickle.dumps(job.at)), job.at)
@@ -256,8 +259,9 @@ class Construction(unittest.TestCase):
         self.assertEqual(densities.text(), replace(SWEEP, cars=[0, 10, 20]).text())
         self.assertEqual(replace(SWEEP, cars=numpy.array([1, 2, 4])).text(), SWEEP.text())
         self.assertEqual(Nasch(numpy.float32(0.25)).lines(), Nasch(0.25).lines())
-        self.assertEqual(random_cells(numpy.int64(3)), random_cells(3))
-        self.assertEqual(hash(random_cells(numpy.int64(3))), hash(random_cells(3)))
+        seed: Any = numpy.int64(3)
+        self.assertEqual(random_cells(seed), random_cells(3))
+        self.assertEqual(hash(random_cells(seed)), hash(random_cells(3)))
         for shape in (3, 1, 1), (3, 4):
             self.rejects(
                 ValueError, "a road is a list", Job, limit=5, start=numpy.zeros(shape, int), rule=Nasch(0), steps=1

@@ -122,7 +122,7 @@ def read_operands(forms: str, text: bytes, line: int) -> list[Union[bytes, int]]
     return operands
 
 
-def read_label(text: bytes, labels: dict[bytes, int], place: int, line: int) -> bytes:
+def read_label(text: bytes, labels: dict[bytes, int], target: int, line: int) -> bytes:
     """The rest of a line after its label, which is recorded; or the whole line if it has no label."""
     if b":" not in text:
         return text
@@ -132,7 +132,7 @@ def read_label(text: bytes, labels: dict[bytes, int], place: int, line: int) -> 
         raise Fault(line, Cause.LABEL_TWICE)
     if not is_label(label):
         raise Fault(line, Cause.UNKNOWN_INSTRUCTION)
-    labels[label] = place
+    labels[label] = target
     return rest.strip(BLANKS)
 
 

@@ -316,8 +316,8 @@ class Crate:
         """The clauses of the law that a body names that are about a constant that only this body changes."""
         module, _, name = body.function.rpartition("::")
         file = f"src/{module.replace('::', '/') or 'lib'}.rt"
-        law = next(it for it in functions_in(file, self.text(file)) if it.name == name)
-        others = set().union(*(self.constants_of(it) for it in round_ if it is not body))
+        law = next(function for function in functions_in(file, self.text(file)) if function.name == name)
+        others = set().union(*(self.constants_of(function) for function in round_ if function is not body))
         words_of_clauses = {clause: set(WORD.findall(text)) for clause, text in CLAUSE.findall(self.text(file)[law.start:law.end])}
         return [clause for clause, words in words_of_clauses.items() if words & self.constants_of(body) and not words & others]
 
