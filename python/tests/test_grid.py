@@ -62,7 +62,8 @@ class Keys(unittest.TestCase):
     def test_numbers_of_numpy(self) -> None:
         import numpy
 
-        self.assertEqual(key_for(a=numpy.float64(0.1), b=numpy.int32(3)), key_for(a=0.1, b=3))
+        numbers: dict[str, Any] = {"a": numpy.float64(0.1), "b": numpy.int32(3)}
+        self.assertEqual(key_for(**numbers), key_for(a=0.1, b=3))
 
 
 class Inputs(unittest.TestCase):
@@ -88,7 +89,7 @@ class Inputs(unittest.TestCase):
         self.assertEqual(list(grid.run(call=last).index.get_level_values("rule")), ["nasch", "slow"])
 
     def test_parameters_that_are_wrong(self) -> None:
-        for message, parameters in (
+        errors: list[tuple[str, dict[str, Any]]] = [
             ("p must be a list of values", {"p": 0.25}),
             ("p must be a list of values", {"p": "1/4"}),
             ("rule must have numbers or texts", {"rule": [Nasch(0)]}),
@@ -97,7 +98,8 @@ class Inputs(unittest.TestCase):
             ("speed is a column", {"speed": [1]}),
             ("flow_sem is a column", {"flow_sem": [1]}),
             ("cannot have this name", {"class": [1]}),
-        ):
+        ]
+        for message, parameters in errors:
             with self.subTest(words=message), self.assertRaisesRegex(ParameterError, message):
                 Grid(job, **parameters)
 

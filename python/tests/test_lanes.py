@@ -85,11 +85,12 @@ class Lanes(unittest.TestCase):
         self.assertIn("300 cars are 200 on lane 0", message)
 
     def test_other_states_do_not_warn(self) -> None:
+        one_lane: dict[str, Any] = {**JOB, "lanes": 1}
         for cars in 300, 100:
             for start in jammed, random_cells(1):
                 self.assertEqual(warnings_of(lambda: Job(**JOB, cars=cars, start=start)), [])
                 self.assertEqual(warnings_of(lambda: Sweep(**SWEEP, cars=[cars], start=start)), [])
-            self.assertEqual(warnings_of(lambda: Job(**{**JOB, "lanes": 1}, cars=cars)), [])
+            self.assertEqual(warnings_of(lambda: Job(**one_lane, cars=cars)), [])
         self.assertEqual(warnings_of(lambda: replace(Job(**JOB, cars=301), cars=0)), [])
 
 

@@ -102,9 +102,9 @@ class SpaceTimes(Plots):
         axes = trlab.plot_space_time(part, lane=1, limit=7)
         (image,) = axes.images
         speeds = [[-1 if cell == "." else int(cell) for cell in snapshot.lanes[1]] for snapshot in part]
-        drawn = image.get_array()
+        drawn: Any = image.get_array()
         # The image masks empty cells, or has NaN there.
-        drawn = drawn.filled(-1) if isinstance(drawn, numpy.ma.MaskedArray) else numpy.nan_to_num(drawn, nan=-1)
+        drawn = drawn.filled(-1) if hasattr(drawn, "filled") else numpy.nan_to_num(drawn, nan=-1)
         numpy.testing.assert_array_equal(drawn, speeds)
         self.assertEqual(axes.get_xlabel(), "position (cells)")
         self.assertEqual(axes.get_ylabel(), "time (steps)")

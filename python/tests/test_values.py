@@ -126,16 +126,17 @@ class Construction(unittest.TestCase):
         for name in "limit", "length", "steps", "cars":
             self.rejects(TypeError, f"{name} must be a whole number, .*, not 1.0", Job, **{**job, name: 1.0})
         sweep: dict[str, Any] = dict(limit=5, length=10, rule=Nasch(0), warm=0, measure=1, cars=[1])
-        for name, value in dict(warm=-1, measure=0, cars=[11], length=100001, limit=36, lanes=3, key="7").items():
-            self.rejects(ValueError, name, Sweep, **{**sweep, name: value})
+        wrong: dict[str, object] = dict(warm=-1, measure=0, cars=[11], length=100001, limit=36, lanes=3, key="7")
+        for name, wrong_value in wrong.items():
+            self.rejects(ValueError, name, Sweep, **{**sweep, name: wrong_value})
         for name in "limit", "length", "warm", "measure":
             self.rejects(TypeError, f"{name} must be a whole number, .*, not 1000.0", Sweep, **{**sweep, name: 1e3})
         self.rejects(ValueError, "at least one point", Sweep, **{**sweep, "cars": []})
-        for values in 20, "20":
+        for no_list in 20, "20":
             self.rejects(
-                TypeError, "cars must be a list with a number for each point", Sweep, **{**sweep, "cars": values}
+                TypeError, "cars must be a list with a number for each point", Sweep, **{**sweep, "cars": no_list}
             )
-            self.rejects(TypeError, "densities must be a list", Sweep, **{**sweep, "cars": None, "densities": values})
+            self.rejects(TypeError, "densities must be a list", Sweep, **{**sweep, "cars": None, "densities": no_list})
 
     def test_the_largest_numbers_are_those_of_the_program(self) -> None:
         lines = ["limit 35", "length 100000", "lanes 1", "rule nasch 0", "warm 0", "measure 1", "cars 100000"]
@@ -182,7 +183,7 @@ class Construction(unittest.TestCase):
         self.assertFalse(hasattr(JOB, "nothing"))
 
     def test_a_road_has_one_lane_or_two(self) -> None:
-        job = dict(limit=5, rule=Nasch(0), steps=1)
+        job: dict[str, Any] = dict(limit=5, rule=Nasch(0), steps=1)
         for road in (
             [[[[0]]]], [[0], [0], [0]], ["0", "0", "0"], [0.5], [True, False], [-2], [], [[], []], "", 7, None, {0: 5},
             b"0",
@@ -193,7 +194,7 @@ class Construction(unittest.TestCase):
         self.rejects(ValueError, "1 to 100000 cells, not 100001", Job, **job, start=100001 * ".")
 
     def test_no_car_is_faster_than_the_limit(self) -> None:
-        job = dict(limit=5, rule=Nasch(0), steps=1)
+        job: dict[str, Any] = dict(limit=5, rule=Nasch(0), steps=1)
         for start in [6], [[None], [36]]:
             self.rejects(ValueError, "the limit is 5 cells per step", Job, **job, start=start)
         self.rejects(
@@ -211,7 +212,7 @@ class Construction(unittest.TestCase):
         self.rejects(ValueError, "speed must be between 0 and 35, not 36", random_cells, seed=1, speed=36)
 
     def test_later_rules_have_steps_of_the_run(self) -> None:
-        job = dict(limit=5, length=10, cars=1, rule=Nasch(0), steps=9)
+        job: dict[str, Any] = dict(limit=5, length=10, cars=1, rule=Nasch(0), steps=9)
         self.rejects(ValueError, "must be below `steps`, which is 9, not 9", Job, **job, at={9: Nasch(1)})
         self.rejects(ValueError, "a step of `at` must be at least 0, not -1", Job, **job, at={-1: Nasch(1)})
         self.rejects(

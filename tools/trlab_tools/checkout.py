@@ -101,9 +101,9 @@ class Checkout:
 
     def moved(self, how: str) -> "Checkout":
         """Continues in a different checkout, which a shell command makes from this one, `$0`, as `$1`."""
-        to = os.path.join(self.folder, "another checkout")
-        subprocess.run(["bash", "-euo", "pipefail", "-c", how, self.top, to], check=True, capture_output=True)
-        self.top = to
+        target = os.path.join(self.folder, "another checkout")
+        subprocess.run(["bash", "-euo", "pipefail", "-c", how, self.top, target], check=True, capture_output=True)
+        self.top = target
         return self
 
     def start(

@@ -33,8 +33,8 @@ class Time(NamedTuple):
 def level(program: str) -> str:
     """The processor level for which a program is compiled. Its message for older processors names this level."""
     with open(program, "rb") as file:
-        named = re.search(rb"x86-64-v[1-4]", file.read())
-    return named[0].decode() if named else "x86-64"
+        match = re.search(rb"x86-64-v[1-4]", file.read())
+    return match[0].decode() if match else "x86-64"
 
 
 def build(level: str, features: Sequence[str] = ()) -> list[str]:

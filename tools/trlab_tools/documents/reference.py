@@ -167,9 +167,9 @@ def annotated(node: ast.ClassDef) -> Iterator[str]:
 
 def arguments(args: ast.arguments) -> Iterator[str]:
     """The arguments of a function, each by itself, without `self` and `cls`."""
-    named = [*args.posonlyargs, *args.args]
-    values = [*[None] * (len(named) - len(args.defaults)), *args.defaults]
-    for place, (argument, value) in enumerate(zip(named, values), 1):
+    positional = [*args.posonlyargs, *args.args]
+    values = [*[None] * (len(positional) - len(args.defaults)), *args.defaults]
+    for place, (argument, value) in enumerate(zip(positional, values), 1):
         if argument.arg not in ("self", "cls"):
             yield ast.unparse(argument) + ("" if value is None else f" = {ast.unparse(value)}")
         if place == len(args.posonlyargs):
@@ -270,12 +270,12 @@ def linked(text: str, name: str, own: Iterable[str], exported: set[str]) -> str:
     return "".join(part if part.startswith("```") else CODE.sub(link, part) for part in parts)
 
 
-def members_of(package: Package, node: ast.ClassDef, shown: set[Function]) -> Iterator[str]:
+def members_of(package: Package, node: ast.ClassDef, described: set[Function]) -> Iterator[str]:
     """The public methods and attributes of a class as Markdown, without those that a class above has shown."""
     for method, docstring in package.members(node).values():
-        if method in shown:
+        if method in described:
             continue
-        shown.add(method)
+        described.add(method)
         is_property = any(ast.unparse(word) == "property" for word in method.decorator_list)
         words = "" if is_property else f"({', '.join(arguments(method.args))})"
         result = result_of(method).replace(" ->", ":") if is_property else result_of(method)
@@ -292,13 +292,13 @@ def own_names(package: Package, node: ast.AST) -> set[str]:
     return set()
 
 
-def section(package: Package, name: str, shown: set[Function]) -> str:
+def section(package: Package, name: str, described: set[Function]) -> str:
     node, docstring = package.known[name]
     if isinstance(node, ast.ClassDef):
         fields = package.fields(node)
         # The call of an error without arguments of its own would add no information.
         heading = [block(call(node.name, fields))] if fields else []
-        parts = [*heading, prose(docstring), *members_of(package, node, shown)]
+        parts = [*heading, prose(docstring), *members_of(package, node, described)]
     elif isinstance(node, Function):
         parts = [block(call(name, arguments(node.args), result_of(node))), prose(docstring)]
     else:
@@ -314,10 +314,10 @@ def page() -> str:
     package = Package()
     first = (ast.get_docstring(package.overview) or "").split("\n\n")
     overview = prose("\n\n".join(part for part in first[1:] if not part.startswith("    ")))
-    parts, shown = [HEAD.format(overview=overview)], set[Function]()
+    parts, described = [HEAD.format(overview=overview)], set[Function]()
     for title, names in GROUPS.items():
         introduction = [prose(ast.get_docstring(package.exact) or "")] if title == "Exact results" else []
-        parts += [f"## {title}", *introduction, *(section(package, name, shown) for name in names)]
+        parts += [f"## {title}", *introduction, *(section(package, name, described) for name in names)]
     return "\n\n".join(part.strip("\n") for part in parts) + "\n"
 
 

@@ -47,9 +47,9 @@ def collect(pages: str) -> None:
     """Copy the documents and the files that they show or link to."""
     for name in known_files():
         if name.endswith(".md") or name in FILES or name.startswith(FOLDERS) and LEFT_OUT not in name:
-            to = os.path.join(pages, name)
-            os.makedirs(os.path.dirname(to), exist_ok=True)
-            shutil.copyfile(TOP / name, to)
+            target = os.path.join(pages, name)
+            os.makedirs(os.path.dirname(target), exist_ok=True)
+            shutil.copyfile(TOP / name, target)
     write(os.path.join(pages, reference.PAGE), reference.page())
     write(os.path.join(pages, reference.GUIDE), reference.with_index(content(reference.GUIDE), reference.on_site))
 

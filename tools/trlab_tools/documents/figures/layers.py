@@ -18,9 +18,9 @@ def layers() -> Iterator[tuple[str, str, dict[str, list[str]]]]:
     """The layers, lowest first: the name of each, its subject, and its crates with the crates that they use."""
     with open(CRATES, encoding="utf-8") as file:
         sections = LAYER.findall(file.read())
-    for name, about, lines in sections:
+    for name, subject, lines in sections:
         if name != BESIDE:
-            yield name, about, {crate: used.split() for crate, used in re.findall(r"^(\w+):(.*)$", lines, re.M)}
+            yield name, subject, {crate: used.split() for crate, used in re.findall(r"^(\w+):(.*)$", lines, re.M)}
 
 
 def rows(crates: dict[str, list[str]]) -> list[list[str]]:
@@ -37,15 +37,15 @@ def room(levels: list[list[str]]) -> int:
 
 
 def draw() -> str:
-    parts = [(name, about, rows(crates)) for name, about, crates in layers()]
+    parts = [(name, subject, rows(crates)) for name, subject, crates in layers()]
     high = sum(room(levels) + 8 for *_, levels in parts) + 32
     drawing = Drawing(LEFT + 3 * (WIDE + 14) + 30, high)
     y = high - 20
-    for fill, (name, about, levels) in zip(cycle(FILLS), parts):
+    for fill, (name, subject, levels) in zip(cycle(FILLS), parts):
         tall = room(levels)
         y -= tall
         drawing.box(20, y, drawing.width - 40, tall, fill, FRAME, 6)
-        lines = textwrap.wrap(about, 30)
+        lines = textwrap.wrap(subject, 30)
         drawing.text(36, y + tall / 2 + 5 - 8 * len(lines), name, weight="bold")
         for place, line in enumerate(lines):
             drawing.text(36, y + tall / 2 + 21 + 15 * place - 8 * len(lines), line, size=11.5)

@@ -85,8 +85,8 @@ class SpaceTime:
             self.drawing.text(self.left - 34, self.top + self.height / 2, "time (steps)", "middle", 12, turned=True)
 
     def path(self, pieces: List[Piece], stroke: str, width: float) -> None:
-        shown = ("M" + " ".join(f"{self.x(place):.1f} {self.y(step):.1f}" for place, step in piece) for piece in pieces)
-        self.drawing.path("".join(shown), stroke, width)
+        lines = ("M" + " ".join(f"{self.x(place):.1f} {self.y(step):.1f}" for place, step in piece) for piece in pieces)
+        self.drawing.path("".join(lines), stroke, width)
 
     def paths(self, lane: int = 0) -> None:
         """The paths of the cars on a lane: blue if they move, red if they are stopped, with a circle at each lane change."""
