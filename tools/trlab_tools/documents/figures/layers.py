@@ -38,19 +38,19 @@ def room(levels: list[list[str]]) -> int:
 
 def draw() -> str:
     parts = [(name, subject, rows(crates)) for name, subject, crates in layers()]
-    high = sum(room(levels) + 8 for *_, levels in parts) + 32
-    drawing = Drawing(LEFT + 3 * (WIDE + 14) + 30, high)
-    y = high - 20
+    height = sum(room(levels) + 8 for *_, levels in parts) + 32
+    drawing = Drawing(LEFT + 3 * (WIDE + 14) + 30, height)
+    y = height - 20
     for fill, (name, subject, levels) in zip(cycle(FILLS), parts):
-        tall = room(levels)
-        y -= tall
-        drawing.box(20, y, drawing.width - 40, tall, fill, FRAME, 6)
+        layer_height = room(levels)
+        y -= layer_height
+        drawing.box(20, y, drawing.width - 40, layer_height, fill, FRAME, 6)
         lines = textwrap.wrap(subject, 30)
-        drawing.text(36, y + tall / 2 + 5 - 8 * len(lines), name, weight="bold")
+        drawing.text(36, y + layer_height / 2 + 5 - 8 * len(lines), name, weight="bold")
         for place, line in enumerate(lines):
-            drawing.text(36, y + tall / 2 + 21 + 15 * place - 8 * len(lines), line, size=11.5)
+            drawing.text(36, y + layer_height / 2 + 21 + 15 * place - 8 * len(lines), line, size=11.5)
         for level, crates in enumerate(levels):
-            top = y + tall - 8 - (level + 1) * ROW + (ROW - HIGH)
+            top = y + layer_height - 8 - (level + 1) * ROW + (ROW - HIGH)
             for place, crate in enumerate(crates):
                 x = LEFT + place * (WIDE + 14)
                 drawing.box(x, top, WIDE, HIGH, "white", "#909090")
