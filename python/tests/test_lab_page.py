@@ -63,7 +63,7 @@ class Playing(OnPage):
                 self.hold(lambda: self.page.js("return lab.job.length") == length)
                 self.run_to(now)
                 step, top, numbers = self.page.step(), self.page.js("return lab.rows().top"), self.page.js(numbered)
-                self.assertEqual([number for number, _ in numbers], [number_ for number_ in range(0, step + 1, apart) if number_ >= top])
+                self.assertEqual([number for number, _ in numbers], [numbered_step for numbered_step in range(0, step + 1, apart) if numbered_step >= top])
                 for number, row in numbers:
                     self.assertAlmostEqual(number, row, places=3)
 

@@ -281,7 +281,7 @@ class Curves(unittest.TestCase):
         cases = [(1, length, {"model": "nasch", "p": brake}, 1) for length in (1, 2, 3, 12, 99, 100, 1000, 100000) for brake in (1e-9, 0.01, 1 / 3, 0.9999, 1 - 1e-9, 1)]
         for (_, length, rule, _), curve in zip(cases, self.curves(*cases)):
             counts = sorted({round(k * length / 100) for k in range(101)})
-            self.assertEqual([point_["density"] for point_ in curve["points"]], [cars / length for cars in counts])
+            self.assertEqual([vertex["density"] for vertex in curve["points"]], [cars / length for cars in counts])
             for cars, point in list(zip(counts, curve["points"]))[:: 1 if length < 100000 else 9]:
                 expected = trlab.exact.flow_as_float(length, cars, rule["p"])
                 self.assertTrue(math.isclose(point["flow"], expected, rel_tol=1e-9, abs_tol=1e-300), (length, rule, cars, point["flow"], expected))

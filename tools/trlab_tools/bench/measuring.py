@@ -101,10 +101,10 @@ def write(path: str, text: bytes) -> str:
 def timed(command: Sequence[str], path: str) -> Time:
     """The time of a run on the input in a file, in seconds; its output is discarded."""
     with open(path, "rb") as text:
-        began = time.perf_counter()
+        start = time.perf_counter()
         program = subprocess.Popen(command, stdin=text, stdout=subprocess.DEVNULL)
         _, status, used = os.wait4(program.pid, 0)
-        clock = time.perf_counter() - began
+        clock = time.perf_counter() - start
     program.returncode = os.waitstatus_to_exitcode(status)
     if program.returncode != 0:
         sys.exit(f"{' '.join(command)} ended with {program.returncode}")
