@@ -23,8 +23,8 @@ HEADER = re.compile(r"[\w-]+(\.[\w-]+)*", re.A)
 
 def read(text: str) -> Table:
     """The tables of a TOML file as nested dictionaries."""
-    found: Table = tomllib.loads(text) if tomllib else read_strictly(text)
-    return found
+    tables: Table = tomllib.loads(text) if tomllib else read_strictly(text)
+    return tables
 
 
 def read_strictly(text: str) -> Table:
@@ -48,10 +48,10 @@ def statements(text: str) -> Iterator[tuple[int, list[str]]]:
     line, place, first = 1, 0, 1
     words: list[str] = []
     while place < len(text):
-        found = TOKEN.match(text, place)
-        if not found:
+        match = TOKEN.match(text, place)
+        if not match:
             raise ValueError(f"pyproject.toml, line {line}: unknown form: {text[place:].splitlines()[0].strip()}")
-        place, token = found.end(), found[1]
+        place, token = match.end(), match[1]
         first = first if words else line
         if token.strip():
             words.append(token)
@@ -111,7 +111,7 @@ def opened(top: Table, headers: dict[str, str], words: list[str]) -> Table:
 
 def inner(table: Table, key: str) -> Table:
     """The table of a key in a table, which is made if it is missing."""
-    found = table.setdefault(key, {})
-    if not isinstance(found, dict):
+    inner_table = table.setdefault(key, {})
+    if not isinstance(inner_table, dict):
         raise ValueError(f"{key} is not a table")
-    return found
+    return inner_table

@@ -39,9 +39,9 @@ NO_DATE = (1980, 1, 1, 0, 0, 0)
 
 def version() -> str:
     """The version, which the module states."""
-    found = re.search(r'^__version__ = "(.*)"$', (MODULE / "_version.py").read_text(), re.M)
-    assert found is not None
-    return found[1]
+    match = re.search(r'^__version__ = "(.*)"$', (MODULE / "_version.py").read_text(), re.M)
+    assert match is not None
+    return match[1]
 
 
 def project() -> dict[str, Any]:

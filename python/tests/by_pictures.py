@@ -66,10 +66,10 @@ def window(snapshots: Sequence[Snapshot]) -> Window:
 
 def windows(snapshots: Iterable[Snapshot], every: int = 1, first: int = 0) -> Iterator[Window]:
     """The whole windows of a run, from a step on."""
-    kept: list[Snapshot] = []
+    in_window: list[Snapshot] = []
     for snapshot in snapshots:
         if snapshot.step >= first:
-            kept.append(snapshot)
-        if len(kept) == every + 1:
-            yield window(kept)
-            kept = [snapshot]
+            in_window.append(snapshot)
+        if len(in_window) == every + 1:
+            yield window(in_window)
+            in_window = [snapshot]

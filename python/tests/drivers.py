@@ -76,7 +76,7 @@ class Chromium(Chrome):
 
     def errors(self) -> list[str]:
         """The errors in the console since the last call."""
-        return [it["message"] for it in self.get_log("browser") if it["level"] == "SEVERE"]
+        return [entry["message"] for entry in self.get_log("browser") if entry["level"] == "SEVERE"]
 
 
 class Marionette:
@@ -141,11 +141,11 @@ class Firefox(Remote):
     def errors(self) -> list[str]:
         """The errors in the console since the last call."""
         self.execute("Marionette:SetContext", {"value": "chrome"})
-        found = self.execute_script("""return Services.console.getMessageArray().filter(it => it instanceof Ci.nsIScriptError
+        messages = self.execute_script("""return Services.console.getMessageArray().filter(it => it instanceof Ci.nsIScriptError
             && !(it.flags & Ci.nsIScriptError.warningFlag) && /^(http|file):/.test(it.sourceName))
             .map(it => `${it.errorMessage} ${it.sourceName}:${it.lineNumber}`)""")
         self.execute("Marionette:SetContext", {"value": "content"})
-        new, self.seen = found[self.seen:], len(found)
+        new, self.seen = messages[self.seen:], len(messages)
         return new
 
     def quit(self) -> None:

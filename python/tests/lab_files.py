@@ -25,8 +25,8 @@ def module() -> Optional[bytes]:
     """The program in WebAssembly, or None."""
     if named := os.environ.get("TRLAB_WASM"):
         return Path(named).read_bytes()
-    found = PROGRAM.search(RELEASED.read_text("utf-8")) if RELEASED.is_file() else None
-    return gzip.decompress(base64.b64decode(found[1])) if found else None
+    match = PROGRAM.search(RELEASED.read_text("utf-8")) if RELEASED.is_file() else None
+    return gzip.decompress(base64.b64decode(match[1])) if match else None
 
 
 MODULE = module()

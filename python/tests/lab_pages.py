@@ -33,8 +33,8 @@ def snapshots(text: str) -> Snapshots:
 
 def job_of(**changes: Any) -> str:
     """The job file of the page's first job, with changes."""
-    what: dict[str, Any] = {"limit": 5, "length": 1000, "cars": 150, "start": trlab.random_cells(1), "rule": trlab.Nasch(0.25), "steps": 5000, "key": 1}
-    return trlab.Job(**{**what, **changes}).text()
+    parameters: dict[str, Any] = {"limit": 5, "length": 1000, "cars": 150, "start": trlab.random_cells(1), "rule": trlab.Nasch(0.25), "steps": 5000, "key": 1}
+    return trlab.Job(**{**parameters, **changes}).text()
 
 
 class Place(Protocol):
@@ -89,17 +89,17 @@ class OnPage(Base):
         if not self.page.holds(condition):
             self.fail(self.page.js("return document.getElementById('fault')?.textContent") or "it does not become true")
 
-    def has(self, wanted: object, found: Callable[[], object]) -> None:
+    def has(self, expected: object, actual: Callable[[], object]) -> None:
         """Wait until a call gives this value."""
-        if not self.page.holds(lambda: found() == wanted):
-            self.assertEqual(found(), wanted)
+        if not self.page.holds(lambda: actual() == expected):
+            self.assertEqual(actual(), expected)
 
-    def has_job(self, wanted: str) -> None:
-        self.has(wanted, self.page.job)
+    def has_job(self, expected: str) -> None:
+        self.has(expected, self.page.job)
 
-    def has_line(self, wanted: str) -> None:
-        if not self.page.holds(lambda: wanted in self.page.job()):
-            self.assertIn(wanted, self.page.job())
+    def has_line(self, line: str) -> None:
+        if not self.page.holds(lambda: line in self.page.job()):
+            self.assertIn(line, self.page.job())
 
     def has_marks(self, count: int) -> None:
         """The fundamental diagram has this number of points of one sweep; the run may have added its own."""
@@ -115,8 +115,8 @@ class OnPage(Base):
 
     def only_run(self) -> Optional[Child]:
         """The process of the only run, or None."""
-        found = self.runs()
-        return found[0] if len(found) == 1 else None
+        runs = self.runs()
+        return runs[0] if len(runs) == 1 else None
 
     def follows_none(self) -> None:
         self.page.keys(Keys.ESCAPE)
@@ -142,9 +142,9 @@ class OnPage(Base):
     def are_those_of_the_run(self) -> list[list[Any]]:
         """The kept snapshots, which are those of the job file. On a busy machine the first ones may be gone."""
         shots: list[list[Any]] = self.page.js(SHOTS)
-        found = snapshots(self.page.job())
+        expected = snapshots(self.page.job())
         for step, cells, *_ in shots:
-            self.assertEqual((step, cells), (found[step].step, "".join(found[step].lanes)))
+            self.assertEqual((step, cells), (expected[step].step, "".join(expected[step].lanes)))
         return shots
 
     def open(self, text: str, name: str = "a.job") -> None:

@@ -23,15 +23,15 @@ def answers(calls: Sequence[Sequence[object]], edit: Callable[[str], str] = lamb
     with tempfile.TemporaryDirectory() as folder:
         path = Path(folder) / "scripts.mjs"
         path.write_text(edit(joined("reading", "jobs", "exact")) + CALLER)
-        ended = subprocess.run([NODE, path], input=json.dumps([[it[0], it[1], it[2:]] for it in calls]), capture_output=True, text=True)
+        ended = subprocess.run([NODE, path], input=json.dumps([[call[0], call[1], call[2:]] for call in calls]), capture_output=True, text=True)
     if ended.returncode != 0:
         raise AssertionError(ended.stderr)
-    return [Thrown(it["error"]) if "error" in it else it["value"] for it in json.loads(ended.stdout)]
+    return [Thrown(call["error"]) if "error" in call else call["value"] for call in json.loads(ended.stdout)]
 
 
 def answer(*call: object) -> Any:
     """The value of one call; raises `Thrown`."""
-    [found] = answers([call])
-    if isinstance(found, Thrown):
-        raise found
-    return found
+    [result] = answers([call])
+    if isinstance(result, Thrown):
+        raise result
+    return result

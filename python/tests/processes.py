@@ -1,12 +1,15 @@
 """Programs that replace trlab, child processes of Python, and the processes that they leave behind."""
 import os
 import signal
+import stat
 import subprocess
 import sys
 import uuid
 from collections.abc import Mapping, Sequence
+from contextlib import AbstractContextManager
 from pathlib import Path
 from typing import Union
+from unittest import mock
 
 from trlab import find_program
 
@@ -30,6 +33,14 @@ def logging_program(folder: Folder) -> Path:
     path.write_text(f'#!/bin/sh\necho "$1" >> "{folder}/calls"\nexec "{find_program()}" "$@"\n')
     path.chmod(0o755)
     return path
+
+
+def replaced_program(folder: Folder, lines: str) -> AbstractContextManager[object]:
+    """Run a program of a few lines of the shell instead of trlab."""
+    path = Path(folder) / "trlab"
+    path.write_text('#!/bin/sh\n[ "$1" != --version ] || exec echo trlab 0\n' + lines)
+    path.chmod(path.stat().st_mode | stat.S_IXUSR)
+    return mock.patch.dict(os.environ, TRLAB=str(path))
 
 
 def calls(folder: Folder, argument: str) -> int:

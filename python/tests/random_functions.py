@@ -471,7 +471,7 @@ def random_view(dice: random.Random) -> View:
     }
 
 
-class Tried:
+class RandomFunction:
     """A random function by its seed: its text and parameters, and its program, or the error."""
 
     def __init__(self, seed: object) -> None:

@@ -27,7 +27,7 @@ UNKNOWN = {
 }
 
 
-def information(text, *hidden):
+def information(text: str, *hidden: str) -> str:
     """The files that describe the package, by a backend with this pyproject.toml, without some modules."""
     with tempfile.TemporaryDirectory() as folder:
         top = Path(folder)
@@ -44,21 +44,22 @@ def information(text, *hidden):
 
 class Backend(unittest.TestCase):
     @unittest.skipUnless(pyproject.tomllib, "Python has no tomllib before 3.11")
-    def test_both_readers_give_the_same(self):
+    def test_both_readers_give_the_same(self) -> None:
+        assert pyproject.tomllib is not None
         for text in TEXT, SEVERAL_LINES:
             self.assertEqual(pyproject.read_strictly(text), pyproject.tomllib.loads(text))
 
-    def test_a_list_over_several_lines(self):
+    def test_a_list_over_several_lines(self) -> None:
         expected = {"a": {"b": {"c": ["e#", "]"]}, "d": []}, "f": {"g": [{"h": False}, {}]}}
         self.assertEqual(pyproject.read_strictly(SEVERAL_LINES), expected)
 
-    def test_the_strict_reader_rejects_other_forms_with_the_line(self):
+    def test_the_strict_reader_rejects_other_forms_with_the_line(self) -> None:
         for form, text in UNKNOWN.items():
             with self.subTest(form):
                 line = 2 + text.count("\n") * text.startswith(('a = "b"\n', 'a = ["b"]\n', "[a]\n", "[[a]]\n"))
                 self.assertRaisesRegex(ValueError, f"line {line}: ", pyproject.read_strictly, f"# comment\n{text}")
 
-    def test_the_order_of_the_tables_changes_nothing(self):
+    def test_the_order_of_the_tables_changes_nothing(self) -> None:
         start, rest = TEXT.split(EXTRAS)
         extras, rest = rest.split("\n\n", 1)
         build, table = start.split("[project]")

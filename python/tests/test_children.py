@@ -5,23 +5,24 @@ import subprocess
 import sys
 import threading
 import unittest
+from typing import Any
 from unittest import mock
 
 from trlab import ExitStatusError
 from trlab._runs.children import Child
 
 
-def python_running(script="", **options):
+def python_running(script: str = "", **options: Any) -> Child:
     return Child([sys.executable, "-c", script], **options)
 
 
-def has_ended(child):
+def has_ended(child: Child) -> None:
     """Wait until a child has ended, and leave its exit status to it."""
     os.waitid(os.P_PID, child.pid, os.WEXITED | os.WNOWAIT)
 
 
 class Children(unittest.TestCase):
-    def test_statuses(self):
+    def test_statuses(self) -> None:
         for script, status in (
             ("", 0), ("raise SystemExit(3)", 3), ("import os; os.kill(os.getpid(), 15)", -signal.SIGTERM),
         ):
@@ -30,14 +31,14 @@ class Children(unittest.TestCase):
                     [child.exit_status(), child.exit_status(), child.wait(), child.returncode], [status] * 4
                 )
 
-    def test_a_killed_child(self):
+    def test_a_killed_child(self) -> None:
         with python_running("input()", stdin=subprocess.PIPE) as child:
             child.kill()
             self.assertEqual(child.exit_status(), -signal.SIGKILL)
             child.kill()
             self.assertEqual(child.exit_status(), -signal.SIGKILL)
 
-    def test_a_child_that_is_killed_too_late_keeps_its_status(self):
+    def test_a_child_that_is_killed_too_late_keeps_its_status(self) -> None:
         """Also for a thread that asks the system for it at the same time."""
         with python_running("raise SystemExit(3)") as child:
             has_ended(child)
@@ -45,19 +46,19 @@ class Children(unittest.TestCase):
             has_ended(child)
             self.assertEqual(child.exit_status(), 3)
 
-    def test_a_thread_that_asks_while_another_one_takes_the_status(self):
+    def test_a_thread_that_asks_while_another_one_takes_the_status(self) -> None:
         """The other thread has taken it from the system, and has not noted it yet."""
         statuses, finds_none = [], threading.Event()
         take, ask = os.waitpid, os.waitid
 
-        def waitid(*arguments):
+        def waitid(*arguments: int) -> object:
             try:
                 return ask(*arguments)
             except ChildProcessError:
                 finds_none.set()
                 raise
 
-        def waitpid(*arguments):
+        def waitpid(*arguments: int) -> tuple[int, int]:
             result = take(*arguments)
             other.start()
             finds_none.wait()
@@ -70,14 +71,14 @@ class Children(unittest.TestCase):
                 other.join()
         self.assertEqual(statuses, [3, 3])
 
-    def test_a_status_that_something_else_takes_is_lost(self):
+    def test_a_status_that_something_else_takes_is_lost(self) -> None:
         """It is lost for every call of `Child` that comes afterwards."""
-        for call in Child.exit_status, Child.kill, Child.wait:
-            with self.subTest(call=call.__name__), python_running("raise SystemExit(3)") as child:
+        for name in "exit_status", "kill", "wait":
+            with self.subTest(call=name), python_running("raise SystemExit(3)") as child:
                 os.waitpid(child.pid, 0)
                 with mock.patch.object(os, "kill", side_effect=AssertionError("another process may have this number")):
-                    if call != Child.exit_status:
-                        call(child)
+                    if name != "exit_status":
+                        getattr(child, name)()
                     self.assertRaisesRegex(ExitStatusError, "is lost", child.exit_status)
 
 

@@ -10,7 +10,7 @@ from pathlib import Path
 
 import trlab
 from tests.random_jobs import needs_hypothesis
-from tests.test_arrays import needs
+from tests.skips import needs
 from trlab import Job, Nasch, ParameterError, Rickert, Snapshot, Snapshots, SnapshotsError, random_cells
 
 if importlib.util.find_spec("hypothesis"):

@@ -50,6 +50,98 @@ def at_random(frame, order):
     return frame.iloc[rows]
 
 
+class Defects:
+    """Wrong calls for the runs of a study, in some of which one row is wrong: each call by its name, and whether it is harmless."""
+
+    def __init__(self, study, row):
+        self.study, self.row, self.frame, self.group = study, row, study.frame, study.names
+        self.runs = trlab.per_run(study.frame)
+        self.is_one, self.is_one_seed = len(self.runs) == 1, study.seeds == 1
+        self.level = self.group[0] if self.group else "seed"
+
+    def in_row(self, wrong, right):
+        return [wrong if number == self.row else right for number in range(len(self.runs))]
+
+    def with_row(self, column, wrong, right):
+        """The means of runs of which one has a wrong value."""
+        return trlab.means(self.runs.assign(**{column: self.in_row(wrong, right)}), "seed")
+
+    def all(self):
+        return {**self.of_calls(), **self.of_values(), **self.of_columns(), **self.of_rows(), **self.of_parameters()}
+
+    def of_calls(self):
+        frame, runs = self.frame, self.runs
+        return {
+            "windows": (lambda: trlab.means(frame.droplevel("step"), "seed"), len(frame) == len(runs)),
+            "over windows": (lambda: trlab.means(frame, ["seed", "step"]), False),
+            "windows per run twice": (lambda: trlab.per_run(runs), False),
+            "a window twice": (lambda: trlab.per_run(pandas.concat([frame, frame.iloc[[self.row]]])), False),
+            "means of means": (lambda: trlab.means(trlab.means(runs, "seed"), self.level), False),
+            "means without n": (lambda: trlab.means(trlab.means(runs, "seed")[["flow"]], self.level), False),
+            "means with runs": (lambda: trlab.means(pandas.concat([runs, trlab.means(runs, "seed")]), "seed"), False),
+            "means of pandas": (lambda: trlab.means(runs.groupby("seed").mean(numeric_only=True), "seed"), False),
+            "no index": (lambda: trlab.means(runs.reset_index(), "seed"), False),
+            "no such level": (lambda: trlab.means(runs, "sed"), False),
+            "no such column": (lambda: trlab.means(runs, "seed", of=["flw"]), False),
+        }
+
+    def of_values(self):
+        runs = self.runs
+        flows = runs.flow.where(numpy.arange(len(runs)) != self.row)
+        return {
+            "a text": (lambda: self.with_row("x", "a", 1), self.is_one),
+            "a complex number": (lambda: trlab.means(runs.assign(x=1j), "seed"), False),
+            "a list": (lambda: self.with_row("x", [1], 1), False),
+            "NaN": (lambda: trlab.means(runs.assign(flow=flows), "seed"), False),
+            "NaN of a speed": (lambda: self.with_row("speed", numpy.nan, 1), False),
+            "infinite": (lambda: trlab.means(runs.assign(speed=numpy.inf), "seed"), False),
+            "None": (lambda: self.with_row("x", None, 1), False),
+            "NA": (
+                lambda: trlab.means(runs.assign(x=pandas.array(self.in_row(pandas.NA, 1), dtype="Int64")), "seed"), False
+            ),
+        }
+
+    def of_columns(self):
+        runs = self.runs
+        return {
+            "same keys": (lambda: trlab.means(runs.assign(key="0" * 64), "seed"), self.is_one_seed),
+            "no key": (lambda: self.with_row("key", None, "0" * 64), False),
+            "keys as numbers": (lambda: trlab.means(runs.assign(key=range(len(runs))), "seed"), False),
+            "no road": (lambda: self.with_row("road", None, 0), False),
+            "own sem": (lambda: trlab.means(runs.assign(flow_sem=0.0), "seed"), False),
+            "own n": (lambda: trlab.means(runs.assign(n=7), "seed"), False),
+            "other length": (lambda: self.with_row("steps", 1, 2), self.is_one_seed),
+            "other cars": (lambda: self.with_row("cars", 1, 2), self.is_one_seed),
+        }
+
+    def of_rows(self):
+        runs, others = self.runs, [number for number in range(len(self.runs)) if number != self.row]
+        is_group_lost = self.is_one_seed and not self.is_one
+        return {
+            "missing run": (
+                lambda: trlab.means(runs.iloc[others], "seed"), is_group_lost or len(runs) == self.study.seeds > 1
+            ),
+            "doubled": (lambda: trlab.means(pandas.concat([runs, runs.iloc[[self.row]]]), "seed"), False),
+            "doubled under another name": (
+                lambda: trlab.means(pandas.concat({"a": runs, "b": runs}, names=["of"]), ["of", "seed"]), False
+            ),
+        }
+
+    def of_parameters(self):
+        """Parameters that are lost: harmless only if they have one value."""
+        runs, group = self.runs, self.group
+        is_harmless = not group or len({place[0] for place in self.study.results}) == 1
+        without_first = runs.droplevel(group[0]) if group else runs
+        levels = [*group, "seed"][1:] or ["seed"]
+        renumbered = runs.assign(run=range(len(runs))).set_index("run")
+        return {
+            "forgotten parameter": (lambda: trlab.means(runs.reset_index().set_index(levels), "seed"), is_harmless),
+            "dropped parameter": (lambda: trlab.means(without_first, "seed", unequal=True), is_harmless),
+            "a parameter is not a repetition": (lambda: trlab.means(runs, over=group[:1] + ["seed"]), is_harmless),
+            "renumbered": (lambda: trlab.means(renumbered, "run"), len(runs) == self.study.seeds),
+        }
+
+
 class Means(unittest.TestCase):
     def same(self, result, expected):
         if set(expected) == {()}:
@@ -80,15 +172,15 @@ class Means(unittest.TestCase):
     @given(studies(), st.data())
     def test_some_missing_runs_change_nothing_else(self, study, data):
         runs = trlab.per_run(study.frame)
-        kept = runs[[data.draw(st.booleans()) for _ in range(len(runs))]]
-        if not len(kept):
-            return self.assertRaisesRegex(FrameError, "no rows", trlab.means, kept, "seed")
-        sizes = set(kept.groupby(study.names).size()) if study.names else {len(kept)}
+        rest = runs[[data.draw(st.booleans()) for _ in range(len(runs))]]
+        if not len(rest):
+            return self.assertRaisesRegex(FrameError, "no rows", trlab.means, rest, "seed")
+        sizes = set(rest.groupby(study.names).size()) if study.names else {len(rest)}
         if len(sizes) > 1:
-            self.assertRaisesRegex(FrameError, "groups have", trlab.means, kept, "seed")
-        means = trlab.means(kept, over="seed", of="flow", unequal=True)
+            self.assertRaisesRegex(FrameError, "groups have", trlab.means, rest, "seed")
+        means = trlab.means(rest, over="seed", of="flow", unequal=True)
         for place, (n, mean, sem) in as_dict(means).items():
-            flows = [row.flow for choice, row in kept.iterrows() if not study.names or choice[:-1] == place]
+            flows = [row.flow for choice, row in rest.iterrows() if not study.names or choice[:-1] == place]
             self.assertEqual(n, len(flows))
             self.assertAlmostEqual(mean, statistics.fmean(flows))
             self.assertTrue(math.isnan(sem) if n == 1 else abs(sem - statistics.stdev(flows) / n**0.5) < 1e-12)
@@ -96,71 +188,8 @@ class Means(unittest.TestCase):
     @FEW
     @given(studies(), st.data())
     def test_a_defect_is_an_error_or_makes_no_difference(self, study, data):
-        frame, runs, group = study.frame, trlab.per_run(study.frame), study.names
-        row = data.draw(st.integers(0, len(runs) - 1))
-        is_one, is_one_seed, flat = len(runs) == 1, study.seeds == 1, runs.reset_index()
-        others = [*range(row), *range(row + 1, len(runs))]
-
-        def in_row(wrong, right):
-            return [wrong if number == row else right for number in range(len(runs))]
-
-        defects = {
-            "windows": (lambda: trlab.means(frame.droplevel("step"), "seed"), len(frame) == len(runs)),
-            "over windows": (lambda: trlab.means(frame, ["seed", "step"]), False),
-            "windows per run twice": (lambda: trlab.per_run(runs), False),
-            "a window twice": (lambda: trlab.per_run(pandas.concat([frame, frame.iloc[[row]]])), False),
-            "means of means": (lambda: trlab.means(trlab.means(runs, "seed"), group[0] if group else "seed"), False),
-            "means without n": (
-                lambda: trlab.means(trlab.means(runs, "seed")[["flow"]], group[0] if group else "seed"), False
-            ),
-            "means with runs": (lambda: trlab.means(pandas.concat([runs, trlab.means(runs, "seed")]), "seed"), False),
-            "means of pandas": (lambda: trlab.means(runs.groupby("seed").mean(numeric_only=True), "seed"), False),
-            "a text": (lambda: trlab.means(runs.assign(x=in_row("a", 1)), "seed"), is_one),
-            "a complex number": (lambda: trlab.means(runs.assign(x=1j), "seed"), False),
-            "a list": (lambda: trlab.means(runs.assign(x=in_row([1], 1)), "seed"), False),
-            "same keys": (lambda: trlab.means(runs.assign(key="0" * 64), "seed"), is_one_seed),
-            "no key": (lambda: trlab.means(runs.assign(key=in_row(None, "0" * 64)), "seed"), False),
-            "keys as numbers": (lambda: trlab.means(runs.assign(key=range(len(runs))), "seed"), False),
-            "no road": (lambda: trlab.means(runs.assign(road=in_row(None, 0)), "seed"), False),
-            "NaN": (
-                lambda: trlab.means(runs.assign(flow=runs.flow.where(numpy.arange(len(runs)) != row)), "seed"), False
-            ),
-            "NaN of a speed": (lambda: trlab.means(runs.assign(speed=in_row(numpy.nan, 1)), "seed"), False),
-            "infinite": (lambda: trlab.means(runs.assign(speed=numpy.inf), "seed"), False),
-            "None": (lambda: trlab.means(runs.assign(x=in_row(None, 1)), "seed"), False),
-            "NA": (
-                lambda: trlab.means(runs.assign(x=pandas.array(in_row(pandas.NA, 1), dtype="Int64")), "seed"), False
-            ),
-            "own sem": (lambda: trlab.means(runs.assign(flow_sem=0.0), "seed"), False),
-            "own n": (lambda: trlab.means(runs.assign(n=7), "seed"), False),
-            "missing run": (
-                lambda: trlab.means(runs.iloc[others], "seed"),
-                is_one_seed and not is_one or len(runs) == study.seeds > 1,
-            ),
-            "doubled": (lambda: trlab.means(pandas.concat([runs, runs.iloc[[row]]]), "seed"), False),
-            "doubled under another name": (
-                lambda: trlab.means(pandas.concat({"a": runs, "b": runs}, names=["of"]), ["of", "seed"]), False
-            ),
-            "other length": (lambda: trlab.means(runs.assign(steps=in_row(1, 2)), "seed"), is_one_seed),
-            "other cars": (lambda: trlab.means(runs.assign(cars=in_row(1, 2)), "seed"), is_one_seed),
-            "no index": (lambda: trlab.means(flat, "seed"), False),
-            "no such level": (lambda: trlab.means(runs, "sed"), False),
-            "no such column": (lambda: trlab.means(runs, "seed", of=["flw"]), False),
-        }
-        # Parameters that are lost: harmless only if they have one value.
-        is_lost_well = not group or len({place[0] for place in study.results}) == 1
-        defects.update({
-            "forgotten parameter": (
-                lambda: trlab.means(flat.set_index([*group, "seed"][1:] or ["seed"]), "seed"), is_lost_well
-            ),
-            "dropped parameter": (
-                lambda: trlab.means(runs.droplevel(group[0]) if group else runs, "seed", unequal=True), is_lost_well
-            ),
-            "a parameter is not a repetition": (lambda: trlab.means(runs, over=group[:1] + ["seed"]), is_lost_well),
-            "renumbered": (
-                lambda: trlab.means(runs.assign(run=range(len(runs))).set_index("run"), "run"), len(runs) == study.seeds
-            ),
-        })
+        row = data.draw(st.integers(0, len(trlab.per_run(study.frame)) - 1))
+        defects = Defects(study, row).all()
         for name, (defect, is_harmless) in defects.items():
             if is_harmless:
                 self.assertEqual(defect().n.max(), study.seeds - (name == "missing run" and study.seeds > 1), name)

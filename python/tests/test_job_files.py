@@ -69,9 +69,9 @@ class Files(unittest.TestCase):
     def test_keys_keep_their_form(self):
         for digits, key in (63 * "0" + "7", 7), (64 * "f", 2**256 - 1), (64 * "F", 64 * "F"), (32 * "aB", 32 * "aB"):
             for kind, text in (Job, JOB), (Sweep, SWEEP):
-                made = kind.from_text(text.replace(64 * "0", digits))
-                self.assertEqual(made.key, key)
-                self.assertEqual(made.text(), text.replace(64 * "0", digits))
+                input = kind.from_text(text.replace(64 * "0", digits))
+                self.assertEqual(input.key, key)
+                self.assertEqual(input.text(), text.replace(64 * "0", digits))
 
     def test_files_are_read_by_their_paths(self):
         with tempfile.TemporaryDirectory() as folder:
@@ -89,8 +89,8 @@ class Files(unittest.TestCase):
 
 class Rejected(unittest.TestCase):
     def test_a_rejected_file_is_explained(self):
-        late = JOB + "at 9 rule nasch 0\n"
-        for text, line in (JOB.replace("limit 5", "limit 2"), 4), (late, 7), (SWEEP, 1), ("", 1), ("road 1\n", 2):
+        late_rule = JOB + "at 9 rule nasch 0\n"
+        for text, line in (JOB.replace("limit 5", "limit 2"), 4), (late_rule, 7), (SWEEP, 1), ("", 1), ("road 1\n", 2):
             with self.assertRaises(RejectedInputError) as caught:
                 Job.from_text(text)
             self.assertEqual(caught.exception.line, line)
@@ -150,9 +150,9 @@ else:
         return Sweep(rule=draw(rules(lanes)), warm=warm, measure=measure, cars=cars, key=draw(KEYS), **shape)
 
     class Random(unittest.TestCase):
-        def again(self, made):
-            read_again = type(made).from_text(made.text())
-            self.assertEqual(read_again.text(), made.text())
+        def again(self, input):
+            read_again = type(input).from_text(input.text())
+            self.assertEqual(read_again.text(), input.text())
             self.assertEqual(hash(read_again), hash(replace(read_again)))
             self.assertEqual(type(read_again).from_text(read_again.text()), read_again)
 

@@ -81,13 +81,13 @@ class Pages(Serving):
     def test_no_file_comes_from_elsewhere(self):
         for file in server.HERE.glob("*.*"):
             if file.suffix in {".html", ".css", ".js"}:
-                found = set(re.findall(r"(?:https?:)?//[\w.]+[^\s\"'`]*", file.read_text())) - {"http://www.w3.org/2000/svg"}
+                addresses = set(re.findall(r"(?:https?:)?//[\w.]+[^\s\"'`]*", file.read_text())) - {"http://www.w3.org/2000/svg"}
                 # Links to papers lead elsewhere, but only if you click them.
-                self.assertEqual([it for it in found if it.startswith("http") and not it.startswith("https://doi.org/")], [], file.name)
+                self.assertEqual([address for address in addresses if address.startswith("http") and not address.startswith("https://doi.org/")], [], file.name)
 
     def test_the_examples(self):
-        wanted = {path.name: path.read_text() for path in EXAMPLES.iterdir() if path.suffix in {".job", ".sweep", ".rule", ".py"}}
-        self.assertEqual(server.examples(), wanted)
+        expected = {path.name: path.read_text() for path in EXAMPLES.iterdir() if path.suffix in {".job", ".sweep", ".rule", ".py"}}
+        self.assertEqual(server.examples(), expected)
         self.assertEqual(self.ask("examples").status, 200)
 
     def test_no_other_path(self):
@@ -108,7 +108,7 @@ class Answers(Serving):
                 continue
             output = self.text(kind, text)
             lines = output.splitlines(True)
-            self.assertEqual("".join(it for it in lines if not it.startswith("trlab: ")), ask([kind], text), name)
+            self.assertEqual("".join(line for line in lines if not line.startswith("trlab: ")), ask([kind], text), name)
             if kind == "run":
                 self.assertEqual(self.text("explain", text), ask(["explain", "run"], text), name)
                 self.assertEqual(self.text("series", text), ask(["series"], text), name)
@@ -136,28 +136,28 @@ class Rules(Serving):
 
     def test_programs_and_parameters(self):
         text = (EXAMPLES / "overtake.py").read_text()
-        found = self.rules(text, values={"drive": {"p": 0.5, "gone": 1}})
-        self.assertEqual(found["names"], {"motion": ["drive"], "change": ["overtake"]})
-        self.assertEqual(found["motion"], rules_in(text)["drive"](p=0.5))
-        self.assertEqual(found["change"], rules_in(text)["overtake"]())
-        self.assertEqual(found["budgets"]["drive"], rules_in(text)["drive"]().budget)
-        sliders = [(it["rule"], it["name"], it["value"], it["most"], it["step"]) for it in found["parameters"]]
+        answer = self.rules(text, values={"drive": {"p": 0.5, "gone": 1}})
+        self.assertEqual(answer["names"], {"motion": ["drive"], "change": ["overtake"]})
+        self.assertEqual(answer["motion"], rules_in(text)["drive"](p=0.5))
+        self.assertEqual(answer["change"], rules_in(text)["overtake"]())
+        self.assertEqual(answer["budgets"]["drive"], rules_in(text)["drive"]().budget)
+        sliders = [(slider["rule"], slider["name"], slider["value"], slider["most"], slider["step"]) for slider in answer["parameters"]]
         self.assertEqual(sliders, [("drive", "p", 0.5, 1, 0.01), ("overtake", "p", 0.5, 1, 0.01), ("overtake", "ahead", 2, 10, 1)])
 
     def test_a_choice_among_rules(self):
         text = (EXAMPLES / "published_rules.py").read_text()
         self.assertEqual(self.rules(text)["motion"], rules_in(text)["nasch"]())
-        found = self.rules(text, {"motion": "comfortable", "change": "gone"})
-        self.assertEqual(found["motion"], rules_in(text)["comfortable"]())
-        self.assertEqual(found["change"], rules_in(text)["symmetric"]())
+        answer = self.rules(text, {"motion": "comfortable", "change": "gone"})
+        self.assertEqual(answer["motion"], rules_in(text)["comfortable"]())
+        self.assertEqual(answer["change"], rules_in(text)["symmetric"]())
 
     def test_errors_have_their_line(self):
         text = "@motion\ndef f(car, g):\n    return car.gap\n"
         self.assertEqual(self.rules(text)["line"], 0)
         self.assertIn("missing a required argument", self.rules(text)["message"])
-        found = self.rules(text, values={"f": {"g": 1}})
-        self.assertEqual(found["line"], 3)
-        self.assertIn("more than the limit", found["message"])
+        answer = self.rules(text, values={"f": {"g": 1}})
+        self.assertEqual(answer["line"], 3)
+        self.assertIn("more than the limit", answer["message"])
         self.assertEqual(self.rules("def f(:")["line"], 1)
         self.assertEqual(self.rules("import os")["names"], {"motion": [], "change": []})
         # The text is read, and not run.
@@ -255,7 +255,7 @@ class Processes(Serving):
         processes = list(self.lab.children)
         self.lab.shutdown()
         self.lab.close()
-        self.assertTrue(all(it.returncode is not None for it in processes))
+        self.assertTrue(all(process.returncode is not None for process in processes))
         self.assertRaises(ConnectionAbortedError, self.lab.start, ["run"], b"")
 
 
@@ -293,8 +293,8 @@ class Command(unittest.TestCase):
         with contextlib.closing(Lab()) as lab, tempfile.TemporaryDirectory() as folder:
             running = self.start("--port", str(lab.server_port), folder=folder)
             self.assertEqual(running.wait(LIMIT), 1)
-            said = f"trlab-lab: cannot listen on port {lab.server_port}: Address already in use; choose another with --port\n"
-            self.assertEqual(running.stderr.read(), said)
+            message = f"trlab-lab: cannot listen on port {lab.server_port}: Address already in use; choose another with --port\n"
+            self.assertEqual(running.stderr.read(), message)
 
     def test_it_opens_a_job(self):
         path = EXAMPLES / "jams.job"
@@ -304,9 +304,9 @@ class Command(unittest.TestCase):
         self.assertEqual(text, path.read_bytes())
         self.assertEqual(fragment("http://127.0.0.1:1/x/" + part), part)
         with mock.patch.object(Lab, "serve_forever", side_effect=KeyboardInterrupt):
-            with contextlib.redirect_stdout(io.StringIO()) as said, mock.patch("signal.signal"):
+            with contextlib.redirect_stdout(io.StringIO()) as output, mock.patch("signal.signal"):
                 main([str(path), "--no-browser"])
-        self.assertTrue(said.getvalue().endswith("/" + part + "\n"))
+        self.assertTrue(output.getvalue().endswith("/" + part + "\n"))
 
     def test_bad_words(self):
         for words in ["--port", "70000"], ["nothing.job"], ["--export", "x", "y"]:
@@ -317,9 +317,9 @@ class Command(unittest.TestCase):
 
 def parts_of(page):
     """The snapshots, the scripts and the style of an exported page, and the sums of its policy."""
-    found = re.findall(r"<script[^>]*>(.*?)</script>", page, re.S)
+    scripts = re.findall(r"<script[^>]*>(.*?)</script>", page, re.S)
     sums = re.findall(r"'sha256-([^']+)'", page)
-    return gzip.decompress(base64.b64decode(found[1])).decode(), found[2], re.search("<style>(.*?)</style>", page, re.S)[1], sums
+    return gzip.decompress(base64.b64decode(scripts[1])).decode(), scripts[2], re.search("<style>(.*?)</style>", page, re.S)[1], sums
 
 
 class Exports(unittest.TestCase):
@@ -332,7 +332,7 @@ class Exports(unittest.TestCase):
                     main(["--export", str(page)])
                 run, script, style, sums = parts_of(page.read_text())
             self.assertEqual(run, ask(["run"], text), path.name)
-            self.assertEqual(sums, [base64.b64encode(hashlib.sha256(it.encode()).digest()).decode() for it in (script, style)])
+            self.assertEqual(sums, [base64.b64encode(hashlib.sha256(source.encode()).digest()).decode() for source in (script, style)])
             self.assertIsNone(re.search(r"^(import|export)\b", script, re.M))
 
     def test_pictures(self):

@@ -36,9 +36,9 @@ SIGHTS = {
 def lightness_and_hue(colour, sight):
     """A colour as such eyes see it, in CIELAB: distances are differences that one sees."""
     times = lambda matrix, column: [sum(a * b for a, b in zip(row, column)) for row in matrix]
-    light = times(sight, [(it / 255 / 12.92 if it <= 10 else ((it / 255 + 0.055) / 1.055) ** 2.4) for it in colour])
+    light = times(sight, [(part / 255 / 12.92 if part <= 10 else ((part / 255 + 0.055) / 1.055) ** 2.4) for part in colour])
     to_xyz = ((0.4339, 0.3762, 0.1899), (0.2126, 0.7152, 0.0722), (0.0178, 0.1096, 0.8730))  # white is 1, 1, 1
-    x, y, z = (max(it, 0.0089) ** (1 / 3) for it in times(to_xyz, light))
+    x, y, z = (max(part, 0.0089) ** (1 / 3) for part in times(to_xyz, light))
     return 116 * y - 16, 500 * (x - y), 200 * (y - z)
 
 
@@ -68,11 +68,11 @@ class ForEveryone(OnPage):
         self.open_everything(self.page)
         controls = self.page.js(CONTROLS + "return [...controls, ...document.querySelectorAll('canvas, #diagram')].filter(it => it.checkVisibility())")
         self.assertGreater(len(controls), 50)
-        said = [self.page.spoken(it) for it in controls]
-        for role, name in said:
+        spoken = [self.page.spoken(control) for control in controls]
+        for role, name in spoken:
             self.assertTrue(name.strip() and role not in ("none", "generic"), (role, name))
-        for wanted in (("button", "Make it brake"), ("button", "Both branches"), ("button", "Save a film"), ("combobox", "Compare with"), ("combobox", "Units")):
-            self.assertIn(wanted, [(role.replace("listbox", "combobox"), name) for role, name in said])
+        for expected in (("button", "Make it brake"), ("button", "Both branches"), ("button", "Save a film"), ("combobox", "Compare with"), ("combobox", "Units")):
+            self.assertIn(expected, [(role.replace("listbox", "combobox"), name) for role, name in spoken])
 
     def test_order_of_focus(self):
         self.open_everything(self.page)
@@ -163,8 +163,8 @@ class ForEveryone(OnPage):
         self.page.js("document.getElementById('numbers').open = true")
         self.hold(lambda: self.page.js("return document.querySelectorAll('#rows tr').length") == 10)
         row = Table.read(Row, ask(["series"], self.page.job()))[self.page.step() - 1]
-        wanted = f"{row.step}{row.flow:.4f}{row.speed:.3f}{row.stopped_share:.3f}"
-        self.has(wanted, lambda: self.page.js("return document.querySelector('#rows tr').textContent"))
+        expected = f"{row.step}{row.flow:.4f}{row.speed:.3f}{row.stopped_share:.3f}"
+        self.has(expected, lambda: self.page.js("return document.querySelector('#rows tr').textContent"))
         self.hold(lambda: f"Step {row.step}: flow" in self.page.text("silent"))
 
     def test_numbers_are_not_cut(self):

@@ -30,8 +30,8 @@ class Opening(unittest.TestCase):
         patch.start()
         self.addCleanup(patch.stop)
 
-    def find(self, found):
-        self.patch(alone, "find_program", mock.Mock(side_effect=[found, found]))
+    def find(self, path):
+        self.patch(alone, "find_program", mock.Mock(side_effect=[path, path]))
 
     def run_main(self, *words):
         """The output of the command on standard output and standard error."""

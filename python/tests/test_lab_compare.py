@@ -26,8 +26,8 @@ class Compared(OnPage):
         self.hold(lambda: self.page.js("return lab.comparison.film?.has(lab.player.step)"))
         shots = self.page.js(OTHER)
         text = Job(**{**ROAD, "rule": rule, **changes, "steps": shots[-1][0]}).text()
-        wanted = [[it.step, "".join(it.lanes)] for it in Snapshots(snapshots_in(ask(["run"], text).splitlines(True)))]
-        self.assertEqual(shots, wanted[shots[0][0]:])
+        expected = [[snapshot.step, "".join(snapshot.lanes)] for snapshot in Snapshots(snapshots_in(ask(["run"], text).splitlines(True)))]
+        self.assertEqual(shots, expected[shots[0][0]:])
 
     def test_the_same_road_and_random_numbers(self):
         self.show_job()

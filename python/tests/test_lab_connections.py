@@ -40,11 +40,11 @@ def is_closed(connection):
 class Strangers(Serving):
     def silent(self, count):
         """Connections that send nothing."""
-        found = []
+        connections = []
         for _ in range(count):
-            found.append(socket.create_connection(("127.0.0.1", self.lab.server_port), timeout=LIMIT))
-            self.addCleanup(found[-1].close)
-        return found
+            connections.append(socket.create_connection(("127.0.0.1", self.lab.server_port), timeout=LIMIT))
+            self.addCleanup(connections[-1].close)
+        return connections
 
     def test_silent_connections_are_bounded(self):
         all_of_them = self.silent(self.lab.strangers.most + 40)
@@ -179,10 +179,10 @@ class Opening(unittest.TestCase):
                 address = running.stdout.readline().strip()
                 opened = Path(folder) / "opened"
                 self.assertTrue(holds(opened.exists))
-                [found] = opened.read_text().splitlines()
+                [link] = opened.read_text().splitlines()
                 token = address.split("/")[3]
-                self.assertNotIn(token, found)
-                path = Path(found.replace("file://", "", 1))
+                self.assertNotIn(token, link)
+                path = Path(link.replace("file://", "", 1))
                 self.assertEqual(stat.S_IMODE(path.stat().st_mode), 0o600)
                 self.assertIn(f'content="0; url={address}"', path.read_text())
                 # The server responds although the browser does not return.
@@ -215,8 +215,8 @@ class Opening(unittest.TestCase):
         with tempfile.TemporaryDirectory() as folder:
             running = self.start(folder, f"{folder}/missing")
             address = running.stdout.readline().strip()
-            said = lambda: (Path(folder) / "errors").read_text() or None
-            self.assertEqual(first_of(said), f"trlab-lab: no browser could be opened. Open this address in one: {address}\n")
+            message = lambda: (Path(folder) / "errors").read_text() or None
+            self.assertEqual(first_of(message), f"trlab-lab: no browser could be opened. Open this address in one: {address}\n")
             self.end(running)
 
     def test_an_input_that_does_not_end(self):
@@ -224,10 +224,10 @@ class Opening(unittest.TestCase):
 
     def test_a_damaged_link(self):
         for link in "x#job=\x1b[31m", "#job=", "#job=abc#job=abc", "#job=a b", "#job=%%%":
-            with contextlib.redirect_stdout(io.StringIO()) as said, self.assertRaises(SystemExit) as raised:
+            with contextlib.redirect_stdout(io.StringIO()) as output, self.assertRaises(SystemExit) as raised:
                 main([link])
             self.assertIn("the link is damaged", raised.exception.code)
-            self.assertNotIn("\x1b", raised.exception.code + said.getvalue())
+            self.assertNotIn("\x1b", raised.exception.code + output.getvalue())
 
     def test_a_job_that_no_address_can_hold(self):
         with tempfile.TemporaryDirectory() as folder:
@@ -238,10 +238,10 @@ class Opening(unittest.TestCase):
 
 class Exported(unittest.TestCase):
     def test_a_limit_is_a_number(self):
-        found = Job(limit=5, length=50, density=0.2, rule=Nasch(0.25), steps=20).run()
+        snapshots = Job(limit=5, length=50, density=0.2, rule=Nasch(0.25), steps=20).run()
         for limit in "</script><script>alert(1)</script>", 0, 36, True, 2.5, 4:
-            self.assertRaises(ValueError, found.html, limit=limit)
-        self.assertIn('"limit": 35', page_of(found, 35))
+            self.assertRaises(ValueError, snapshots.html, limit=limit)
+        self.assertIn('"limit": 35', page_of(snapshots, 35))
 
 
 if __name__ == "__main__":

@@ -15,7 +15,7 @@ class Controls(OnPage):
         page = self.page
         self.pause()
         page.click("again")
-        tries = [
+        changes = [
             ("density", "0.3", {"cars": 300}), ("cars", "151", {"cars": 151}), ("limit", "7", {"cars": 151, "limit": 7}),
             ("limit", "35", {"cars": 151, "limit": 35}), ("limit", "5", {"cars": 151}),
             ("start", "even", {"cars": 151, "start": trlab.even}), ("start", "jam", {"cars": 151, "start": trlab.jammed}),
@@ -28,10 +28,10 @@ class Controls(OnPage):
             ("lanes", "2", {"cars": 151, "length": 500, "lanes": 2}),
             ("model", "rickert", {"cars": 151, "length": 500, "lanes": 2, "rule": Rickert(0.25, 0.75)}),
         ]
-        for name, value, wanted in tries:
+        for name, value, parameters in changes:
             with self.subTest(name=name, value=value):
                 page.set(name, value)
-                self.has_job(job_of(**wanted))
+                self.has_job(job_of(**parameters))
                 self.agree()
         page.set("model", "own")
         self.has_line("rule own\nmotion\n")

@@ -52,10 +52,10 @@ class Diagram(OnPage):
             return line && line.getAttribute('points').split(' ').map(it => it.split(',').map(Number))
                 .map(([x, y]) => [(x - 34) / 316, (240 - y) / 222 * top])""")
 
-    def has_curve(self, *wanted):
+    def has_curve(self, *expected):
         """The exact curve comes to have these points, up to the tenth of a pixel to which it is drawn."""
         near = lambda one, other: abs(one[0] - other[0]) < 0.001 and abs(one[1] - other[1]) < 0.001
-        self.hold(lambda: len(found := self.exact_curve() or []) == len(wanted) and all(map(near, found, wanted)))
+        self.hold(lambda: len(points := self.exact_curve() or []) == len(expected) and all(map(near, points, expected)))
 
     def test_exact_curves(self):
         self.assertIsNone(self.exact_curve())
@@ -135,14 +135,14 @@ class Diagram(OnPage):
 
     def test_an_exported_file_plays(self):
         job = Job(limit=5, length=200, lanes=2, density=0.2, start=trlab.random_cells(2), rule=Rickert(0.25, 0.5), steps=120)
-        found = job.run()
+        snapshots = job.run()
         with tempfile.TemporaryDirectory() as folder:
             path = Path(folder) / "run.html"
-            path.write_text(found.html(limit=5))
+            path.write_text(snapshots.html(limit=5))
             self.page.get(path.as_uri())
             self.hold(lambda: self.page.js("return window.lab?.player.step >= 0"))
             self.run_to(120)
-            self.assertEqual([it[1] for it in self.page.js(SHOTS)], ["".join(it.lanes) for it in found])
+            self.assertEqual([shot[1] for shot in self.page.js(SHOTS)], ["".join(shot.lanes) for shot in snapshots])
             self.page.click("back")
             self.hold(lambda: self.page.step() == 119)
             self.assertEqual(self.page.errors(), [])

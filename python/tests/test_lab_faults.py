@@ -20,13 +20,13 @@ class Faults(OnPage):
         self.open(job_of(steps=400, **changes))
         self.hold(lambda: self.page.js("return lab.job.length === arguments[0] && lab.job.cars === arguments[1]", changes["length"], changes["cars"]))
         self.run_to(40)
-        found = snapshots(self.page.job())
-        return found, self.page.step()
+        expected = snapshots(self.page.job())
+        return expected, self.page.step()
 
-    def near(self, drawn, wanted):
+    def near(self, drawn, expected):
         """Compare colours, which may differ by rounding."""
-        self.assertEqual(len(drawn), len(wanted))
-        for k, (one, other) in enumerate(zip(drawn, wanted)):
+        self.assertEqual(len(drawn), len(expected))
+        for k, (one, other) in enumerate(zip(drawn, expected)):
             is_empty = tuple(other) == (255, 255, 255) and min(one) > 240  # grey above the enlarged part
             self.assertTrue(is_empty or max(abs(a - b) for a, b in zip(one, other)) <= 6, (k, one, other))
 
@@ -59,16 +59,16 @@ class Faults(OnPage):
         for lanes, length, cars in (1, 20000, 6000), (1, 5000, 200), (2, 4000, 3000):
             with self.subTest(lanes=lanes, length=length, cars=cars):
                 rule = Nasch(0.25) if lanes == 1 else Rickert(0.25, 0.5)
-                found, step = self.long(length=length, lanes=lanes, cars=cars, rule=rule)
+                snapshots, step = self.long(length=length, lanes=lanes, cars=cars, rule=rule)
                 colours, wide = self.colours(), self.page.js("return document.getElementById('spacetime').width")
                 top, high = self.page.js("const {top, high} = lab.rows(); return [top, high]")
                 for now in range(max(top, step - 20), step + 1):
-                    for lane, cells in enumerate(found[now].lanes):
-                        wanted = [self.colour_of(it, colours) for it in self.pixels(cells, wide)]
-                        self.near(self.dots("spacetime", wide, (now - top) * high + math.floor((lane + 0.5) / lanes * high)), wanted)
-                for lane, cells in enumerate(found[step].lanes):  # the whole road, above its enlarged part
-                    wanted = [self.colour_of(it, colours) for it in self.pixels(cells, wide)]
-                    self.near(self.dots("band", wide, 10 if lanes == 1 else 5 + 11 * lane), wanted)
+                    for lane, cells in enumerate(snapshots[now].lanes):
+                        expected = [self.colour_of(pixel, colours) for pixel in self.pixels(cells, wide)]
+                        self.near(self.dots("spacetime", wide, (now - top) * high + math.floor((lane + 0.5) / lanes * high)), expected)
+                for lane, cells in enumerate(snapshots[step].lanes):  # the whole road, above its enlarged part
+                    expected = [self.colour_of(pixel, colours) for pixel in self.pixels(cells, wide)]
+                    self.near(self.dots("band", wide, 10 if lanes == 1 else 5 + 11 * lane), expected)
                 self.assertIn("Colours of pixels are mean speeds", self.page.text("mixed"))
         self.open(job_of(length=100, cars=30))
         self.hold(lambda: self.page.js("return lab.job.length === 100 && lab.player.step >= 0") and self.page.text("mixed") == "")
@@ -78,12 +78,12 @@ class Faults(OnPage):
             with self.subTest(lanes=lanes, length=length, cars=cars):
                 rule = Nasch(0.25) if lanes == 1 else Rickert(0.25, 0.5)
                 start = trlab.even if cars == length * lanes else trlab.random_cells(2)
-                found, step = self.long(length=length, lanes=lanes, cars=cars, rule=rule, start=start)
+                snapshots, step = self.long(length=length, lanes=lanes, cars=cars, rule=rule, start=start)
                 width, height, lens = self.page.js("const it = document.getElementById('band'); return [it.width, it.height, lab.player.lens]")
                 near = round(width / 9 + 1e-9)
                 tall, top = (26, height - 27) if lanes == 1 else (19, height - 39)
-                colours = {tuple(it): str(v) for v, it in enumerate(self.colours()[::100])}
-                for lane, cells in enumerate(found[step].lanes):
+                colours = {tuple(colour): str(v) for v, colour in enumerate(self.colours()[::100])}
+                for lane, cells in enumerate(snapshots[step].lanes):
                     first = lens - near / 2
                     drawn = self.page.js("""const [first, near, y] = arguments, canvas = document.getElementById('band'), pen = canvas.getContext('2d');
                         return Array.from({length: near - 2}, (_, k) => {
@@ -91,8 +91,8 @@ class Faults(OnPage):
                             return [...pen.getImageData(Math.floor(x), y, 1, 1).data].slice(0, 3);
                         })""", first, near, top + lane * tall + tall // 2)
                     from_cell = math.ceil(first)
-                    wanted = (cells + cells)[from_cell:from_cell + near - 2]
-                    self.assertEqual("".join(colours.get(tuple(it), ".") for it in drawn), wanted)
+                    expected = (cells + cells)[from_cell:from_cell + near - 2]
+                    self.assertEqual("".join(colours.get(tuple(colour), ".") for colour in drawn), expected)
 
     # Numbers
 
@@ -113,13 +113,13 @@ class Faults(OnPage):
         self.has_job(job_of(rule=Nasch("1/3")))
         self.has(["1/3", False, "", "alert"], lambda: self.box("#p"))
         self.has(["1/3", "0.3333333333"], lambda: [self.page.value("p"), str(self.page.js("return lab.job.rules[0].p"))])
-        for selector, text, wanted in (
+        for selector, text, parameters in (
             (".lead [data-set=p]", "1/4", {}), ("#p", " 5e-1", {"rule": Nasch(0.5)}), ("#p", ".25", {}), ("#density", "1/3", {"cars": 333}),
             ("#cars", "150", {}), (".lead [data-set=length]", "2000", {"length": 2000, "cars": 300}),
         ):
             with self.subTest(selector=selector, text=text):
                 self.type(selector, text)
-                self.has_job(job_of(**wanted))
+                self.has_job(job_of(**parameters))
                 self.assertFalse(self.box(selector)[1])
         self.has(["0.15", "300"], lambda: [self.page.value("density"), self.page.value("cars")])
 
@@ -138,7 +138,7 @@ class Faults(OnPage):
         job, runs = self.page.job(), self.page.js("return lab.player.film.steps")
         film = "return (window.film ??= lab.player.film) === lab.player.film"
         self.assertTrue(self.page.js(film))
-        for selector, text, said in (
+        for selector, text, message in (
             ("#p", "0,5", "Write 0.5 instead of 0,5."), ("#q", "1.5", "1.5 is more than 1: write a number from 0 to 1."),
             (".lead [data-set=p]", "a half", "a half is not a number: write a number from 0 to 1, such as 0.25 or 1/4."),
             ("#limit", "40", "40 is more than 35: write a whole number from 1 to 35."), ("#limit", "0", "0 is less than 1: "),
@@ -153,7 +153,7 @@ class Faults(OnPage):
                 self.hold(lambda: self.box(selector)[1])
                 value, _, words, role = self.box(selector)
                 self.assertEqual((value, role), (text, "alert"))
-                self.assertIn(said, words)
+                self.assertIn(message, words)
                 self.assertEqual((self.page.job(), self.page.js(film)), (job, True))
         self.page.select("#limit")
         self.page.press(Keys.ESCAPE)
@@ -206,16 +206,16 @@ class Faults(OnPage):
         return "#job=" + base64.urlsafe_b64encode(packer.compress(text.encode()) + packer.flush()).rstrip(b"=").decode()
 
     def test_the_message_about_an_address_stays(self):
-        for fragment, said in (
+        for fragment, message in (
             ("#job=%%%", "The job in this address is damaged and cannot be read."), ("#job=abcd", "The job in this address is damaged"),
             (self.link(job_of().replace("limit 5", "limit 99")), "The job in this address is rejected at line 3."),
             (self.link("a" * 64 * 2**20), "The job in this address is too long: at most 4194304 bytes are allowed."),
         ):
-            with self.subTest(said=said):
+            with self.subTest(said=message):
                 self.start_at(fragment)
                 self.has_job(job_of())
                 shown = self.page.text("fault")
-                self.assertTrue(shown.startswith(said), shown)
+                self.assertTrue(shown.startswith(message), shown)
                 self.assertTrue(shown.endswith("The page plays its first job instead."), shown)
         self.page.set("density", "0.2")
         self.has_job(job_of(cars=200))

@@ -55,9 +55,9 @@ class FilePages(InFile, Playing, Controls, Inputs, Diagram, ForEveryone):
         self.run_to(20)
         self.hold(lambda: self.page.js("return window.running.size") == 0)
         self.run_to(1000)
-        found = snapshots(self.page.job())
+        expected = snapshots(self.page.job())
         for step, cells, *_ in self.page.js(SHOTS):
-            self.assertEqual(cells, "".join(found[step].lanes), step)
+            self.assertEqual(cells, "".join(expected[step].lanes), step)
 
     def test_a_run_that_is_replaced_ends(self):
         self.page.js(WATCH)
@@ -97,9 +97,9 @@ class WithoutWaiting(InFile):
     @classmethod
     def text(cls):
         text = super().text()
-        found = text.replace("const canWait = ", "const canWait = false && ").replace("const MOST = 2 ** 26;", "const MOST = 2 ** 18;")
-        assert len(found) == len(text) + 9
-        return found
+        changed = text.replace("const canWait = ", "const canWait = false && ").replace("const MOST = 2 ** 26;", "const MOST = 2 ** 18;")
+        assert len(changed) == len(text) + 9
+        return changed
 
     def test_it_is_run_again(self):
         self.page.js(WATCH)
@@ -180,12 +180,12 @@ class Whole(unittest.TestCase):
     def test_it_loads_nothing(self):
         policy = re.search('http-equiv="Content-Security-Policy" content="([^"]*)"', self.text)[1]
         style, script = re.search("<style>(.*?)</style>", self.text, re.S)[1], re.search('<script type="module">(.*?)</script>', self.text, re.S)[1]
-        sums = [f"'sha256-{base64.b64encode(hashlib.sha256(it.encode()).digest()).decode()}'" for it in (script, style)]
+        sums = [f"'sha256-{base64.b64encode(hashlib.sha256(source.encode()).digest()).decode()}'" for source in (script, style)]
         self.assertEqual(policy, f"default-src 'none'; script-src {sums[0]} 'wasm-unsafe-eval'; style-src {sums[1]}; worker-src blob:; "
                          "img-src data:; base-uri 'none'; form-action 'none'")
-        found = {it.replace("\\", "") for it in re.findall(r"""\b\w+://[^\s"'`<]*|\b(?:src|href)=[^\s>]*""", self.text)}
+        links = {source.replace("\\", "") for source in re.findall(r"""\b\w+://[^\s"'`<]*|\b(?:src|href)=[^\s>]*""", self.text)}
         # Links to papers lead elsewhere, but only if you click them.
-        addresses = {it for it in found if not it.startswith("https://doi.org/")}
+        addresses = {source for source in links if not source.startswith("https://doi.org/")}
         self.assertEqual(addresses, {"http://www.w3.org/2000/svg", 'href="data:,"'})
         self.assertNotIn("import ", script)
 

@@ -23,7 +23,7 @@ ROAD = {"limit": 5, "length": 50, "density": 0.2, "steps": 20, "key": 7, "start"
 def parts_of(page):
     """The words of a film, its snapshots, and the page without them."""
     run = re.search('id="run">(.*?)</script>', page, re.S)[1]
-    words = [html.unescape(next(filter(None, found))) for found in PARTS.findall(page)]
+    words = [html.unescape(next(filter(None, groups))) for groups in PARTS.findall(page)]
     return [*words[:2], json.loads(words[2])], gzip.decompress(base64.b64decode(run)).decode(), PARTS.sub("", page.replace(run, ""))
 
 
@@ -40,9 +40,9 @@ class Films(OnPage):
             f"Rickert et al. (1996), p = 0.1, lane changes with 1, random seed {2**255}: 20 cars on two rings of 50 cells, at most 5 cells per step.",
         )):
             text = job.text()
-            found, wanted = parts_of(self.page.later(FILM, text)), parts_of(exported(text))
-            self.assertEqual(found, wanted)
-            self.assertEqual((found[0][1], found[1]), (lead, ask(["run"], text)))
+            film, expected = parts_of(self.page.later(FILM, text)), parts_of(exported(text))
+            self.assertEqual(film, expected)
+            self.assertEqual((film[0][1], film[1]), (lead, ask(["run"], text)))
 
     def test_the_button(self):
         text = Job(**ROAD, rule=Nasch("1/4")).text()

@@ -144,8 +144,8 @@ class Inputs(OnPage):
             self.write("#motion .code", f"motion\nget r1, limit\n{wrong}".replace("go r0", "min r0, r0, r1\ngo r0"))
             self.hold(lambda: "Rejected" in self.page.text("motionverdict"))
             self.fix("motion")
-            wanted = f"motion\nget r1, limit\n{fixed}\n".replace("go r0", "min r0, r0, r1\ngo r0")
-            self.hold(lambda: f"rule own\n{wanted}end\n" in self.page.job())
+            expected = f"motion\nget r1, limit\n{fixed}\n".replace("go r0", "min r0, r0, r1\ngo r0")
+            self.hold(lambda: f"rule own\n{expected}end\n" in self.page.job())
 
     def test_a_change_in_words(self):
         edits = [{"line": 2, "first": 3, "last": 2, "replacement": "\\x5c"}, {"line": 3, "first": 1, "last": 2, "replacement": ""}]

@@ -30,7 +30,7 @@ class Playing(OnPage):
             self.open(Job(limit=5, length=length, lanes=lanes, density=0.3, start=trlab.random_cells(3), rule=rule, steps=400, key=5).text())
             self.hold(lambda: self.page.js("return lab.job.length") == length)
             self.run_to(60)
-            step, found = self.page.step(), snapshots(self.page.job())
+            step, run = self.page.step(), snapshots(self.page.job())
             drawn, [top, high] = self.page.js("""const {film, step} = lab.player, canvas = document.getElementById('spacetime');
                 const {top, high} = lab.rows(), pen = canvas.getContext('2d'), lines = [];
                 for (let now = top; now <= step; now++) for (let lane = 0; lane < film.lanes; lane++) {
@@ -40,19 +40,19 @@ class Playing(OnPage):
                 }
                 return [lines, [top, high]]""")
             colours = self.page.js("return Object.fromEntries([0, 1, 2, 3, 4, 5].map(v => [lab.colour(v / 5).join() + ',255', String(v)]))")
-            wanted = [lane for snapshot in found[top:step + 1] for lane in snapshot.lanes]
-            self.assertEqual(["".join(colours.get(it, ".") for it in row) for row in drawn], wanted)
+            expected = [lane for snapshot in run[top:step + 1] for lane in snapshot.lanes]
+            self.assertEqual(["".join(colours.get(colour, ".") for colour in row) for row in drawn], expected)
             road = self.page.js("""const {film} = lab.player, canvas = document.getElementById('band'), pen = canvas.getContext('2d');
                 const tall = film.lanes === 2 ? 24 : 30, first = (canvas.height - tall * film.lanes) / 2;
                 return Array.from({length: film.lanes}, (_, lane) => Array.from({length: film.length}, (_, x) =>
                     [...pen.getImageData((x + 0.5) * canvas.width / film.length, first + (lane + 0.5) * tall, 1, 1).data].join()))""")
-            self.assertEqual(["".join(colours.get(it, ".") for it in row) for row in road], list(found[step].lanes))
+            self.assertEqual(["".join(colours.get(colour, ".") for colour in row) for row in road], list(run[step].lanes))
             ring = self.page.js("""const {film} = lab.player, pen = document.getElementById('ring').getContext('2d'), tall = film.lanes === 2 ? 13 : 18;
                 return Array.from({length: film.lanes}, (_, lane) => Array.from({length: film.length}, (_, x) => {
                     const angle = (x + 0.5) / film.length * 2 * Math.PI, away = 146 - 2.5 - lane * (tall + 5) - tall / 2;
                     return [...pen.getImageData(150 + away * Math.sin(angle), 150 - away * Math.cos(angle), 1, 1).data].join();
                 }))""")
-            self.assertEqual(["".join(colours.get(it, ".") for it in row) for row in ring], list(found[step].lanes))
+            self.assertEqual(["".join(colours.get(colour, ".") for colour in row) for row in ring], list(run[step].lanes))
 
     def test_steps_are_numbered_in_the_space_time_diagram(self):
         numbered = """const {top, high} = lab.rows();
@@ -62,19 +62,19 @@ class Playing(OnPage):
                 self.open(Job(limit=5, length=length, cars=2, rule=Nasch(0.25), steps=steps).text())
                 self.hold(lambda: self.page.js("return lab.job.length") == length)
                 self.run_to(now)
-                step, top, found = self.page.step(), self.page.js("return lab.rows().top"), self.page.js(numbered)
-                self.assertEqual([number for number, _ in found], [it for it in range(0, step + 1, apart) if it >= top])
-                for number, row in found:
+                step, top, numbers = self.page.step(), self.page.js("return lab.rows().top"), self.page.js(numbered)
+                self.assertEqual([number for number, _ in numbers], [numbered_step for numbered_step in range(0, step + 1, apart) if numbered_step >= top])
+                for number, row in numbers:
                     self.assertAlmostEqual(number, row, places=3)
 
     def test_a_short_run_is_drawn_as_a_whole(self):
-        for length, steps, wanted in (10, 4, 60), (60, 20, 14), (80, 40, 7), (300, 200, 3), (1000, 100, 1):
+        for length, steps, expected in (10, 4, 60), (60, 20, 14), (80, 40, 7), (300, 200, 3), (1000, 100, 1):
             with self.subTest(length=length, steps=steps):
                 self.open(Job(limit=5, length=length, cars=5, rule=Nasch(0.25), steps=steps).text())
                 self.hold(lambda: self.page.js("const {length, steps} = lab.player.film; return [length, steps]") == [length, steps])
                 self.run_to(steps)
                 high, top = self.page.js("const {high, top} = lab.rows(); return [high, top]")
-                self.assertEqual((high, top), (wanted, max(0, steps + 1 - 300 // wanted)))
+                self.assertEqual((high, top), (expected, max(0, steps + 1 - 300 // expected)))
                 self.assertEqual(self.page.text("axes"), f"Across: cells 0 to {length - 1}. Down: steps {top} to {steps}.")
 
     def test_the_flow_is_an_average_over_steps(self):
@@ -179,7 +179,7 @@ class Playing(OnPage):
         self.assertIn(f"The page keeps the last 4,000 snapshots: back to step {first}", self.page.text("kept"))
         shots = dict((step, cells) for step, cells, *_ in self.page.js(SHOTS))
         head = self.page.job().replace("steps 500000", f"steps {last}")
-        self.assertEqual([shots[it.step] for it in snapshots(head)[first:]], list(shots.values()))
+        self.assertEqual([shots[snapshot.step] for snapshot in snapshots(head)[first:]], list(shots.values()))
         self.page.click("again")
         self.hold(lambda: self.page.step() >= 0 and self.page.js("return lab.player.film.first") == 0)
 

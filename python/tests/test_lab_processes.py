@@ -53,10 +53,10 @@ class Processes(OnPage):
             try:
                 self.page.get(f"http://127.0.0.1:{other.server_port}/")
                 for mode in "cors", "no-cors":
-                    said = self.page.later(
+                    answer = self.page.later(
                         "return await fetch(words[0] + 'run', {method: 'POST', mode: words[1], body: words[2]})"
                         ".then(it => it.type + it.status, () => 'failed')", self.lab.address, mode, "road 1\n")
-                    self.assertIn(said, {"failed", "opaque0"})
+                    self.assertIn(answer, {"failed", "opaque0"})
                 framed = self.page.later(
                     "const frame = document.createElement('iframe'); frame.src = words[0]; document.body.append(frame);"
                     "await new Promise(go => { frame.onload = go; });"

@@ -90,10 +90,10 @@ class Controls:
         return {**self.job(), "rule": self.rule(0), "warm": self.numbers.randint(0, 6000), "measure": measure}
 
 
-def text_of(made):
+def text_of(input_of):
     """The file of an input, or None if Python rejects it."""
     try:
-        return made().text()
+        return input_of().text()
     except ParameterError:
         return None
 
@@ -102,60 +102,60 @@ def text_of(made):
 class Files(unittest.TestCase):
     """Job files and sweep files from controls."""
 
-    def same(self, calls, wanted):
-        for call, found, text in zip(calls, answers(calls), wanted):
-            self.assertEqual(found, text, call)
+    def same(self, calls, expected):
+        for call, result, text in zip(calls, answers(calls), expected):
+            self.assertEqual(result, text, call)
 
     def test_random_jobs(self):
         draw = Controls(1)
         jobs = [draw.job() for _ in range(600)]
-        self.same([("jobs", "jobFile", it) for it in jobs], [job_of(it).text() for it in jobs])
+        self.same([("jobs", "jobFile", job) for job in jobs], [job_of(job).text() for job in jobs])
 
     def test_random_sweeps(self):
         draw = Controls(2)
-        sweeps = [it for it in (draw.sweep() for _ in range(300)) if it["warm"] + it["measure"] <= 500000 // 30]
+        sweeps = [sweep for sweep in (draw.sweep() for _ in range(300)) if sweep["warm"] + sweep["measure"] <= 500000 // 30]
         self.assertGreater(len(sweeps), 200)
         with warnings.catch_warnings():
             warnings.simplefilter("error")  # if a number of cars is not halved between the lanes
-            wanted = [sweep_of(it).text() for it in sweeps]
-        self.same([("jobs", "sweepFile", it) for it in sweeps], wanted)
+            expected = [sweep_of(sweep).text() for sweep in sweeps]
+        self.same([("jobs", "sweepFile", sweep) for sweep in sweeps], expected)
 
     def test_random_cells(self):
         """Random cells for seeds of one word and of many, and for more cells than the generator has words."""
         seeds = [0, 1, 2**32 - 1, 2**32, 2**64 + 7, 2**255, 2**256 - 1, *(random.Random(5).getrandbits(bits) for bits in range(1, 256, 5))]
         shapes = [(1, 1, 1), (10, 1, 3), (624, 1, 311), (3000, 2, 2000), (9999, 1, 1), (50, 2, 100), (50, 2, 0)]
-        tries = [(7, (100000, 2, 60000)), *((seed, shapes[k % 7]) for k, seed in enumerate(seeds))]
-        what = {"limit": 5, "start": "random", "steps": 0, "rules": [{"at": 0, "model": "nasch", "p": 0, "q": 0}]}
-        jobs = [{**what, "key": str(seed), "length": length, "lanes": lanes, "cars": cars} for seed, (length, lanes, cars) in tries]
-        self.same([("jobs", "jobFile", it) for it in jobs], [job_of(it).text() for it in jobs])
+        roads = [(7, (100000, 2, 60000)), *((seed, shapes[k % 7]) for k, seed in enumerate(seeds))]
+        parameters = {"limit": 5, "start": "random", "steps": 0, "rules": [{"at": 0, "model": "nasch", "p": 0, "q": 0}]}
+        jobs = [{**parameters, "key": str(seed), "length": length, "lanes": lanes, "cars": cars} for seed, (length, lanes, cars) in roads]
+        self.same([("jobs", "jobFile", job) for job in jobs], [job_of(job).text() for job in jobs])
 
     def test_random_numbers(self):
         seeds = [0, 7, 2**200 + 1]
-        for seed, found in zip(seeds, answers([("random", "draws", str(seed), 2000) for seed in seeds])):
+        for seed, draws in zip(seeds, answers([("random", "draws", str(seed), 2000) for seed in seeds])):
             numbers = random.Random(seed)
-            self.assertEqual(list(found.values()), [numbers.random() for _ in range(2000)])
+            self.assertEqual(list(draws.values()), [numbers.random() for _ in range(2000)])
 
     def test_probabilities(self):
         """Each probability becomes the multiple of 1 / 2**31 that Python rounds it to, and each of those has its shortest decimal."""
         draw = random.Random(3)
-        tries = [0.0, 1.0, 0.5, 1e-9, 1 - 1e-9, 2**-31, 1.5 * 2**-31, 2.5 * 2**-31, 5e-324, 1e-10, 2**-32, *(draw.random() ** 9 for _ in range(3000))]
-        tries += [(draw.randrange(2**31) + 0.5) / 2**31 for _ in range(3000)] + [k / 1000 for k in range(1001)]
-        for found, number in zip(answers([("checks", "partsOf", "brake", it) for it in tries]), tries):
+        values = [0.0, 1.0, 0.5, 1e-9, 1 - 1e-9, 2**-31, 1.5 * 2**-31, 2.5 * 2**-31, 5e-324, 1e-10, 2**-32, *(draw.random() ** 9 for _ in range(3000))]
+        values += [(draw.randrange(2**31) + 0.5) / 2**31 for _ in range(3000)] + [k / 1000 for k in range(1001)]
+        for result, number in zip(answers([("checks", "partsOf", "brake", value) for value in values]), values):
             try:
-                self.assertEqual(found, parts(probability("brake", number)), number)
+                self.assertEqual(result, parts(probability("brake", number)), number)
             except ParameterError as error:
-                self.assertEqual(str(found).split(" is ")[1:2] and str(found)[-9:], str(error)[-9:], number)
-                self.assertIn("in multiples of 1 / 2**31", str(found))
+                self.assertEqual(str(result).split(" is ")[1:2] and str(result)[-9:], str(error)[-9:], number)
+                self.assertIn("in multiples of 1 / 2**31", str(result))
 
     def test_decimals(self):
         draw = random.Random(4)
-        tries = [0, 1, ALWAYS, ALWAYS - 1, *(2**k for k in range(31)), *(3 * 2**k for k in range(29)), *(draw.randrange(ALWAYS) for _ in range(3000))]
-        for found, number in zip(answers([("checks", "decimalOf", it) for it in tries]), tries):
-            written = Fraction(repr(found))
-            self.assertEqual((parts(found), parts(written)), (number, number), found)
-            fewer = -Decimal(repr(found)).normalize().as_tuple().exponent - 1
+        values = [0, 1, ALWAYS, ALWAYS - 1, *(2**k for k in range(31)), *(3 * 2**k for k in range(29)), *(draw.randrange(ALWAYS) for _ in range(3000))]
+        for decimal, number in zip(answers([("checks", "decimalOf", value) for value in values]), values):
+            written = Fraction(repr(decimal))
+            self.assertEqual((parts(decimal), parts(written)), (number, number), decimal)
+            fewer = -Decimal(repr(decimal)).normalize().as_tuple().exponent - 1
             if fewer >= 0:
-                self.assertNotEqual(parts(Fraction(round(number * 10**fewer / ALWAYS), 10**fewer)), number, found)
+                self.assertNotEqual(parts(Fraction(round(number * 10**fewer / ALWAYS), 10**fewer)), number, decimal)
 
 
 @unittest.skipIf(MISSING, MISSING)
@@ -168,8 +168,8 @@ class Errors(unittest.TestCase):
     }
 
     def test_messages_of_python(self):
-        own = lambda **what: {"rules": [{**self.job["rules"][0], "model": "own", **what}]}
-        tries = [
+        own = lambda **parameters: {"rules": [{**self.job["rules"][0], "model": "own", **parameters}]}
+        changes = [
             {"limit": 0}, {"limit": 36}, {"limit": 2.5}, {"length": 0}, {"length": 100001}, {"lanes": 3}, {"cars": 51}, {"cars": -1}, {"cars": 0.5},
             {"key": str(2**256), "start": "even"}, {"start": "file", "road": ["0.6"]}, {"start": "file", "road": ["0..", "0."]}, {"start": "file", "road": ["0X."]},
             {"rules": self.job["rules"] + [{**self.job["rules"][0], "at": 9}]}, own(motion=""), own(motion="  "), own(motion="change\nstay"),
@@ -177,8 +177,8 @@ class Errors(unittest.TestCase):
             *({"rules": [{**self.job["rules"][0], "p": p}]} for p in (-0.5, 1.5, 1e-10, 1 - 1e-12)),
             *({"rules": [{**self.job["rules"][0], "model": model, "q": 2}]} for model in ("vdr", "rickert")),
         ]
-        found = answers([("jobs", "jobFile", {**self.job, **it}) for it in tries])
-        for change, thrown in zip(tries, found):
+        errors = answers([("jobs", "jobFile", {**self.job, **changes_of_job}) for changes_of_job in changes])
+        for change, thrown in zip(changes, errors):
             with self.subTest(change=change), self.assertRaises(ParameterError) as raised:
                 job_of({**self.job, **change}).text()
             self.assertIsInstance(thrown, Thrown, change)
@@ -191,14 +191,14 @@ class Errors(unittest.TestCase):
             calls = [("jobs", "jobFile", {**self.job, field: value}) for field in ("limit", "lanes", "length", "cars", "steps", "key", "start")]
             calls += [("jobs", "sweepFile", {**sweep, field: value}) for field in ("limit", "lanes", "length", "warm", "measure", "key")]
             rules = [{**self.job["rules"][0], field: value} for field in ("at", "model", "p")]
-            calls += [("jobs", "jobFile", {**self.job, "rules": [it]}) for it in rules]
-            calls += [("jobs", "jobFile", {**self.job, "rules": [self.job["rules"][0], {"at": 3, **it}]}) for it in rules]
-            for call, found in zip(calls, answers([call for call in calls if not (value == "5" and call[2].get("key") == "5")])):
-                self.assertIsInstance(found, Thrown, call)
+            calls += [("jobs", "jobFile", {**self.job, "rules": [rule]}) for rule in rules]
+            calls += [("jobs", "jobFile", {**self.job, "rules": [self.job["rules"][0], {"at": 3, **rule}]}) for rule in rules]
+            for call, error in zip(calls, answers([call for call in calls if not (value == "5" and call[2].get("key") == "5")])):
+                self.assertIsInstance(error, Thrown, call)
 
     def test_messages_of_the_page(self):
         rules = self.job["rules"]
-        tries = (
+        changes = (
             ({"steps": 500001}, "steps must be between 0 and 500000, not 500001"),
             ({"key": "1e3"}, "the key must have 1 to 78 decimal digits, not '1e3'"),
             ({"start": "moved"}, "the initial state is even, moving, random, jam or file, not 'moved'"),
@@ -207,8 +207,8 @@ class Errors(unittest.TestCase):
             ({"rules": [{**rules[0], "model": "toString"}]}, "the rule is nasch, vdr, rickert or own, not 'toString'"),
             ({"rules": [{**rules[0], "p": "0.5"}]}, "brake must be a number between 0 and 1, not '0.5'"),
         )
-        found = answers([("jobs", "jobFile", {**self.job, **change}) for change, _ in tries])
-        self.assertEqual([str(it) for it in found], [message for _, message in tries])
+        errors = answers([("jobs", "jobFile", {**self.job, **change}) for change, _ in changes])
+        self.assertEqual([str(error) for error in errors], [message for _, message in changes])
         with self.assertRaises(Thrown) as thrown:
             answer("jobs", "sweepFile", {**self.job, "length": 1000, "rule": rules[0], "warm": 10000, "measure": 10000})
         self.assertEqual(
@@ -228,63 +228,63 @@ class Reading(unittest.TestCase):
         texts = [text for text in (text_of(lambda: job_of(draw.job())) for _ in range(300)) if text]
         texts += [path.read_text() for path in sorted(EXAMPLES.glob("*.job"))]
         texts.append("road 1\nkey " + "f" * 64 + "\nlimit 35\nlane z.\nlane ..\nrule own\ncode 0\nchange\nstay\nend\nsteps 9\nat 3 rule vdr 1 2147483648\n")
-        found = answers([("reading", "jobOf", text) for text in texts])
-        for text, again in zip(texts, answers([("jobs", "jobFile", it) for it in found])):
+        jobs = answers([("reading", "jobOf", text) for text in texts])
+        for text, again in zip(texts, answers([("jobs", "jobFile", job) for job in jobs])):
             self.assertEqual(again, text)
 
     def test_controls(self):
         text = "road 1\nkey " + "A" * 64 + "\nlimit 3\nlane 0.1\nlane ...\nrule vdr 1 2147483648\nsteps 9\nat 4 rule own\nmotion\ngo r0\nend\nat 5 rule nasch 715827883"
-        found = answer("reading", "controlsOf", text)
-        self.assertEqual([it["at"] for it in found["rules"]], [0, 4, 5])
-        self.assertEqual([(it["p"], it["q"], it["motion"]) for it in found["rules"]], [(5e-10, 1, ""), (5e-10, 1, "motion\ngo r0\n"), (0.3333333335, 1, "motion\ngo r0\n")])
-        del found["rules"]
-        wanted = {"key": str(int("A" * 64, 16)), "limit": 3, "lanes": 2, "length": 3, "cars": 2, "steps": 9, "start": "file", "road": ["0.1", "..."]}
-        self.assertEqual(found, wanted)
+        controls = answer("reading", "controlsOf", text)
+        self.assertEqual([rule["at"] for rule in controls["rules"]], [0, 4, 5])
+        self.assertEqual([(rule["p"], rule["q"], rule["motion"]) for rule in controls["rules"]], [(5e-10, 1, ""), (5e-10, 1, "motion\ngo r0\n"), (0.3333333335, 1, "motion\ngo r0\n")])
+        del controls["rules"]
+        expected = {"key": str(int("A" * 64, 16)), "limit": 3, "lanes": 2, "length": 3, "cars": 2, "steps": 9, "start": "file", "road": ["0.1", "..."]}
+        self.assertEqual(controls, expected)
 
     def test_a_sweep_file(self):
         draw = Controls(7)
         sweeps = [{**draw.sweep(), "warm": 3, "measure": 4} for _ in range(20)]
-        for controls, found in zip(sweeps, answers([("reading", "jobOf", sweep_of(it).text()) for it in sweeps])):
-            self.assertEqual({name: found[name] for name in ("key", "limit", "length", "lanes", "start")}, {
+        for controls, controls_again in zip(sweeps, answers([("reading", "jobOf", sweep_of(sweep).text()) for sweep in sweeps])):
+            self.assertEqual({name: controls_again[name] for name in ("key", "limit", "length", "lanes", "start")}, {
                 **{name: controls[name] for name in ("key", "limit", "length", "lanes")}, "start": "even"})
-            self.assertEqual(found["cars"], round(0.15 * controls["length"] * controls["lanes"]))
+            self.assertEqual(controls_again["cars"], round(0.15 * controls["length"] * controls["lanes"]))
 
     def test_a_word_that_the_page_does_not_know(self):
-        tries = (
+        texts = (
             ("road 1\nbridge 3\n", "line 2 of the file begins with a word that the page does not know: bridge"),
             ("road 1\nrule own\nmotion\ngo r0\n", "the file ends too early"), ("steps x\n", "the file has x instead of a number"),
         )
-        found = answers([("reading", "controlsOf", text) for text, _ in tries])
-        self.assertEqual([str(it) for it in found], [message for _, message in tries])
+        errors = answers([("reading", "controlsOf", text) for text, _ in texts])
+        self.assertEqual([str(error) for error in errors], [message for _, message in texts])
 
 
 @unittest.skipIf(MISSING, MISSING)
 class Curves(unittest.TestCase):
     """Exact curves. A plot of 316 pixels shows three digits; nine are demanded."""
 
-    def curves(self, *asked):
+    def curves(self, *cases):
         """The curves of (limit, length, rule, lanes)."""
         rest = {"motion": "", "change": "", "p": 0.25, "q": 0.5}
         names = "limit", "length", "rule", "lanes"
-        return answers([("exact", "exactCurve", dict(zip(names, (limit, length, {**rest, **rule}, lanes)))) for limit, length, rule, lanes in asked])
+        return answers([("exact", "exactCurve", dict(zip(names, (limit, length, {**rest, **rule}, lanes)))) for limit, length, rule, lanes in cases])
 
     def test_the_triangle(self):
         rules = {"model": "nasch", "p": 0}, {"model": "vdr", "p": 0, "q": 0}, {"model": "rickert", "p": 0, "q": 0}, {"model": "own", "motion": MOTION}
-        asked = [(limit, 77, rule, 1) for rule in rules for limit in (1, 2, 5, 35)]
-        for (limit, *_), found in zip(asked, self.curves(*asked)):
-            self.assertEqual(found["kind"], "triangle")
-            self.assertEqual([it["density"] for it in found["points"]], [0, 1 / (limit + 1), 1])
-            for point in found["points"]:
+        cases = [(limit, 77, rule, 1) for rule in rules for limit in (1, 2, 5, 35)]
+        for (limit, *_), curve in zip(cases, self.curves(*cases)):
+            self.assertEqual(curve["kind"], "triangle")
+            self.assertEqual([vertex["density"] for vertex in curve["points"]], [0, 1 / (limit + 1), 1])
+            for point in curve["points"]:
                 self.assertAlmostEqual(point["flow"], float(trlab.exact.triangle(limit, point["density"])), places=15)
 
     def test_the_stationary_flow(self):
-        asked = [(1, length, {"model": "nasch", "p": brake}, 1) for length in (1, 2, 3, 12, 99, 100, 1000, 100000) for brake in (1e-9, 0.01, 1 / 3, 0.9999, 1 - 1e-9, 1)]
-        for (_, length, rule, _), found in zip(asked, self.curves(*asked)):
+        cases = [(1, length, {"model": "nasch", "p": brake}, 1) for length in (1, 2, 3, 12, 99, 100, 1000, 100000) for brake in (1e-9, 0.01, 1 / 3, 0.9999, 1 - 1e-9, 1)]
+        for (_, length, rule, _), curve in zip(cases, self.curves(*cases)):
             counts = sorted({round(k * length / 100) for k in range(101)})
-            self.assertEqual([it["density"] for it in found["points"]], [cars / length for cars in counts])
-            for cars, point in list(zip(counts, found["points"]))[:: 1 if length < 100000 else 9]:
-                wanted = trlab.exact.flow_as_float(length, cars, rule["p"])
-                self.assertTrue(math.isclose(point["flow"], wanted, rel_tol=1e-9, abs_tol=1e-300), (length, rule, cars, point["flow"], wanted))
+            self.assertEqual([vertex["density"] for vertex in curve["points"]], [cars / length for cars in counts])
+            for cars, point in list(zip(counts, curve["points"]))[:: 1 if length < 100000 else 9]:
+                expected = trlab.exact.flow_as_float(length, cars, rule["p"])
+                self.assertTrue(math.isclose(point["flow"], expected, rel_tol=1e-9, abs_tol=1e-300), (length, rule, cars, point["flow"], expected))
 
     def test_flows_that_are_not_known(self):
         *unknown, known = self.curves(
@@ -325,24 +325,24 @@ class Planted(unittest.TestCase):
         """Each planted error changes a result that the other tests compare with Python."""
         draw, vdr = Controls(8), {"model": "vdr", "p": 0.25, "q": 0.5, "motion": "", "change": ""}
         jobs, sweeps = [draw.job() for _ in range(250)], [{**draw.sweep(), "warm": 3, "measure": 4} for _ in range(40)]
-        texts = [text for text in (text_of(lambda: job_of(it)) for it in jobs) if text]
-        calls = [("jobs", "jobFile", it) for it in jobs] + [("jobs", "sweepFile", it) for it in sweeps]
-        calls += [("reading", "controlsOf", it) for it in texts]
-        calls += [("checks", "partsOf", "brake", it) for it in (1e-10, 0.5 / 2**31, 1.5 / 2**31, 2.5 / 2**31, 0.3)]
-        calls += [("checks", "decimalOf", it) for it in (1, 715827883, 2**20, 2**31 - 1)]
+        texts = [text for text in (text_of(lambda: job_of(item)) for item in jobs) if text]
+        calls = [("jobs", "jobFile", item) for item in jobs] + [("jobs", "sweepFile", item) for item in sweeps]
+        calls += [("reading", "controlsOf", item) for item in texts]
+        calls += [("checks", "partsOf", "brake", item) for item in (1e-10, 0.5 / 2**31, 1.5 / 2**31, 2.5 / 2**31, 0.3)]
+        calls += [("checks", "decimalOf", item) for item in (1, 715827883, 2**20, 2**31 - 1)]
         calls.append(("random", "draws", "7", 99))
         rules = vdr, {**vdr, "q": 0.25}, {**vdr, "p": 0, "q": 0}
         calls += [("exact", "exactCurve", {"limit": limit, "length": 99, "lanes": 1, "rule": rule}) for rule in rules for limit in (1, 2)]
-        shown = lambda found: [str(it) if isinstance(it, Thrown) else it for it in found]
+        shown = lambda changed: [str(item) if isinstance(item, Thrown) else item for item in changed]
         right = shown(answers(calls))
         for old, new in PLANTED:
             with self.subTest(old=old, new=new):
                 self.assertEqual(scripts.joined("reading", "jobs", "exact").count(old), 1)
                 try:
-                    found = shown(answers(calls, lambda script: script.replace(old, new)))
+                    changed = shown(answers(calls, lambda script: script.replace(old, new)))
                 except AssertionError:
-                    found = None  # the scripts have ended with an error
-                self.assertEqual(found == right, old in UNNOTICED)
+                    changed = None  # the scripts have ended with an error
+                self.assertEqual(changed == right, old in UNNOTICED)
 
 
 @unittest.skipIf(MISSING, MISSING)
@@ -356,8 +356,8 @@ class LongFiles(unittest.TestCase):
         lanes = ["road 1", "key " + "0" * 64, "limit 5", *["lane 0."] * 10000]
         own = ["road 1", *["rule own", "motion", "go r0", "end"] * 10000]
         for lines in heads, rules, lanes, own:
-            [found] = answers([("reading", "controlsOf", "\n".join(lines) + "\n")], edit)
-            self.assertIsInstance(found, dict)
+            [controls] = answers([("reading", "controlsOf", "\n".join(lines) + "\n")], edit)
+            self.assertIsInstance(controls, dict)
         self.assertIn("this.all.counted", edit(scripts.joined("reading")))
 
 

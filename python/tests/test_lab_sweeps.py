@@ -31,8 +31,8 @@ class SweepsOfThePage(OnPage):
 
     def swept(self, **changes):
         cars = sorted({round(k / 50 * 60 if k <= 16 else (0.32 + (k - 16) * 0.045) * 60) for k in range(1, 31)})
-        what = {"limit": 3, "rule": SlowToStart("1/4", "3/4"), "length": 60, "warm": 5, "measure": 8, "cars": cars, "key": 7}
-        return Sweep(**{**what, **changes}).sweep()
+        parameters = {"limit": 3, "rule": SlowToStart("1/4", "3/4"), "length": 60, "warm": 5, "measure": 8, "cars": cars, "key": 7}
+        return Sweep(**{**parameters, **changes}).sweep()
 
     def curves(self):
         return self.page.js("return lab.marks.filter(it => it.name).map(it => [it.name, it.start, it.points.map(it => [it.density, it.flow])])")
@@ -40,10 +40,10 @@ class SweepsOfThePage(OnPage):
     def test_a_row_is_that_of_a_sweep(self):
         # On two lanes a sweep counts its cars in another order than a job, so that they draw other random numbers.
         for cars, lanes, warm, measure in (4, 1, 2, 7), (30, 1, 0, 1), (0, 1, 3, 3), (31, 2, 10, 90), (60, 1, 1, 5):
-            what = {"limit": 5, "rule": Nasch("1/3" if lanes == 1 else 0), "length": 60, "lanes": lanes, "key": 5}
+            parameters = {"limit": 5, "rule": Nasch("1/3" if lanes == 1 else 0), "length": 60, "lanes": lanes, "key": 5}
             with self.subTest(cars=cars, lanes=lanes):
-                sweep = ask(["sweep"], Sweep(**what, warm=warm, measure=measure, cars=[cars]).text())
-                job = Job(**what, cars=cars, start=trlab.even, steps=warm + measure).text()
+                sweep = ask(["sweep"], Sweep(**parameters, warm=warm, measure=measure, cars=[cars]).text())
+                job = Job(**parameters, cars=cars, start=trlab.even, steps=warm + measure).text()
                 self.assertEqual(self.page.later(ROW, job, warm), sweep.splitlines()[1])
 
     def test_a_sweep_from_each_state(self):
@@ -55,11 +55,11 @@ class SweepsOfThePage(OnPage):
                 self.page.click("clear")
                 self.page.click("sweep")
                 self.hold(lambda: len(self.curves()) == 1)
-                wanted = self.swept(start=start)
+                expected = self.swept(start=start)
                 [[label, state, points]] = self.curves()
                 self.assertEqual((label, state), ("p 0.25, 0.75", name))
-                self.assertEqual(points, [[it.density, it.flow] for it in wanted])
-                self.assertEqual(self.page.js("return lab.table"), wanted.text())
+                self.assertEqual(points, [[point.density, point.flow] for point in expected])
+                self.assertEqual(self.page.js("return lab.table"), expected.text())
                 self.hold(lambda: self.page.text("sweep") == "Sweep" and not self.page.js("return document.getElementById('sweep').disabled"))
         self.assertEqual(self.page.text("fault"), "")
 
@@ -70,7 +70,7 @@ class SweepsOfThePage(OnPage):
         self.hold(lambda: len(self.curves()) == 2)
         self.assertEqual([state for _, state, _ in self.curves()], ["moving", "jam"])
         for name, state, points in self.curves():
-            self.assertEqual(points, [[it.density, it.flow] for it in self.swept(start=BRANCHES[state])])
+            self.assertEqual(points, [[point.density, point.flow] for point in self.swept(start=BRANCHES[state])])
         rows = self.page.js("return [...document.querySelectorAll('.legend-row')].map(it => it.textContent)")
         self.assertEqual(rows, [f"p 0.25, 0.75, {state} start: v_max 3, 60 cells" for state in ("moving", "jammed")])
         colours = self.page.js("return [...document.querySelectorAll('#diagram polyline:not(.exact)')].map(it => it.getAttribute('stroke')).slice(-2)")

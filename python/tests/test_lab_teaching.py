@@ -39,8 +39,8 @@ class Teaching(OnPage):
         self.ready()
 
     def show_job(self, **changes):
-        what = {"limit": 3, "length": 60, "cars": 24, "start": trlab.random_cells(3), "rule": Nasch("1/4"), "steps": 400, "key": 5}
-        text = Job(**{**what, **changes}).text()
+        parameters = {"limit": 3, "length": 60, "cars": 24, "start": trlab.random_cells(3), "rule": Nasch("1/4"), "steps": 400, "key": 5}
+        text = Job(**{**parameters, **changes}).text()
         self.open(text)
         self.has_job(text)
         self.hold(lambda: self.page.js("return lab.player.film.length") == 60 and self.page.step() >= 0)
@@ -76,9 +76,9 @@ class Teaching(OnPage):
 
     def test_there_is_time_to_watch_an_example(self):
         examples = ("two_cars.job", 4, "1"), ("queue.job", 20, "2"), ("jams.job", 200, "19"), ("nasch.rule", 200, "19"), ("triangle.sweep", 5000, "33")
-        for example, steps, wanted in examples:
+        for example, steps, rate in examples:
             self.choose(example)
-            self.has([steps, wanted], lambda: [self.page.js("return lab.job.steps"), self.page.text("rateout")])
+            self.has([steps, rate], lambda: [self.page.js("return lab.job.steps"), self.page.text("rateout")])
 
     def test_the_road_of_a_sweep_shows_its_phenomenon(self):
         self.choose("lane_rule.sweep")
@@ -148,15 +148,15 @@ class Teaching(OnPage):
             self.show_job(rule=rule, lanes=lanes, cars=24 * lanes)
             self.run_to(40)
             shown = snapshots(self.page.job().replace("steps 400", "steps 40"))
-            found = self.page.later(REASONS, 40)
-            self.assertEqual(len(found), 24 * lanes * 40)
+            reasons = self.page.later(REASONS, 40)
+            self.assertEqual(len(reasons), 24 * lanes * 40)
             for number in range(40):
-                what = {"limit": 3, "rule": calm, "steps": 1, "key": 5}
-                safe = speeds_by_origin(snapshots(Job(start=shown[number].lanes, **what).text())[1])
-                for step, lane, cell, speed, why in found[24 * lanes * number:24 * lanes * (number + 1)]:
-                    wanted = safe[lane, (cell - speed) % 60]
-                    self.assertEqual((step, "at random" in why), (number + 1, speed < wanted), why)
-                    self.assertTrue(why and wanted - speed in (0, 1), (why, wanted, speed))
+                parameters = {"limit": 3, "rule": calm, "steps": 1, "key": 5}
+                safe = speeds_by_origin(snapshots(Job(start=shown[number].lanes, **parameters).text())[1])
+                for step, lane, cell, speed, why in reasons[24 * lanes * number:24 * lanes * (number + 1)]:
+                    expected = safe[lane, (cell - speed) % 60]
+                    self.assertEqual((step, "at random" in why), (number + 1, speed < expected), why)
+                    self.assertTrue(why and expected - speed in (0, 1), (why, expected, speed))
 
     def test_what_is_known_of_a_rule_of_ones_own(self):
         self.show_job(rule=Own("motion\nnum r0, 0\ngo r0\n"), start=["3..0.." + 54 * "."], cars=None, length=None)
@@ -200,7 +200,7 @@ class Teaching(OnPage):
         self.follows_in_the_new_run(car)
         self.run_to(50)
         shots = self.page.js("return lab.player.film.shots.map(it => String.fromCharCode(...it.cells))")
-        self.assertEqual(shots, ["".join(it.lanes) for it in snapshots(self.page.job())][:len(shots)])
+        self.assertEqual(shots, ["".join(snapshot.lanes) for snapshot in snapshots(self.page.job())][:len(shots)])
 
     def test_a_car_on_two_lanes_brakes_by_the_button(self):
         text = self.show_job(rule=Rickert("1/4", "1/2"), lanes=2, cars=48)

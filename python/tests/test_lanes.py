@@ -1,20 +1,22 @@
 """Evenly spaced cars on two lanes: an input that does not halve them warns of the number of cars on each lane."""
 import unittest
 import warnings
+from collections.abc import Callable
 from dataclasses import replace
+from typing import Any
 
 from trlab import Job, Nasch, Sweep, TrlabWarning, even, jammed, moving, random_cells
 from trlab._inputs.states import halved, surplus
 
-JOB = dict(limit=5, length=1000, lanes=2, rule=Nasch(0), steps=1)
-SWEEP = dict(limit=5, length=1000, lanes=2, rule=Nasch(0), warm=1, measure=1)
+JOB: dict[str, Any] = dict(limit=5, length=1000, lanes=2, rule=Nasch(0), steps=1)
+SWEEP: dict[str, Any] = dict(limit=5, length=1000, lanes=2, rule=Nasch(0), warm=1, measure=1)
 
 
-def cars_by_lane(job):
+def cars_by_lane(job: Job) -> list[int]:
     return [len(lane) - lane.count(".") for lane in job.run()[0].lanes]
 
 
-def warnings_of(make):
+def warnings_of(make: Callable[[], object]) -> list[str]:
     with warnings.catch_warnings(record=True) as caught:
         warnings.simplefilter("always")
         make()
@@ -23,7 +25,7 @@ def warnings_of(make):
 
 
 class Lanes(unittest.TestCase):
-    def test_the_formula_is_that_of_the_roads(self):
+    def test_the_formula_is_that_of_the_roads(self) -> None:
         for length in range(1, 31):
             for cars in range(2 * length + 1):
                 with warnings.catch_warnings():
@@ -36,7 +38,7 @@ class Lanes(unittest.TestCase):
                 )
                 self.assertEqual(halved(cars, length) == [cars], surplus(cars, length) <= 1)
 
-    def test_every_kind_of_input_warns(self):
+    def test_every_kind_of_input_warns(self) -> None:
         for cars in 300, 100, 2:
             with warnings.catch_warnings():
                 warnings.simplefilter("ignore")
@@ -58,8 +60,8 @@ class Lanes(unittest.TestCase):
                 for near in halved(cars, 1000):
                     self.assertEqual(warnings_of(lambda: Job(**JOB, cars=near, start=start)), [])
 
-    def test_the_warning_comes_once(self):
-        def study():
+    def test_the_warning_comes_once(self) -> None:
+        def study() -> None:
             for start in even, moving:
                 sweep = Sweep(**SWEEP, cars=[300, 299, 100, 100, 50, 20], start=start)
                 sweep.jobs(), sweep.counts(), sweep.sweep(), sweep.jobs()[0].text()
@@ -75,19 +77,20 @@ class Lanes(unittest.TestCase):
             self.assertIn(examples, message)
             self.assertIn("; further uneven numbers of cars: 1: use", message)
 
-    def test_a_file_warns_too(self):
+    def test_a_file_warns_too(self) -> None:
         with warnings.catch_warnings():
             warnings.simplefilter("ignore")
             text = Sweep(**SWEEP, cars=[300]).text()
         (message,) = warnings_of(lambda: Sweep.from_text(text))
         self.assertIn("300 cars are 200 on lane 0", message)
 
-    def test_other_states_do_not_warn(self):
+    def test_other_states_do_not_warn(self) -> None:
+        one_lane: dict[str, Any] = {**JOB, "lanes": 1}
         for cars in 300, 100:
             for start in jammed, random_cells(1):
                 self.assertEqual(warnings_of(lambda: Job(**JOB, cars=cars, start=start)), [])
                 self.assertEqual(warnings_of(lambda: Sweep(**SWEEP, cars=[cars], start=start)), [])
-            self.assertEqual(warnings_of(lambda: Job(**{**JOB, "lanes": 1}, cars=cars)), [])
+            self.assertEqual(warnings_of(lambda: Job(**one_lane, cars=cars)), [])
         self.assertEqual(warnings_of(lambda: replace(Job(**JOB, cars=301), cars=0)), [])
 
 

@@ -42,7 +42,7 @@ assert not ran or "numpy" not in MISSING and "pandas" not in MISSING
 """
 
 
-def messages_without(*missing):
+def messages_without(*missing: str) -> dict[str, str]:
     """The message of each call if these libraries are missing, in a Python that may have them or not."""
     script = f"MISSING = {missing!r}\n{SCRIPT}"
     environment = {
@@ -54,7 +54,7 @@ def messages_without(*missing):
 
 
 class Libraries(unittest.TestCase):
-    def test_the_libraries_to_install_are_named(self):
+    def test_the_libraries_to_install_are_named(self) -> None:
         for missing in ("numpy", "pandas", "matplotlib"), ("pandas",):
             messages = messages_without(*missing)
             self.assertEqual(len(messages), 11)
@@ -62,7 +62,7 @@ class Libraries(unittest.TestCase):
                 message = "this needs (numpy|pandas), which is not installed: pip install numpy pandas matplotlib"
                 self.assertRegex(printed, f"^{message}$", name)
 
-    def test_only_plots_need_matplotlib(self):
+    def test_only_plots_need_matplotlib(self) -> None:
         try:
             import pandas  # noqa: F401
         except ModuleNotFoundError:

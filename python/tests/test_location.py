@@ -6,7 +6,9 @@ import subprocess
 import sys
 import tempfile
 import unittest
+from collections.abc import Callable
 from pathlib import Path
+from typing import Any
 from unittest import mock
 
 from tests.processes import PYTHON
@@ -16,20 +18,20 @@ from trlab._runs.ownership import new_path
 
 
 class Folder(unittest.TestCase):
-    def setUp(self):
+    def setUp(self) -> None:
         folder = tempfile.TemporaryDirectory()
         self.addCleanup(folder.cleanup)
         self.folder = Path(folder.name)
 
 
 class Named(Folder):
-    def script(self, content, mode=0o755):
+    def script(self, content: bytes, mode: int = 0o755) -> str:
         path = self.folder / "trlab"
         path.write_bytes(content)
         path.chmod(mode)
         return str(path)
 
-    def test_all_reasons_for_a_missing_program_are_one_class(self):
+    def test_all_reasons_for_a_missing_program_are_one_class(self) -> None:
         working = b"#!/bin/sh\necho trlab 0\n"
         named = {
             "there is no file": [str(self.folder / "missing"), str(self.folder), "~nobody of this name/trlab"],
@@ -46,15 +48,18 @@ class Named(Folder):
                 self.assertRaisesRegex(ProgramNotFoundError, "is not trlab", find_program)
         self.assertTrue(issubclass(ProgramNotFoundError, (TrlabError, FileNotFoundError)))
 
-    def test_a_program_that_vanishes_or_changes_after_it_was_found(self):
+    def test_a_program_that_vanishes_or_changes_after_it_was_found(self) -> None:
         job = Job(limit=5, length=10, cars=1, rule=Nasch(0), steps=1)
-        for change in os.unlink, lambda path: os.chmod(path, 0o644), lambda path: Path(path).write_text("#!/nowhere\n"):
+        changes: list[Callable[[str], object]] = [
+            os.unlink, lambda path: os.chmod(path, 0o644), lambda path: Path(path).write_text("#!/nowhere\n"),
+        ]
+        for change in changes:
             path = self.script(b"#!/bin/sh\necho trlab 0\n")
             with mock.patch("trlab._runs.processes.find_program", return_value=path):
                 change(path)
                 self.assertRaisesRegex(ProgramNotFoundError, "cannot be run", job.run)
 
-    def test_the_command_reports_a_missing_program_in_one_line(self):
+    def test_the_command_reports_a_missing_program_in_one_line(self) -> None:
         environment = {**os.environ, "PYTHONPATH": str(PYTHON), "TRLAB": str(self.folder / "missing")}
         process = subprocess.run([sys.executable, "-m", "trlab"], env=environment, stderr=subprocess.PIPE, text=True)
         self.assertEqual(process.returncode, 1)
@@ -65,7 +70,7 @@ class Named(Folder):
 class Packed(Folder):
     """A program in the installed package, which is unpacked on first use."""
 
-    def setUp(self):
+    def setUp(self) -> None:
         super().setUp()
         self.content = b"#!/bin/sh\necho trlab 0\n" + os.urandom(5000)
         self.sum = hashlib.sha256(self.content).hexdigest()
@@ -76,18 +81,19 @@ class Packed(Folder):
         self.write(gzip.compress(self.content))
         home = mock.patch.dict(os.environ, XDG_CACHE_HOME=str(self.home))
         packed = mock.patch.object(location, "_PACKED", self.packed)
-        for change in home, packed:
+        changes: list[Any] = [home, packed]
+        for change in changes:
             change.start()
             self.addCleanup(change.stop)
 
-    def write(self, content):
+    def write(self, content: bytes) -> None:
         for level in "x86-64-v2", "x86-64-v3":
             (self.packed / f"trlab-{level}.gz").write_bytes(content)
 
-    def find(self):
+    def find(self) -> Any:
         return location._packed.__wrapped__()
 
-    def test_first_use(self):
+    def test_first_use(self) -> None:
         path = self.find()
         self.assertEqual(Path(path).parent, self.home / "trlab")
         self.assertEqual(Path(path).read_bytes(), self.content)
@@ -96,7 +102,7 @@ class Packed(Folder):
         Path(path).write_bytes(b"damaged")
         self.assertEqual(Path(self.find()).read_bytes(), self.content)
 
-    def test_a_cut_download_is_an_error(self):
+    def test_a_cut_download_is_an_error(self) -> None:
         packed = gzip.compress(self.content)
         changed = packed[:50] + bytes(100) + packed[150:]
         for content in packed[:-9], packed[:100], packed[:5], b"", b"no archive", changed, gzip.compress(b"other"):
@@ -104,10 +110,10 @@ class Packed(Folder):
             with self.subTest(length=len(content)):
                 self.assertRaisesRegex(ProgramNotFoundError, "is damaged.*install trlab again", self.find)
 
-    def test_a_new_file_that_another_process_removes(self):
+    def test_a_new_file_that_another_process_removes(self) -> None:
         fsync = os.fsync
 
-        def remove(handle):
+        def remove(handle: int) -> None:
             for file in (self.home / "trlab").glob(".new*"):
                 file.unlink()
             fsync(handle)
@@ -116,7 +122,7 @@ class Packed(Folder):
             path = self.find()
         self.assertEqual(Path(path).read_bytes(), self.content)
 
-    def test_files_of_a_killed_first_use_are_removed(self):
+    def test_files_of_a_killed_first_use_are_removed(self) -> None:
         folder = self.home / "trlab"
         folder.mkdir(parents=True)
         mine = new_path(folder, "new")

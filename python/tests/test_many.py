@@ -18,7 +18,7 @@ from unittest import mock
 import trlab
 from tests.expected import NEEDS_TWO_LANES
 from tests.processes import PYTHON, calls, logging_program
-from tests.test_arrays import needs
+from tests.skips import needs
 from tests.waiting import LIMIT
 from trlab import Job, Nasch, RejectedInputError, Rickert, Sweep
 
@@ -136,12 +136,12 @@ class Executors(unittest.TestCase):
     def try_executor(self, pool):
         expected = {key: windows(job) for key, job in self.JOBS.items()}
         with tempfile.TemporaryDirectory() as folder:
-            kept = []
+            inodes = []
             for _ in range(2):
                 self.assertEqual(dict(trlab.results(self.JOBS, call=windows, cache=folder, executor=pool)), expected)
-                kept.append({file.name: file.stat().st_ino for file in Path(folder).iterdir()})
-        self.assertEqual(len(kept[0]), len(self.JOBS))
-        self.assertEqual(kept[1], kept[0])
+                inodes.append({file.name: file.stat().st_ino for file in Path(folder).iterdir()})
+        self.assertEqual(len(inodes[0]), len(self.JOBS))
+        self.assertEqual(inodes[1], inodes[0])
         results = dict(trlab.results({**self.JOBS, -1: REJECTED}, call=windows, executor=pool, errors="keep"))
         self.assertIs(type(results.pop(-1)), RejectedInputError)
         self.assertEqual(results, expected)

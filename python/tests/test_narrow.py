@@ -115,31 +115,31 @@ an instruction
 
 @unittest.skipUnless(HERE.is_dir(), "no release/wasm, which only a checkout has")
 class Forms(unittest.TestCase):
-    def module(self, *lines):
+    def module(self, *lines: str) -> str:
         return "".join(narrow.narrowed([*TARGETS, *(f"{line}\n" for line in lines)]))
 
-    def body(self, *lines):
+    def body(self, *lines: str) -> str:
         return self.module(*lines).partition("wasm32-unknown-unknown\"\n")[2]
 
-    def test_a_module_gets_another_target(self):
+    def test_a_module_gets_another_target(self) -> None:
         self.assertEqual(self.module(), "".join(narrow.WIDE_TARGET.values()))
         for missing in TARGETS:
             with self.assertRaises(narrow.UnknownForm):
                 list(narrow.narrowed([line for line in TARGETS if line != missing]))
 
-    def test_lines_that_mean_the_same_stay(self):
+    def test_lines_that_mean_the_same_stay(self) -> None:
         self.assertEqual(self.body(*SAME.splitlines()), SAME)
 
-    def test_pointers_in_memory_become_numbers(self):
+    def test_pointers_in_memory_become_numbers(self) -> None:
         for line, rewritten in REWRITTEN.items():
             with self.subTest(line):
                 self.assertEqual(self.body(line), "" if rewritten is None else f"{rewritten}\n")
 
-    def test_each_new_name_is_new(self):
+    def test_each_new_name_is_new(self) -> None:
         line = "  %r1 = load ptr, ptr %r0, align 8"
         self.assertEqual([self.body(line, line).count(f" %wide.{k} = ") for k in (1, 2, 3)], [1, 1, 0])
 
-    def test_other_forms_are_rejected_by_name(self):
+    def test_other_forms_are_rejected_by_name(self) -> None:
         for line in UNKNOWN.splitlines():
             with self.subTest(line), self.assertRaises(narrow.UnknownForm):
                 self.body(line)
@@ -150,7 +150,7 @@ class Forms(unittest.TestCase):
         self.assertEqual(process.returncode, 1)
         self.assertIn("an instruction", process.stderr)
 
-    def test_each_known_form_is_rejected_with_one_more_pointer(self):
+    def test_each_known_form_is_rejected_with_one_more_pointer(self) -> None:
         """A type that becomes `ptr` or a vector of pointers makes a line unknown, or is rewritten, but never stays."""
         for line in SAME.splitlines():
             for old in "i64", "i8", "i128":
@@ -182,12 +182,13 @@ int main(void) {{
 
 @unittest.skipUnless(HERE.is_dir() and shutil.which("gcc"), "no release/wasm, or no gcc")
 class Numbers(unittest.TestCase):
-    def test_numbers_of_128_bits(self):
+    def test_numbers_of_128_bits(self) -> None:
         dice, maximum = random.Random(1), 2**64 - 1
-        four_words = lambda: [
-            dice.choice((0, 1, maximum, 1 << 63, dice.getrandbits(64), dice.getrandbits(32))) for _ in range(4)
-        ]
-        operands = [(*four_words(), by) for by in range(128) for _ in range(20)]
+
+        def word() -> int:
+            return dice.choice((0, 1, maximum, 1 << 63, dice.getrandbits(64), dice.getrandbits(32)))
+
+        operands = [(word(), word(), word(), word(), shift) for shift in range(128) for _ in range(20)]
         with tempfile.TemporaryDirectory() as folder:
             source, program = Path(folder, "numbers.c"), Path(folder, "numbers")
             source.write_text(PROGRAM.format(numbers=HERE / "numbers.c"))

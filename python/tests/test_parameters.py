@@ -146,8 +146,8 @@ def plain_share(value):
 def outcome(make, value):
     """The file of an input with this value, and whether its copies are equal to it; or the kind of the error."""
     try:
-        made = make(value)
-        return made.text(), hash(made) == hash(replace(made)), made == replace(made)
+        input = make(value)
+        return input.text(), hash(input) == hash(replace(input)), input == replace(input)
     except TrlabError as error:
         assert str(error)
         return type(error)

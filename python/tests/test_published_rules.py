@@ -31,14 +31,14 @@ def late_starts(limit, road, steps):
     """The cells of the cars by step, if a car that had no gap in a step waits once more. Whether it had one is
     remembered."""
     cells = [cell for cell, sign in enumerate(road) if sign != "."]
-    speeds, was_blocked, found = [0] * len(cells), [False] * len(cells), [sorted(cells)]
+    speeds, was_blocked, cells_by_step = [0] * len(cells), [False] * len(cells), [sorted(cells)]
     for _ in range(steps):
         gaps = [(ahead - cell - 1) % len(road) for cell, ahead in zip(cells, cells[1:] + cells[:1])]
         speeds = [0 if late else min(speed + 1, limit, gap) for speed, gap, late in zip(speeds, gaps, was_blocked)]
         was_blocked = [gap == 0 for gap in gaps]
         cells = [(cell + speed) % len(road) for cell, speed in zip(cells, speeds)]
-        found.append(sorted(cells))
-    return found
+        cells_by_step.append(sorted(cells))
+    return cells_by_step
 
 
 class PublishedRules(unittest.TestCase):
@@ -70,8 +70,8 @@ class PublishedRules(unittest.TestCase):
             for seed in range(20):
                 rule = Own(RULES["benjamin"](ps=1))
                 job = Job(limit=limit, length=60, cars=25, start=random_cells(seed), rule=rule, steps=60)
-                found = [[cell for cell, sign in enumerate(shown.lanes[0]) if sign != "."] for shown in job.run()]
-                self.assertEqual(found, late_starts(limit, job.run()[0].lanes[0], 60))
+                cells_by_step = [[cell for cell, sign in enumerate(snapshot.lanes[0]) if sign != "."] for snapshot in job.run()]
+                self.assertEqual(cells_by_step, late_starts(limit, job.run()[0].lanes[0], 60))
         self.assert_alike(Own(RULES["benjamin"](ps=0, p=0.5)), Own(RULES["takayasu"](ps=0, p=0.5)))
 
     def test_symmetric_lane_changes(self):

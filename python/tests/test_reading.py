@@ -2,9 +2,10 @@
 import pickle
 import tempfile
 import unittest
+from typing import Any, Union
 
-from tests.test_arrays import needs
-from tests.test_runs import replaced_program
+from tests.processes import replaced_program
+from tests.skips import needs
 from trlab import (
     Job, Nasch, OutputFormatError, Snapshot, Snapshots, SnapshotsError, Point, Rickert, Sweep, Table, Window,
 )
@@ -19,14 +20,14 @@ RUN = "step 9\n0.1\nstep 10\n0.0\n"
 
 
 class Tables(unittest.TestCase):
-    def setUp(self):
+    def setUp(self) -> None:
         self.table = Table.read(Point, POINTS)
         self.rows = [
             Point(cars=1, cells=10, steps=1, distance=5, stopped=0, changes=0, flow_millionths=500000),
             Point(cars=2, cells=10, steps=1, distance=3, stopped=1, changes=0, flow_millionths=300000),
         ]
 
-    def test_a_table_is_like_a_list(self):
+    def test_a_table_is_like_a_list(self) -> None:
         self.assertEqual(len(self.table), 2)
         self.assertEqual(repr(self.table), "<table of 2 Points>")
         self.assertEqual(self.table, self.rows)
@@ -43,7 +44,7 @@ class Tables(unittest.TestCase):
         self.assertNotEqual(self.table, tuple(self.rows))
         self.assertRaises(IndexError, self.table.__getitem__, 2)
 
-    def test_a_table_can_be_changed(self):
+    def test_a_table_can_be_changed(self) -> None:
         new, same = self.rows[0]._replace(cars=3), self.table.copy()
         self.table.append(new)
         self.table.sort(key=lambda point: -point.cars)
@@ -62,7 +63,7 @@ class Tables(unittest.TestCase):
         self.assertEqual(len(copy), 0)
         self.assertEqual(copy.kind, Point)
 
-    def test_texts_that_are_not_tables(self):
+    def test_texts_that_are_not_tables(self) -> None:
         heading, first, second = POINTS.splitlines(True)
         for row in (
             "1,10,1,5,0,0\n", "1,10,1,5,0,0,0,0\n", "1,10,,5,0,0,0\n", ",10,1,5,0,0,0\n", "1,10,1,5,0,0,\n",
@@ -74,7 +75,7 @@ class Tables(unittest.TestCase):
         for text in "cars\n", POINTS[1:], "a" + POINTS:
             self.assertRaisesRegex(ValueError, "not the heading of Points: '", Table.read, Point, text)
 
-    def test_a_table_that_is_cut_off(self):
+    def test_a_table_that_is_cut_off(self) -> None:
         for end in range(len(POINTS)):
             text = POINTS[:end]
             if text.count("\n") and text.endswith("\n"):
@@ -83,7 +84,7 @@ class Tables(unittest.TestCase):
             else:
                 self.assertRaisesRegex(ValueError, "cut off", Table.read, Point, text)
 
-    def test_more_than_a_block(self):
+    def test_more_than_a_block(self) -> None:
         many = POINTS + 20000 * POINTS.removeprefix(HEADING)
         table = Table.read(Point, many.replace("\n", "\r\n"))
         self.assertEqual(table, 20001 * self.rows)
@@ -92,23 +93,25 @@ class Tables(unittest.TestCase):
         self.assertRaisesRegex(ValueError, "line 40004 of the table is cut off: '1,2'", Table.read, Point, many + "1,2")
 
     @needs("numpy")
-    def test_the_array_of_a_table(self):
-        made, table = Table(Point, self.rows), self.table
+    def test_the_array_of_a_table(self) -> None:
+        copy, table = Table(Point, self.rows), self.table
         self.assertEqual(table.to_numpy().tolist(), [tuple(row) for row in self.rows])
-        self.assertEqual(made.to_numpy().dtype, table.to_numpy().dtype)
-        self.assertEqual(made.to_numpy().tolist(), table.to_numpy().tolist())
+        self.assertEqual(copy.to_numpy().dtype, table.to_numpy().dtype)
+        self.assertEqual(copy.to_numpy().tolist(), table.to_numpy().tolist())
         table.to_numpy()["cars"] += 1
         table.append(self.rows[0])
         self.assertEqual(table.to_numpy()["cars"].tolist(), [1, 2, 1])
-        for empty in Table(Window), Table.read(Point, HEADING):
+        empty_tables: list[Table[Any]] = [Table(Window), Table.read(Point, HEADING)]
+        for empty in empty_tables:
             self.assertEqual(empty.to_numpy().shape, (0,))
 
     @needs("pandas")
-    def test_the_frame_of_a_table(self):
+    def test_the_frame_of_a_table(self) -> None:
         import numpy
 
         sweep = Sweep(limit=5, length=20, rule=Nasch("1/4"), warm=5, measure=9, cars=[0, 1, 7, 20]).sweep()
-        for table in sweep, Table(Point, list(sweep)), ONE.series(every=8), Table(Point):
+        tables: list[Table[Any]] = [sweep, Table(Point, list(sweep)), ONE.series(every=8), Table(Point)]
+        for table in tables:
             frame = table.to_pandas()
             counts = [name for name in table.kind._fields if name != "flow_millionths"]
             self.assertEqual([*frame.columns], [*counts, "density", "flow", "speed", "stopped_share", "change_rate"])
@@ -117,7 +120,7 @@ class Tables(unittest.TestCase):
 
 
 class Runs(unittest.TestCase):
-    def test_the_snapshots_are_those_of_the_output(self):
+    def test_the_snapshots_are_those_of_the_output(self) -> None:
         for job in ONE, TWO:
             snapshots, streamed = job.run(), list(job.snapshots())
             self.assertEqual(snapshots, streamed)
@@ -134,22 +137,22 @@ class Runs(unittest.TestCase):
             for place in len(snapshots), -len(snapshots) - 1:
                 self.assertRaises(IndexError, snapshots.__getitem__, place)
 
-    def test_snapshots_can_be_changed(self):
-        snapshots, kept = Snapshots.read(RUN), Snapshots()
-        kept.append(snapshots[1])
-        kept.extend(snapshots)
+    def test_snapshots_can_be_changed(self) -> None:
+        snapshots, chosen = Snapshots.read(RUN), Snapshots()
+        chosen.append(snapshots[1])
+        chosen.extend(snapshots)
         snapshots.reverse()
-        self.assertEqual(kept, [snapshots[0], *snapshots[::-1]])
+        self.assertEqual(chosen, [snapshots[0], *snapshots[::-1]])
         self.assertEqual(snapshots, [Snapshot(10, ("0.0",)), Snapshot(9, ("0.1",))])
         self.assertEqual(Snapshots.read(RUN), snapshots[::-1])
 
-    def test_steps_at_any_distance(self):
+    def test_steps_at_any_distance(self) -> None:
         for steps in [0], [7, 8, 9, 10, 11], [5, 55, 105], [1, 2, 5], [3, 2], [99, 1099, 2099]:
-            made = Snapshots([Snapshot(step, ("0..", ".1.")) for step in steps])
-            self.assertEqual(Snapshots.read(made.text()), made)
+            snapshots = Snapshots([Snapshot(step, ("0..", ".1.")) for step in steps])
+            self.assertEqual(Snapshots.read(snapshots.text()), snapshots)
         self.assertEqual(Snapshots.read(""), [])
 
-    def test_texts_that_are_not_runs(self):
+    def test_texts_that_are_not_runs(self) -> None:
         for text, message in {
             "fault line 1 cause 1\n": "not the heading of a snapshot of a run: 'fault",
             "step x\n0.1\n": "not the heading of a snapshot of a run: 'step x'",
@@ -162,12 +165,13 @@ class Runs(unittest.TestCase):
             self.assertRaisesRegex(ValueError, message, Snapshots.read, text)
             self.assertRaisesRegex(ValueError, message, list, snapshots_in(text.splitlines(True)))
 
-    def test_characters_that_are_not_cells(self):
+    def test_characters_that_are_not_cells(self) -> None:
         for character in "?", "A", "\xe9", " ", "-":
             for place in RUN.index(".") + 0, len(RUN) - 3:
                 text = RUN[:place] + character + RUN[place + 1:]
                 line = RUN[:place].count("\n") + 1
-                for run in text, text.encode("latin-1"), text.replace("\n", "\r\n"):
+                runs: list[Union[str, bytes]] = [text, text.encode("latin-1"), text.replace("\n", "\r\n")]
+                for run in runs:
                     with self.assertRaisesRegex(
                         OutputFormatError, f"^line {line} of the run has a character that is neither"
                     ):
@@ -178,7 +182,7 @@ class Runs(unittest.TestCase):
         ):
             self.assertRaisesRegex(OutputFormatError, "^line [246] of the run has a character", Snapshots.read, run)
 
-    def test_a_run_that_is_cut_off(self):
+    def test_a_run_that_is_cut_off(self) -> None:
         text = TWO.run().text()
         headings = [place for place in range(len(text) + 1) if text.startswith("step ", place)]
         for end in range(headings[1], len(text)):
@@ -188,7 +192,7 @@ class Runs(unittest.TestCase):
             else:
                 self.assertRaisesRegex(ValueError, "cut off in the snapshot of 's", Snapshots.read, text[:end])
 
-    def test_a_program_that_cuts_its_output_off(self):
+    def test_a_program_that_cuts_its_output_off(self) -> None:
         job = Job(limit=5, length=3, cars=0, rule=Nasch(0), steps=1)
         for status in 0, 4:
             with tempfile.TemporaryDirectory() as folder:
@@ -199,17 +203,17 @@ class Runs(unittest.TestCase):
                     )
 
     @needs("numpy")
-    def test_arrays_of_snapshots(self):
+    def test_arrays_of_snapshots(self) -> None:
         import numpy
 
         for job in ONE, TWO:
             snapshots = job.run()
-            made = Snapshots([*snapshots])
+            copy = Snapshots([*snapshots])
             expected = [
                 [[-1 if speed is None else speed for speed in lane] for lane in snapshot.speeds()]
                 for snapshot in snapshots
             ]
-            for result in snapshots, made:
+            for result in snapshots, copy:
                 array = result.speeds("int16", empty=-1)
                 self.assertEqual(array.tolist(), expected)
                 self.assertEqual(array.dtype, "int16")
@@ -234,7 +238,7 @@ class Runs(unittest.TestCase):
         )
 
     @needs("numpy")
-    def test_arithmetic_with_speeds_does_not_overflow(self):
+    def test_arithmetic_with_speeds_does_not_overflow(self) -> None:
         import numpy
 
         snapshots = Job(limit=35, length=400, cars=10, start=random_cells(1, None), rule=Nasch("1/4"), steps=99).run()
@@ -264,7 +268,7 @@ class Runs(unittest.TestCase):
                 )
 
     @needs("pandas")
-    def test_frames_of_snapshots(self):
+    def test_frames_of_snapshots(self) -> None:
         for snapshots in ONE.run(), TWO.run(), TWO.run()[::-2], TWO.run() + ONE.run(), Snapshots():
             expected = [
                 [snapshot.step, lane, cell, speed]

@@ -8,7 +8,7 @@ from unittest import mock
 
 from tests.by_pictures import windows
 from tests.random_jobs import needs_hypothesis
-from tests.test_arrays import needs
+from tests.skips import needs
 from trlab import (
     Job, Nasch, OutputFormatError, Point, RenamedError, Rickert, Snapshots, SnapshotsError, Sweep, Table, Window,
 )

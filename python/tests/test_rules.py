@@ -10,7 +10,7 @@ from fractions import Fraction
 
 import trlab
 from tests.expected import ALWAYS, HALF, QUARTER, THIRD
-from tests.random_functions import Tried, run_program
+from tests.random_functions import RandomFunction, run_program
 from trlab import Job, Nasch, Own, ParameterError, Rickert, RuleError, SlowToStart, check, random_cells
 from trlab._rules.functions import rules_in
 from trlab.rule import main
@@ -160,11 +160,11 @@ class Random(unittest.TestCase):
         # tools/functions tries many more.
         accepted = 0
         for seed in range(FUNCTIONS):
-            tried = Tried(f"unit {seed}")
-            self.assertFalse(tried.has_other_error(), tried)
-            if tried.program is not None:
+            function = RandomFunction(f"unit {seed}")
+            self.assertFalse(function.has_other_error(), function)
+            if function.program is not None:
                 accepted += 1
-                self.assertIsNone(tried.difference(30), tried)
+                self.assertIsNone(function.difference(30), function)
         self.assertGreater(accepted, FUNCTIONS / 2)
 
 

@@ -1,21 +1,22 @@
 """Runs of the program: the results contain its output, and its rejections are raised."""
 import os
 import signal
-import stat
 import tempfile
 import unittest
 import warnings
+from collections.abc import Callable
 from dataclasses import replace
 from pathlib import Path
-from unittest import mock
+from typing import Any, Optional
 
 from tests.by_pictures import windows
 from tests.expected import DEVICE_FAILED, MORE_THAN_THE_GAP, NEEDS_TWO_LANES, QUARTER, WRONG_ARGUMENTS
+from tests.processes import replaced_program
 from tests.waiting import holds
 from trlab import (
     Job, Nasch, Own, ParameterError, Point, ProgramError, RejectedInputError, RenamedError, Rickert, SlowToStart,
 )
-from trlab import Snapshots, Sweep, Table, Window
+from trlab import Rule, Snapshots, Sweep, Table, Window
 from trlab import check, even, find_program, jammed, moving, random_cells, read_tables, run_all, write_inputs
 from trlab._results.tables import point_of
 from trlab._runs.calls import ask
@@ -25,20 +26,12 @@ EXAMPLES = Path(__file__).resolve().parents[2] / "examples"
 HALF = "motion\nget r0, gap\ndiv r0, r0, 2\nget r1, limit\nmin r0, r0, r1\ngo r0\n"
 
 
-def example(name):
+def example(name: str) -> str:
     return (EXAMPLES / name).read_text()
 
 
-def replaced_program(folder, lines):
-    """A program of a few lines of the shell."""
-    path = Path(folder) / "trlab"
-    path.write_text('#!/bin/sh\n[ "$1" != --version ] || exec echo trlab 0\n' + lines)
-    path.chmod(path.stat().st_mode | stat.S_IXUSR)
-    return mock.patch.dict(os.environ, TRLAB=str(path))
-
-
 class Sweeps(unittest.TestCase):
-    def test_the_example(self):
+    def test_the_example(self) -> None:
         cars = [int(line[5:]) for line in example("fundamental_diagram.sweep").splitlines() if line.startswith("cars ")]
         sweep = Sweep(limit=5, length=1000, rule=Nasch(0.25), warm=200, measure=400, cars=cars)
         self.assertEqual(sweep.text(), example("fundamental_diagram.sweep"))
@@ -46,22 +39,23 @@ class Sweeps(unittest.TestCase):
         self.assertEqual(table.text(), example("fundamental_diagram.csv"))
         self.assertEqual(table, Table.read(Point, table.text()))
 
-    def test_the_values_of_a_point(self):
+    def test_the_values_of_a_point(self) -> None:
         point = Point(cars=4, cells=20, steps=10, distance=60, stopped=8, changes=0, flow_millionths=300000)
         self.assertEqual(point.density, 0.2)
         self.assertEqual(point.flow, 0.3)
         self.assertEqual(point.speed, 1.5)
         self.assertEqual(point.stopped_share, 0.2)
 
-    def test_no_other_table_is_read(self):
+    def test_no_other_table_is_read(self) -> None:
         self.assertRaisesRegex(
             ValueError, "not the heading of Windows", Table.read, Window, example("fundamental_diagram.csv")
         )
 
 
 class Runs(unittest.TestCase):
-    def test_the_example(self):
-        job = Job(limit=5, start=[0, None, 0] + 7 * [None], rule=Nasch(0), steps=4)
+    def test_the_example(self) -> None:
+        two_cars: list[Optional[float]] = [0, None, 0, *7 * [None]]
+        job = Job(limit=5, start=two_cars, rule=Nasch(0), steps=4)
         self.assertEqual(job.text(), example("two_cars.job"))
         snapshots = job.run(workers=3)
         text = "".join(
@@ -71,12 +65,12 @@ class Runs(unittest.TestCase):
         self.assertEqual(snapshots[4].speeds(), [[None, None, 4, None, None, None, None, 3, None, None]])
         self.assertEqual(list(job.snapshots()), snapshots)
 
-    def test_a_run_can_be_left(self):
-        snapshots = Job(limit=5, length=1000, cars=100, rule=Nasch(0), steps=500000).snapshots()
+    def test_a_run_can_be_left(self) -> None:
+        snapshots: Any = Job(limit=5, length=1000, cars=100, rule=Nasch(0), steps=500000).snapshots()
         self.assertEqual(next(snapshots).step, 0)
         snapshots.close()
 
-    def test_every_nth_snapshot(self):
+    def test_every_nth_snapshot(self) -> None:
         one_lane = Job(limit=5, length=60, density=0.3, start=random_cells(1), rule=Nasch(0.25), steps=50, key=7)
         two_lanes = Job(
             limit=3, length=40, lanes=2, cars=20, start=random_cells(2), rule=Rickert(0.25, 1), steps=50,
@@ -91,7 +85,7 @@ class Runs(unittest.TestCase):
                     self.assertEqual(list(job.snapshots(every=every, first=first)), shown)
                     self.assertEqual(shown.text(), Snapshots.read(shown.text()).text())
 
-    def test_options_of_a_run(self):
+    def test_options_of_a_run(self) -> None:
         job = Job(limit=5, start=[0, None], rule=Nasch(0), steps=5)
         with tempfile.TemporaryDirectory() as folder:
             with replaced_program(folder, f'echo $@ >>{folder}/words\nexec "{find_program()}" "$@"\n'):
@@ -107,13 +101,14 @@ class Runs(unittest.TestCase):
             calls, ["run --workers 3", "run --every 10 --from 5 --workers 3", "run --every 4 --from 1 --workers 2"]
         )
 
-    def test_numbers_of_steps_are_checked(self):
+    def test_numbers_of_steps_are_checked(self) -> None:
         job = Job(limit=5, start=[0, None], rule=Nasch(0), steps=5)
+        calls: list[Callable[..., object]] = [job.run, job.series, lambda **options: list(job.snapshots(**options))]
         for options in {"every": 0}, {"every": 500001}, {"first": -1}, {"first": 500001}:
-            for call in job.run, job.series, lambda **options: list(job.snapshots(**options)):
+            for call in calls:
                 self.assertRaisesRegex(ParameterError, "(every|first) must be between", call, **options)
 
-    def test_more_than_a_pipe_can_hold(self):
+    def test_more_than_a_pipe_can_hold(self) -> None:
         job = Job(limit=5, length=100000, density=1, lanes=2, rule=Rickert(0, 1), steps=1)
         self.assertEqual([snapshot.lanes for snapshot in job.run()], 2 * [2 * (100000 * "0",)])
 
@@ -128,9 +123,10 @@ class Series(unittest.TestCase):
         Job(limit=1, length=1, lanes=2, cars=0, rule=Nasch(0), steps=3),
     ]
 
-    def test_snapshots_have_the_counts_of_a_sweep(self):
+    def test_snapshots_have_the_counts_of_a_sweep(self) -> None:
         # On one lane, or if all cars start on lane 0 of two, a job numbers its cars as the first point of a sweep does.
-        for lanes, cars, rule in (1, 17, Nasch(0.25)), (2, 20, Rickert(0.25, 0.75)):
+        roads: list[tuple[int, int, Rule]] = [(1, 17, Nasch(0.25)), (2, 20, Rickert(0.25, 0.75))]
+        for lanes, cars, rule in roads:
             with warnings.catch_warnings():
                 warnings.simplefilter("ignore")
                 sweep = Sweep(limit=5, length=60, lanes=lanes, rule=rule, warm=20, measure=100, cars=[cars])
@@ -140,7 +136,7 @@ class Series(unittest.TestCase):
             self.assertEqual(point_of(window), point)
             self.assertEqual(window.changes > 0, lanes == 2)
 
-    def test_the_table_is_that_of_the_snapshots(self):
+    def test_the_table_is_that_of_the_snapshots(self) -> None:
         for job in self.JOBS:
             widths = [
                 (every, first) for every in range(1, job.steps + 1, 3) for first in (0, 1, 5) if first < job.steps
@@ -149,7 +145,7 @@ class Series(unittest.TestCase):
                 table = job.series(every=every, first=first, workers=2)
                 self.assertEqual(table, list(windows(job.snapshots(), every, first)))
 
-    def test_options_of_a_series(self):
+    def test_options_of_a_series(self) -> None:
         job = self.JOBS[0]
         with tempfile.TemporaryDirectory() as folder:
             with replaced_program(folder, f'echo $@ >{folder}/words\ntee {folder}/text | "{find_program()}" "$@"\n'):
@@ -160,7 +156,7 @@ class Series(unittest.TestCase):
 
 
 class Rejections(unittest.TestCase):
-    def test_a_rejected_job(self):
+    def test_a_rejected_job(self) -> None:
         with self.assertRaises(RejectedInputError) as caught:
             Job(limit=5, length=10, cars=2, rule=Rickert(0, 1), steps=1).run()
         rejected = caught.exception
@@ -173,13 +169,13 @@ class Rejections(unittest.TestCase):
         self.assertTrue(rejected.explanation.startswith("fault line 5 cause 4\n"))
         self.assertEqual(str(rejected), rejected.explanation)
 
-    def test_a_rejected_sweep(self):
+    def test_a_rejected_sweep(self) -> None:
         with self.assertRaises(RejectedInputError) as caught:
             Sweep(limit=5, length=10, rule=Rickert(0, 1), warm=1, measure=1, cars=[1]).sweep()
         self.assertEqual(caught.exception.line, 6)
         self.assertEqual(caught.exception.cause, NEEDS_TWO_LANES)
 
-    def test_an_accepted_and_a_rejected_program(self):
+    def test_an_accepted_and_a_rejected_program(self) -> None:
         accepted = check(HALF)
         self.assertEqual(accepted.budget, 5)
         self.assertEqual(accepted.program, HALF.removeprefix("motion\n"))
@@ -194,7 +190,7 @@ class Rejections(unittest.TestCase):
             self.assertIn(part, str(rejected))
         self.assertEqual(len(rejected.facts), 2)
 
-    def test_the_repair_of_a_rejected_job(self):
+    def test_the_repair_of_a_rejected_job(self) -> None:
         text = Job(limit=5, length=10, cars=2, rule=Nasch(0), steps=1).text()
         rejected_text = text.replace("nasch 0", "nasch 0.25")
         with self.assertRaises(RejectedInputError) as caught:
@@ -203,11 +199,11 @@ class Rejections(unittest.TestCase):
         self.assertEqual(rejected.line, 5)
         self.assertEqual(rejected.first, 12)
         self.assertEqual(rejected.last, 15)
-        self.assertIn("0.25", rejected.found)
+        self.assertIn("0.25", rejected.found or "")
         [repair] = rejected.repairs
         self.assertEqual(repair["edits"], [{"line": 5, "first": 12, "last": 15, "replacement": str(QUARTER)}])
 
-    def test_arguments_that_are_rejected(self):
+    def test_arguments_that_are_rejected(self) -> None:
         with self.assertRaises(ProgramError) as caught:
             ask(["run", "--workers", "17"], Job(limit=5, length=10, cars=2, rule=Nasch(0), steps=1).text())
         self.assertEqual(caught.exception.status, WRONG_ARGUMENTS)
@@ -215,7 +211,7 @@ class Rejections(unittest.TestCase):
         with self.assertRaisesRegex(RenamedError, "`message`"):
             caught.exception.said
 
-    def test_a_run_that_ends_early_is_not_a_result(self):
+    def test_a_run_that_ends_early_is_not_a_result(self) -> None:
         with tempfile.TemporaryDirectory() as folder, replaced_program(
             folder, "echo step 0; echo .; echo full >&2; exit 4\n"
         ):
@@ -224,9 +220,9 @@ class Rejections(unittest.TestCase):
         self.assertEqual(caught.exception.status, DEVICE_FAILED)
         self.assertEqual(str(caught.exception), "trlab ended with status 4: full")
 
-    def test_a_stopped_run_leaves_no_process(self):
+    def test_a_stopped_run_leaves_no_process(self) -> None:
         """The program interrupts the reader, as Ctrl-C does, when a file says that it has read the first snapshot."""
-        def interrupt(*_):
+        def interrupt(*_: object) -> None:
             raise KeyboardInterrupt
 
         self.addCleanup(signal.signal, signal.SIGALRM, signal.signal(signal.SIGALRM, interrupt))
@@ -246,18 +242,19 @@ class Rejections(unittest.TestCase):
 
 
 class Many(unittest.TestCase):
-    def setUp(self):
+    def setUp(self) -> None:
         shape = Sweep(limit=5, length=100, rule=Nasch(0.25), warm=10, measure=20, cars=[10, 20])
         self.sweeps = [replace(shape, key=key) for key in range(5)]
 
-    def test_results_are_in_the_order_of_the_inputs(self):
+    def test_results_are_in_the_order_of_the_inputs(self) -> None:
         self.assertEqual(run_all(self.sweeps, Sweep.sweep, at_once=3), [sweep.sweep() for sweep in self.sweeps])
 
-    def test_the_first_that_fails(self):
+    def test_the_first_that_fails(self) -> None:
         with self.assertRaisesRegex(RejectedInputError, "fault line 5 cause 4"):
-            run_all([Job(limit=5, length=5, cars=1, rule=rule, steps=1) for rule in (Nasch(0), Rickert(0, 0))], Job.run)
+            rules: list[Rule] = [Nasch(0), Rickert(0, 0)]
+            run_all([Job(limit=5, length=5, cars=1, rule=rule, steps=1) for rule in rules], Job.run)
 
-    def test_by_files(self):
+    def test_by_files(self) -> None:
         with tempfile.TemporaryDirectory(prefix="a blank ") as folder:
             script = write_inputs(folder, {f"key_{sweep.key}": sweep for sweep in self.sweeps}, program=find_program())
             self.assertEqual((Path(folder) / "key_3.sweep").read_text(), self.sweeps[3].text())

@@ -14,7 +14,7 @@ from pathlib import Path
 
 import trlab
 from tests.processes import PYTHON
-from tests.test_arrays import needs
+from tests.skips import needs
 from trlab import (
     Grid, Job, Nasch, ParameterError, StudyFileError, Sweep, Table, Window, find_program, moving, random_cells,
 )

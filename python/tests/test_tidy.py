@@ -257,16 +257,16 @@ class Ensembles(unittest.TestCase):
             {"start": trlab.moving}, {"start": trlab.jammed}, {"start": random_cells(3)}, {"at": {3: Rickert(0, 0)}},
             {"length": 40, "lanes": 1, "rule": Nasch(0.25)},
         ]
-        made = self.ensembles(
+        ensembles = self.ensembles(
             lambda at, seed, key: Job(**{**usual, **others[at]}, key=key), at=range(len(others)), seed=[0, 1]
         )
-        self.assertEqual(len(made), len(others))
+        self.assertEqual(len(ensembles), len(others))
         sweep = {"limit": 5, "length": 20, "rule": Nasch(0.25), "warm": 3, "measure": 6, "cars": [4]}
         changed = [{}, {"warm": 4}, {"measure": 7}, {"cars": [5]}, {"start": random_cells(1)}]
         swept = self.ensembles(
             lambda at, seed, key: Sweep(**{**sweep, **changed[at]}, key=key), at=range(len(changed)), seed=[0, 1]
         )
-        self.assertEqual(len(swept | made), len(changed) + len(others))
+        self.assertEqual(len(swept | ensembles), len(changed) + len(others))
 
 
 if __name__ == "__main__":

@@ -6,7 +6,7 @@ from typing import NamedTuple
 
 from tests.by_pictures import windows
 from tests.random_jobs import needs_hypothesis
-from tests.test_arrays import needs
+from tests.skips import needs
 from trlab import Job, Nasch, Own, ParameterError, Rickert, SlowToStart, Snapshot, Snapshots, SnapshotsError, jammed
 from trlab import random_cells
 from trlab._inputs.states import SPEEDS
@@ -217,8 +217,8 @@ class Paths(unittest.TestCase):
                         for cells, lanes in zip(paths.cell, paths.lane)
                     ]
                     steps = zip(cars, cars[1:], passed(paths, first, lane), passed(paths, second, lane))
-                    for before, after, came, left in steps:
-                        self.assertEqual(after + left, before + came)
+                    for before, after, entered, left in steps:
+                        self.assertEqual(after + left, before + entered)
 
     def test_jams_are_painted_areas(self):
         for job in ONE_LANE + TWO_LANES:

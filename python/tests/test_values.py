@@ -8,15 +8,17 @@ import random as standard_random
 import re
 import tempfile
 import unittest
+from collections.abc import Callable
 from concurrent.futures import ProcessPoolExecutor
 from dataclasses import replace
 from multiprocessing import Pool
 from pathlib import Path
+from typing import Any
 from unittest import mock
 
 import trlab
 from tests.expected import NEEDS_TWO_LANES
-from tests.test_arrays import needs
+from tests.skips import needs
 from tests.waiting import LIMIT
 from trlab import (
     Job, Nasch, Own, Snapshot, Snapshots, Point, RejectedInputError, RenamedError, Rickert, SlowToStart, Sweep, Table,
@@ -33,7 +35,7 @@ STOP = "motion\nnum r0, 0\ngo r0\n"
 
 
 class Values(unittest.TestCase):
-    def test_equal_inputs_are_equal_and_hash_alike(self):
+    def test_equal_inputs_are_equal_and_hash_alike(self) -> None:
         for first, second in (
             (random_cells(1), random_cells(1)),
             (JOB, replace(JOB, start=random_cells(1), at={4: Nasch(0)})),
@@ -47,14 +49,14 @@ class Values(unittest.TestCase):
         self.assertNotEqual(JOB, replace(JOB, start=jammed))
         self.assertEqual(len({JOB, replace(JOB), replace(JOB, key=1)}), 2)
 
-    def test_all_can_be_pickled(self):
+    def test_all_can_be_pickled(self) -> None:
         for value in JOB, SWEEP, random_cells(3), JOB.run(), JOB.series(every=3), SWEEP.sweep():
             self.assertEqual(pickle.loads(pickle.dumps(value)), value)
         table = pickle.loads(pickle.dumps(SWEEP.sweep()))
         self.assertIs(type(table), Table)
         self.assertEqual(table.kind, Point)
 
-    def test_errors_can_be_pickled(self):
+    def test_errors_can_be_pickled(self) -> None:
         with self.assertRaises(RejectedInputError) as caught:
             replace(JOB, rule=Rickert(0, 0)).run()
         for error in caught.exception, ProgramError(4, "full"):
@@ -63,7 +65,7 @@ class Values(unittest.TestCase):
             self.assertEqual(str(copy), str(error))
             self.assertEqual(vars(copy), vars(error))
 
-    def test_errors_come_out_of_other_processes(self):
+    def test_errors_come_out_of_other_processes(self) -> None:
         rejected = replace(JOB, rule=Rickert(0, 0))
         with ProcessPoolExecutor(1) as processes:
             with self.assertRaises(RejectedInputError) as caught:
@@ -76,7 +78,7 @@ class Values(unittest.TestCase):
                 timeout=LIMIT,
             )
 
-    def test_parts_and_sums_keep_their_type(self):
+    def test_parts_and_sums_keep_their_type(self) -> None:
         table, snapshots = SWEEP.sweep(), JOB.run()
         for part in table[:2], table[::-1], table + table[1:], table.copy():
             self.assertIs(type(part), Table)
@@ -88,14 +90,14 @@ class Values(unittest.TestCase):
         self.assertEqual(snapshots[:3] + snapshots[3:], snapshots)
         self.assertIs(type(snapshots[0]), Snapshot)
 
-    def test_a_long_result_has_a_short_name(self):
+    def test_a_long_result_has_a_short_name(self) -> None:
         self.assertEqual(repr(JOB.run()), "<10 snapshots of 1 x 20 cells, steps 0 to 9>")
         self.assertEqual(repr(SWEEP.sweep()), "<table of 3 Points>")
         self.assertEqual(repr(Table(Window)), "<table of 0 Windows>")
         self.assertEqual(repr(Snapshots()), "<no snapshots>")
 
-    def test_a_star_import_leaves_names_of_python(self):
-        names = {}
+    def test_a_star_import_leaves_names_of_python(self) -> None:
+        names: dict[str, object] = {}
         exec("from trlab import *", names)
         self.assertFalse({"map", "random"} & set(names))
         self.assertTrue(set(trlab.__all__) <= set(names))
@@ -104,17 +106,17 @@ class Values(unittest.TestCase):
 
 
 class Construction(unittest.TestCase):
-    def test_a_probability_that_files_would_round_to_0_or_1(self):
+    def test_a_probability_that_files_would_round_to_0_or_1(self) -> None:
         for number, nearest in (1e-12, 0), (1 - 1e-12, 1):
             self.assertRaisesRegex(ParameterError, f"brake is .*, which is {nearest} in multiples", Nasch, number)
         self.assertEqual(Nasch(2**-31).lines(), ["rule nasch 1"])
 
-    def rejects(self, error, name, call, *others, **values):
+    def rejects(self, error: type[Exception], name: str, call: Callable[..., object], *others: object, **values: object) -> None:
         with self.assertRaisesRegex(error, name):
             call(*others, **values)
 
-    def test_numbers_are_in_their_ranges(self):
-        job = dict(limit=5, length=10, cars=1, rule=Nasch(0), steps=1)
+    def test_numbers_are_in_their_ranges(self) -> None:
+        job: dict[str, Any] = dict(limit=5, length=10, cars=1, rule=Nasch(0), steps=1)
         for name, values in {
             "limit": (0, 36), "length": (0, 100001), "steps": (-1,), "lanes": (0, 3), "cars": (-1, 11),
             "key": (-1, 2**256)
@@ -123,19 +125,20 @@ class Construction(unittest.TestCase):
                 self.rejects(ValueError, name, Job, **{**job, name: value})
         for name in "limit", "length", "steps", "cars":
             self.rejects(TypeError, f"{name} must be a whole number, .*, not 1.0", Job, **{**job, name: 1.0})
-        sweep = dict(limit=5, length=10, rule=Nasch(0), warm=0, measure=1, cars=[1])
-        for name, value in dict(warm=-1, measure=0, cars=[11], length=100001, limit=36, lanes=3, key="7").items():
-            self.rejects(ValueError, name, Sweep, **{**sweep, name: value})
+        sweep: dict[str, Any] = dict(limit=5, length=10, rule=Nasch(0), warm=0, measure=1, cars=[1])
+        wrong: dict[str, object] = dict(warm=-1, measure=0, cars=[11], length=100001, limit=36, lanes=3, key="7")
+        for name, wrong_value in wrong.items():
+            self.rejects(ValueError, name, Sweep, **{**sweep, name: wrong_value})
         for name in "limit", "length", "warm", "measure":
             self.rejects(TypeError, f"{name} must be a whole number, .*, not 1000.0", Sweep, **{**sweep, name: 1e3})
         self.rejects(ValueError, "at least one point", Sweep, **{**sweep, "cars": []})
-        for values in 20, "20":
+        for no_list in 20, "20":
             self.rejects(
-                TypeError, "cars must be a list with a number for each point", Sweep, **{**sweep, "cars": values}
+                TypeError, "cars must be a list with a number for each point", Sweep, **{**sweep, "cars": no_list}
             )
-            self.rejects(TypeError, "densities must be a list", Sweep, **{**sweep, "cars": None, "densities": values})
+            self.rejects(TypeError, "densities must be a list", Sweep, **{**sweep, "cars": None, "densities": no_list})
 
-    def test_the_largest_numbers_are_those_of_the_program(self):
+    def test_the_largest_numbers_are_those_of_the_program(self) -> None:
         lines = ["limit 35", "length 100000", "lanes 1", "rule nasch 0", "warm 0", "measure 1", "cars 100000"]
         self.assertTrue(ask(["sweep"], "\n".join(["sweep 1", "key " + 64 * "0", *lines])))
         for changed_line in "limit 36", "length 100001", "measure 500001", "cars 100001":
@@ -145,13 +148,13 @@ class Construction(unittest.TestCase):
                 RejectedInputError, "^fault line ", ask, ["sweep"], "\n".join(["sweep 1", "key " + 64 * "0", *changed])
             )
 
-    def test_a_probability_is_checked_in_the_constructor(self):
+    def test_a_probability_is_checked_in_the_constructor(self) -> None:
         for call in (
             (lambda: Nasch(25)), (lambda: SlowToStart(0, 2)), (lambda: Rickert(-1, 0)), (lambda: Rickert(0, "5/4")),
         ):
             self.assertRaisesRegex(ValueError, "(brake|stopped|change) must be between 0 and 1", call)
 
-    def test_values_that_are_not_numbers(self):
+    def test_values_that_are_not_numbers(self) -> None:
         for probability in "a quarter", "1/0", float("nan"), float("inf"):
             self.rejects(
                 ValueError, re.escape(f"brake must be a number between 0 and 1, not {probability!r}"), Nasch,
@@ -161,24 +164,26 @@ class Construction(unittest.TestCase):
         self.rejects(TypeError, "brake must be a number between 0 and 1, not None", Nasch, None)
         self.rejects(TypeError, "key must be a whole number or 64 hexadecimal digits, not 1.0", replace, JOB, key=1.0)
 
-    def test_cars_or_a_density(self):
-        for cars in {}, {"cars": 1, "density": 0.1}:
+    def test_cars_or_a_density(self) -> None:
+        wrong_cars: list[dict[str, Any]] = [{}, {"cars": 1, "density": 0.1}]
+        for cars in wrong_cars:
             self.assertRaisesRegex(
                 ValueError, "either `cars` or `density`", Job, limit=5, length=10, rule=Nasch(0), steps=1, **cars
             )
 
-    def test_options_have_names(self):
+    def test_options_have_names(self) -> None:
         # A reader of `run(10)` cannot know whether 10 is a number of steps or of threads.
-        for call in JOB.run, JOB.snapshots, JOB.series, SWEEP.sweep:
+        calls: list[Callable[..., object]] = [JOB.run, JOB.snapshots, JOB.series, SWEEP.sweep]
+        for call in calls:
             self.assertRaisesRegex(TypeError, "positional argument", call, 1)
 
-    def test_old_names_name_the_new_ones(self):
+    def test_old_names_name_the_new_ones(self) -> None:
         for name, new in ("pictures", "snapshots"), ("wait", "time_until"):
             self.rejects(RenamedError, f"a job has no `{name}` .* use `{new}", getattr, JOB, name)
         self.assertFalse(hasattr(JOB, "nothing"))
 
-    def test_a_road_has_one_lane_or_two(self):
-        job = dict(limit=5, rule=Nasch(0), steps=1)
+    def test_a_road_has_one_lane_or_two(self) -> None:
+        job: dict[str, Any] = dict(limit=5, rule=Nasch(0), steps=1)
         for road in (
             [[[[0]]]], [[0], [0], [0]], ["0", "0", "0"], [0.5], [True, False], [-2], [], [[], []], "", 7, None, {0: 5},
             b"0",
@@ -188,8 +193,8 @@ class Construction(unittest.TestCase):
             self.rejects(ValueError, "the lanes have [12] and [01] cells", Job, **job, start=road)
         self.rejects(ValueError, "1 to 100000 cells, not 100001", Job, **job, start=100001 * ".")
 
-    def test_no_car_is_faster_than_the_limit(self):
-        job = dict(limit=5, rule=Nasch(0), steps=1)
+    def test_no_car_is_faster_than_the_limit(self) -> None:
+        job: dict[str, Any] = dict(limit=5, rule=Nasch(0), steps=1)
         for start in [6], [[None], [36]]:
             self.rejects(ValueError, "the limit is 5 cells per step", Job, **job, start=start)
         self.rejects(
@@ -197,7 +202,7 @@ class Construction(unittest.TestCase):
         )
         self.rejects(ValueError, "the speed 6, and the limit is 5", replace, SWEEP, start=random_cells(1, speed=6))
 
-    def test_a_start_is_one_of_those_that_are_known(self):
+    def test_a_start_is_one_of_those_that_are_known(self) -> None:
         self.rejects(ValueError, "one of even, jammed, random, not 'everywhere'", InitialState, placement="everywhere")
         self.rejects(TypeError, "seed must be a whole number, .*, not None", InitialState, placement="random")
         for seed in -1, 2**256:
@@ -206,8 +211,8 @@ class Construction(unittest.TestCase):
         self.rejects(TypeError, "speed must be a whole number", random_cells, seed=1, speed=0.5)
         self.rejects(ValueError, "speed must be between 0 and 35, not 36", random_cells, seed=1, speed=36)
 
-    def test_later_rules_have_steps_of_the_run(self):
-        job = dict(limit=5, length=10, cars=1, rule=Nasch(0), steps=9)
+    def test_later_rules_have_steps_of_the_run(self) -> None:
+        job: dict[str, Any] = dict(limit=5, length=10, cars=1, rule=Nasch(0), steps=9)
         self.rejects(ValueError, "must be below `steps`, which is 9, not 9", Job, **job, at={9: Nasch(1)})
         self.rejects(ValueError, "a step of `at` must be at least 0, not -1", Job, **job, at={-1: Nasch(1)})
         self.rejects(
@@ -217,7 +222,7 @@ class Construction(unittest.TestCase):
         self.rejects(TypeError, "a rule is Nasch, SlowToStart, Rickert or Own, not 0.25", Job, **{**job, "rule": 0.25})
         self.rejects(TypeError, "a rule is Nasch, SlowToStart, Rickert or Own, not None", replace, SWEEP, rule=None)
 
-    def test_later_rules_cannot_be_changed(self):
+    def test_later_rules_cannot_be_changed(self) -> None:
         rules = {4: Nasch(1), 2: Nasch(0)}
         job = Job(limit=5, length=10, cars=1, rule=Nasch(0), steps=9, at=rules)
         rules[5] = Nasch(0.5)
@@ -225,12 +230,12 @@ class Construction(unittest.TestCase):
         self.assertEqual(list(job.at), [2, 4])
         self.assertEqual(len(job.at), 2)
         with self.assertRaisesRegex(TypeError, "does not support item assignment"):
-            job.at[3] = Nasch(0)
+            job.at[3] = Nasch(0)  # type: ignore[index]
         self.assertEqual(job.at, replace(job).at)
         self.assertEqual(hash(job), hash(replace(job)))
         self.assertEqual(pickle.loads(pickle.dumps(job.at)), job.at)
 
-    def test_a_program_is_checked_in_the_constructor(self):
+    def test_a_program_is_checked_in_the_constructor(self) -> None:
         for program, error, message in (
             ("", ValueError, "the motion program is empty"), (" \n", ValueError, "is empty"),
             ("change\nstay\n", ValueError, "this is a change program, and a motion program is needed"),
@@ -243,20 +248,21 @@ class Construction(unittest.TestCase):
         )
         self.assertEqual(Own("code 54\n").lines(), ["rule own", "code 54"])
 
-    def test_programs_between_triple_quotes(self):
+    def test_programs_between_triple_quotes(self) -> None:
         self.assertEqual(check("\n" + STOP), check(STOP))
         self.assertEqual(Own("\n\n" + STOP).lines(), Own(STOP[:-1]).lines())
 
     @needs("numpy")
-    def test_numbers_of_numpy(self):
+    def test_numbers_of_numpy(self) -> None:
         import numpy
 
         densities = replace(SWEEP, cars=None, densities=numpy.linspace(0, 1, 3))
         self.assertEqual(densities.text(), replace(SWEEP, cars=[0, 10, 20]).text())
         self.assertEqual(replace(SWEEP, cars=numpy.array([1, 2, 4])).text(), SWEEP.text())
         self.assertEqual(Nasch(numpy.float32(0.25)).lines(), Nasch(0.25).lines())
-        self.assertEqual(random_cells(numpy.int64(3)), random_cells(3))
-        self.assertEqual(hash(random_cells(numpy.int64(3))), hash(random_cells(3)))
+        seed: Any = numpy.int64(3)
+        self.assertEqual(random_cells(seed), random_cells(3))
+        self.assertEqual(hash(random_cells(seed)), hash(random_cells(3)))
         for shape in (3, 1, 1), (3, 4):
             self.rejects(
                 ValueError, "a road is a list", Job, limit=5, start=numpy.zeros(shape, int), rule=Nasch(0), steps=1
@@ -264,17 +270,17 @@ class Construction(unittest.TestCase):
 
 
 class Descriptions(unittest.TestCase):
-    def test_the_description_of_an_input(self):
+    def test_the_description_of_an_input(self) -> None:
         self.assertEqual(explain(JOB), explain(JOB.text()))
         self.assertIn("cause 1", explain("road 2\n"))
 
-    def test_the_version(self):
+    def test_the_version(self) -> None:
         first, logic, digest = version().split("\n")
         self.assertEqual(first, f"trlab {trlab.__version__}")
         self.assertRegex(logic, "^proved in logic [0-9a-f]{16}$")
         self.assertEqual(digest, f"SHA-256 {self.digest(find_program())}")
 
-    def test_the_program_behind_a_script(self):
+    def test_the_program_behind_a_script(self) -> None:
         program = find_program()
         with tempfile.TemporaryDirectory() as folder:
             script = Path(folder) / "trlab"
@@ -284,5 +290,5 @@ class Descriptions(unittest.TestCase):
                 self.assertEqual(find_program(), str(script))
                 self.assertEqual(version().split("\n")[2], f"SHA-256 {self.digest(program)}")
 
-    def digest(self, program):
+    def digest(self, program: str) -> str:
         return hashlib.sha256(Path(program).read_bytes()).hexdigest()

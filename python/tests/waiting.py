@@ -21,12 +21,12 @@ def holds(condition: Callable[[], object]) -> bool:
 
 def first_of(call: Callable[[], Optional[Value]]) -> Value:
     """The first value of a repeated call that is not None."""
-    found: list[Value] = []
+    values: list[Value] = []
 
     def has_come() -> bool:
-        found.extend(value for value in [call()] if value is not None)
-        return bool(found)
+        values.extend(value for value in [call()] if value is not None)
+        return bool(values)
 
     if not holds(has_come):
         raise TimeoutError("nothing came before the limit")
-    return found[0]
+    return values[0]

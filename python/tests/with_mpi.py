@@ -11,7 +11,7 @@ from tests.test_many import REJECTED, Executors, windows  # noqa: E402
 import trlab  # noqa: E402
 
 
-def main():
+def main() -> None:
     from mpi4py.futures import MPIPoolExecutor
 
     with MPIPoolExecutor() as pool, tempfile.TemporaryDirectory() as cache:

@@ -15,6 +15,7 @@ returns. Inputs, runs and their rows need no other package; frames, arrays, esti
 matplotlib: `pip install "trlab[analysis]"`. The environment variable `TRLAB` may hold the path of the program (see
 `find_program`)."""
 from importlib import import_module as _import_module
+from typing import Any as _Any
 
 from . import exact as exact
 from ._errors import (
@@ -71,12 +72,12 @@ __all__ = [
 ]
 
 
-def __getattr__(name: str) -> object:
+def __getattr__(name: str) -> _Any:
     """A name that needs a library, which is imported when it is first used. Raises `RenamedError` for an old name."""
     _renamed("trlab", name, _IN_PACKAGE)
     for module, names in _ANALYSIS.items():
         if name in names:
-            value: object = getattr(_import_module(f"trlab.{module}"), name)
+            value = getattr(_import_module(f"trlab.{module}"), name)
             globals()[name] = value
             return value
     raise AttributeError(f"module 'trlab' has no attribute {name!r}")

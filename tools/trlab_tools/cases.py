@@ -44,7 +44,7 @@ def line_of(text: str, number: int) -> Optional[str]:
     """A line of a part, with this number among repeated lines; None if it is malformed."""
     if not re.fullmatch(r"([^\\]|\\[strk0\\])*\\?", text):
         return None
-    written = re.sub(r"\\(.)", lambda it: str(number) if it[1] == "k" else ESCAPES[it[1]], text)
+    written = re.sub(r"\\(.)", lambda escape: str(number) if escape[1] == "k" else ESCAPES[escape[1]], text)
     return written[:-1] if re.search(r"(?<!\\)(\\\\)*\\$", text) else written + "\n"
 
 
@@ -87,7 +87,7 @@ def calls_of(part: Part, front: str) -> Optional[tuple[list[list[str]], str]]:
     return None
 
 
-def wanted_by(part: Part) -> Optional[tuple[int, bytes, str]]:
+def expected_by(part: Part) -> Optional[tuple[int, bytes, str]]:
     """The status, the output and its extent that a part requires; None if it is not an answer."""
     if part.words == "status" and part.text and part.text.strip().isdigit():
         return int(part.text), b"", "nothing"
@@ -103,18 +103,18 @@ def cases_of(name: str, content: str) -> Iterator[Case]:
     title, front, command = "", "", None
     for part in parts_of(content):
         if command:
-            wanted = wanted_by(part)
+            expected = expected_by(part)
             line, (calls, given) = command
-            if not wanted or not calls:
+            if not expected or not calls:
                 raise Broken(f"line {part.line}")
-            yield Case(f"{name}, line {line}, {title}", calls, given.encode(), *wanted)
+            yield Case(f"{name}, line {line}, {title}", calls, given.encode(), *expected)
             command = None
         elif part.words.startswith("== ") and not part.text:
             title = part.words[3:]
         elif part.words == "front":
             front = part.text or ""
-        elif found := calls_of(part, front):
-            command = part.line, found
+        elif calls_of_part := calls_of(part, front):
+            command = part.line, calls_of_part
         else:
             raise Broken(f"line {part.line}")
     if command:

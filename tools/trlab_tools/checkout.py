@@ -79,15 +79,15 @@ class Checkout:
 
     def release(self, program: str = RELEASED, for_v3: Optional[str] = None) -> "Checkout":
         """Releases a program of the present sources; the one for x86-64-v3 may differ."""
-        programs = [it.encode() for it in (program, for_v3 or program)]
+        programs = [content.encode() for content in (program, for_v3 or program)]
         script = os.path.join(self.top, "release", "sources")
         sources = subprocess.run([script], capture_output=True, check=True, text=True).stdout
         with open(os.path.join(self.top, "release", "release.txt"), "w", encoding="utf-8") as file:
             file.write(f"sources {sources}kit that-kit\n")
-            file.writelines(f"{level} {hashlib.sha256(it).hexdigest()}\n" for level, it in zip(LEVELS, programs))
-        for path, it in zip(self.packed(), programs):
+            file.writelines(f"{level} {hashlib.sha256(content).hexdigest()}\n" for level, content in zip(LEVELS, programs))
+        for path, content in zip(self.packed(), programs):
             with gzip.open(path, "w") as file:
-                file.write(it)
+                file.write(content)
         return self
 
     def on(self, *has: str) -> "Checkout":
@@ -101,9 +101,9 @@ class Checkout:
 
     def moved(self, how: str) -> "Checkout":
         """Continues in a different checkout, which a shell command makes from this one, `$0`, as `$1`."""
-        to = os.path.join(self.folder, "another checkout")
-        subprocess.run(["bash", "-euo", "pipefail", "-c", how, self.top, to], check=True, capture_output=True)
-        self.top = to
+        target = os.path.join(self.folder, "another checkout")
+        subprocess.run(["bash", "-euo", "pipefail", "-c", how, self.top, target], check=True, capture_output=True)
+        self.top = target
         return self
 
     def start(

@@ -45,8 +45,8 @@ def calls_of(texts: Iterable[tuple[str, list[str], bytes]]) -> Iterator[Call]:
 
 
 def by_program(program: str, call: Call) -> Ended:
-    ran = subprocess.run([program, *call.words], input=call.text, capture_output=True)
-    return Ended(ran.returncode, ran.stdout, ran.stderr)
+    process = subprocess.run([program, *call.words], input=call.text, capture_output=True)
+    return Ended(process.returncode, process.stdout, process.stderr)
 
 
 def by_node(page: Union[str, PathLike[str]], calls: Iterable[Call]) -> Iterator[Ended]:
@@ -77,9 +77,9 @@ def compare(
     """Note for each call of each input whether both programs end in the same way."""
     calls = list(calls_of(texts))
     answers = 0
-    for call, found in zip(calls, by_node(page, calls)):
+    for call, answer in zip(calls, by_node(page, calls)):
         answers += 1
-        wanted = by_program(program, call)
-        message = f"{call.name}: `trlab {' '.join(call.words)}` ends with {found}, but {program} with {wanted}"
-        count.note(found == wanted, message[:2000])
+        expected = by_program(program, call)
+        message = f"{call.name}: `trlab {' '.join(call.words)}` ends with {answer}, but {program} with {expected}"
+        count.note(answer == expected, message[:2000])
     count.note(answers == len(calls), f"Node answered {answers} of {len(calls)} calls")

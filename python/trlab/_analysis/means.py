@@ -83,8 +83,8 @@ def _check_columns(frame: pandas.DataFrame, chosen: Sequence[str]) -> None:
     for name in chosen:
         if name not in frame:
             raise FrameError(f"{name!r} is not a column of this frame, which has {list(frame)}")
-    made = ["n", *(f"{name}_sem" for name in chosen)]
-    clash = [name for name in made if name in (*frame, *frame.index.names)]
+    new_columns = ["n", *(f"{name}_sem" for name in chosen)]
+    clash = [name for name in new_columns if name in (*frame, *frame.index.names)]
     if clash:
         raise FrameError(
             f"the column `{clash[0]}` would be overwritten by a column of the means: give it another name"

@@ -224,10 +224,10 @@ def _check_make(make: Callable[..., Input], names: Sequence[str]) -> None:
         ) from None
 
 
-def _checked(made: object) -> Input:
-    if not isinstance(made, (Job, Sweep)):
-        raise ParameterError(f"`make` must return a Job or a Sweep, not {made!r}")
-    return made
+def _checked(input: object) -> Input:
+    if not isinstance(input, (Job, Sweep)):
+        raise ParameterError(f"`make` must return a Job or a Sweep, not {input!r}")
+    return input
 
 
 def _is_fraction(value: object) -> bool:

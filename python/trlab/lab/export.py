@@ -51,7 +51,7 @@ def page_of(snapshots: Snapshots, limit: Optional[int] = None, title: str = "") 
     they are too long, or if a car is faster than `limit`."""
     if not snapshots or snapshots[0].step != 0:
         raise ValueError("a page needs the snapshots of a run from step 0 on")
-    lines = (line for it in snapshots for line in (f"step {it.step}", *it.lanes))
+    lines = (line for shot in snapshots for line in (f"step {shot.step}", *shot.lanes))
     fastest = max([1, *(SPEEDS.find(sign) for snapshot in snapshots for sign in set().union(*snapshot.lanes))])
     most = fastest if limit is None else checked_int("limit", limit, fastest, MAX_SPEED)
     return _page((line + "\n" for line in lines), most, title)
@@ -103,11 +103,11 @@ def _model(text: str) -> str:
 def _decimal(number: str) -> float:
     """The shortest decimal of a probability in a file."""
     exact = int(number) / ALWAYS
-    return next(it for digits in range(12) if parts(it := round(exact, digits)) == int(number))
+    return next(decimal for digits in range(12) if parts(decimal := round(exact, digits)) == int(number))
 
 
 def _parts() -> str:
     """The parts of the page that play a run."""
     page = (HERE / "page.html").read_text("utf-8")
     forms = r'<figure class="ring">.*?</figure>', r'<section class="transport".*?</section>', r'<section class="time".*?role="status"></p>'
-    return "\n".join(found[0] for form in forms if (found := re.search(form, page, re.S)))
+    return "\n".join(match[0] for form in forms if (match := re.search(form, page, re.S)))

@@ -20,28 +20,28 @@ def answer(text: bytes) -> bytes:
         raise ValueError(f"{type(error).__name__}: {error}") from None
 
 
-def translated(asked: Answer) -> Answer:
+def translated(request: Answer) -> Answer:
     """The programs of the rules that are `chosen` by their kind, or else the first ones, of a Python `text`, with the `values` of
     parameters by rule. At an error only its `line` (0 if it has none) and its `message`."""
-    found: Answer = {"names": {}, "parameters": [], "budgets": {}}
+    answer: Answer = {"names": {}, "parameters": [], "budgets": {}}
     try:
-        rules = rules_in(asked["text"], "your rules")
+        rules = rules_in(request["text"], "your rules")
         for kind in ("motion", "change"):
             names = [name for name, rule in rules.items() if rule.kind == kind]
-            chosen = asked["chosen"].get(kind)
+            chosen = request["chosen"].get(kind)
             name = chosen if chosen in names else next(iter(names), None)
-            found["names"][kind], found[kind] = names, None
+            answer["names"][kind], answer[kind] = names, None
             if name is not None:
-                values = _known(asked["values"].get(name, {}), rules[name])
+                values = _known(request["values"].get(name, {}), rules[name])
                 program = rules[name](**values)
-                found[kind], found["budgets"][name] = program, program.budget
+                answer[kind], answer["budgets"][name] = program, program.budget
                 shown = {**rules[name].parameters, **values}
-                found["parameters"] += [it for it in (_slider(rules[name], *pair) for pair in shown.items()) if it]
+                answer["parameters"] += [slider for slider in (_slider(rules[name], *pair) for pair in shown.items()) if slider]
     except RuleError as error:
         return {"line": error.line, "message": error.message}
     except ParameterError as error:
         return {"line": 0, "message": str(error)}
-    return found
+    return answer
 
 
 def _known(values: Answer, rule: PythonRule) -> Answer:

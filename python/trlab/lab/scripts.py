@@ -35,7 +35,7 @@ def _scopes(name: str, exported: dict[str, list[str]]) -> list[str]:
         missing = set(imported.split(", ")) - set(exported[other])
         if missing:
             raise ValueError(f"{name}.js imports {min(missing)}, which {other}.js does not export")
-    exported[name] = [found for _, found in _EXPORT.findall(text)]
+    exported[name] = [exported_name for _, exported_name in _EXPORT.findall(text)]
     text = _EXPORT.sub(r"\1", _IMPORT.sub(r"const { \1 } = modules.\2;\n", text))
     return [*scopes, "modules.%s = (() => {\n%sreturn { %s };\n})();\n" % (name, text, ", ".join(exported[name]))]
 

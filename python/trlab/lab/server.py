@@ -232,8 +232,8 @@ class Page(BaseHTTPRequestHandler):
 
     def skipped(self) -> int:
         """How many bytes of the output the page does not need: `?skip=N`."""
-        found = re.search(r"\?skip=([0-9]{1,15})$", self.path, re.ASCII)
-        return int(found[1]) if found else 0
+        match = re.search(r"\?skip=([0-9]{1,15})$", self.path, re.ASCII)
+        return int(match[1]) if match else 0
 
     def take_turn(self, name: str, text: bytes) -> None:
         """Stream the output of a command, as soon as a processor is free. Its chunks show whether it is whole."""

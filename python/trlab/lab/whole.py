@@ -23,10 +23,10 @@ _POLICY = (
 def whole_page(module: bytes, inputs: Mapping[str, str]) -> str:
     """The page with a module and example inputs, by file name. Rules in Python are left out, because they need the server."""
     script, style = joined("page"), (HERE / "page.css").read_text("utf-8")
-    kept = {name: text for name, text in inputs.items() if not name.endswith(".py")}
+    examples = {name: text for name, text in inputs.items() if not name.endswith(".py")}
     policy = _POLICY.format(script=sum_of(script), style=sum_of(style))
     parts = [
-        element(json.dumps(kept).replace("<", "\\u003c"), 'type="application/json" id="examples"'),
+        element(json.dumps(examples).replace("<", "\\u003c"), 'type="application/json" id="examples"'),
         element(json.dumps(film_page()).replace("<", "\\u003c"), 'type="application/json" id="filmpage"'),
         element(joined("worker"), 'type="text/plain" id="worker"'),
         element(base64.b64encode(gzip.compress(module, 9, mtime=0)).decode(), 'type="text/plain" id="program"'),

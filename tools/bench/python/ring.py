@@ -20,10 +20,10 @@ def read_job(text: str) -> tuple[int, bytes, int, int]:
 def measured(call: Callable[[], object]) -> None:
     """Prints the minimum time of a call on standard error: wall-clock time and CPU time, in seconds. The environment
     variable TURNS sets the number of calls in one process, because Python itself starts slowly."""
-    took = []
+    times = []
     for _ in range(int(os.environ.get("TURNS", 1))):
         clock, cpu = time.perf_counter(), time.process_time()
         call()
         sys.stdout.buffer.flush()
-        took.append((time.perf_counter() - clock, time.process_time() - cpu))
-    print(*map(min, zip(*took)), file=sys.stderr)
+        times.append((time.perf_counter() - clock, time.process_time() - cpu))
+    print(*map(min, zip(*times)), file=sys.stderr)

@@ -36,9 +36,9 @@ def one_window(programs: Programs, rule: str, lanes: int, times: int, folder: st
                 "a sweep": ([programs.trlab, "sweep"], points, first)}
     whole = measuring.best_of({name: (command, text) for name, (command, text, _) in commands.items()}, times)
     idle = measuring.best_of({name: (command, text) for name, (command, _, text) in commands.items()}, times)
-    took = {name: a_move(whole[name], idle[name], lanes * CARS * STEPS) for name in commands}
-    row = Row(f"series of one window, `{rule}`", lanes, CELLS, lanes * CARS, {"trlab": took["series"]})
-    others = {name: (took[name].cpu, took["series"].cpu / took[name].cpu) for name in ("a run", "a sweep")}
+    moves = {name: a_move(whole[name], idle[name], lanes * CARS * STEPS) for name in commands}
+    row = Row(f"series of one window, `{rule}`", lanes, CELLS, lanes * CARS, {"trlab": moves["series"]})
+    others = {name: (moves[name].cpu, moves["series"].cpu / moves[name].cpu) for name in ("a run", "a sweep")}
     beside = ", ".join(f"{name} {time:.1f} ({ratio:.2f})" for name, (time, ratio) in others.items())
     wanted = (wish("a sweep at most 1.02", others["a sweep"][1] <= 1.02),)
     return row._replace(beside=beside, wanted=wanted)
@@ -49,11 +49,11 @@ def many_windows(programs: Programs, times: int, folder: str) -> Row:
     rule = "nasch 536870912"
     path = measuring.write(os.path.join(folder, "windows"), measuring.job(["0" + 9 * "."], rule, WINDOWS))
     runs = {word: ([programs.trlab, word], path) for word in ("series", "run")}
-    took = {word: a_move(time, (0, 0), WINDOWS) for word, time in measuring.best_of(runs, times).items()}
-    ratio = took["series"].cpu / took["run"].cpu
-    row = Row(f"series of {WINDOWS} windows, `{rule}`", 1, 10, 1, {"trlab": took["series"]})
+    moves = {word: a_move(time, (0, 0), WINDOWS) for word, time in measuring.best_of(runs, times).items()}
+    ratio = moves["series"].cpu / moves["run"].cpu
+    row = Row(f"series of {WINDOWS} windows, `{rule}`", 1, 10, 1, {"trlab": moves["series"]})
     wanted = (wish("a run at most 3", ratio <= 3),)
-    return row._replace(beside=f"a run {took['run'].cpu:.1f} ({ratio:.2f})", wanted=wanted)
+    return row._replace(beside=f"a run {moves['run'].cpu:.1f} ({ratio:.2f})", wanted=wanted)
 
 
 def memory(programs: Programs, folder: str) -> Row:

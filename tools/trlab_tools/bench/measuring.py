@@ -33,8 +33,8 @@ class Time(NamedTuple):
 def level(program: str) -> str:
     """The processor level for which a program is compiled. Its message for older processors names this level."""
     with open(program, "rb") as file:
-        named = re.search(rb"x86-64-v[1-4]", file.read())
-    return named[0].decode() if named else "x86-64"
+        match = re.search(rb"x86-64-v[1-4]", file.read())
+    return match[0].decode() if match else "x86-64"
 
 
 def build(level: str, features: Sequence[str] = ()) -> list[str]:
@@ -101,10 +101,10 @@ def write(path: str, text: bytes) -> str:
 def timed(command: Sequence[str], path: str) -> Time:
     """The time of a run on the input in a file, in seconds; its output is discarded."""
     with open(path, "rb") as text:
-        began = time.perf_counter()
+        start = time.perf_counter()
         program = subprocess.Popen(command, stdin=text, stdout=subprocess.DEVNULL)
         _, status, used = os.wait4(program.pid, 0)
-        clock = time.perf_counter() - began
+        clock = time.perf_counter() - start
     program.returncode = os.waitstatus_to_exitcode(status)
     if program.returncode != 0:
         sys.exit(f"{' '.join(command)} ended with {program.returncode}")
@@ -115,8 +115,8 @@ def own_time(command: Sequence[str], path: str) -> Time:
     """The best time of `REPEATS` turns, in seconds, which a program measures itself and prints on standard error."""
     env = {**os.environ, "TURNS": str(REPEATS)}
     with open(path, "rb") as text:
-        ran = subprocess.run(command, stdin=text, stdout=subprocess.DEVNULL, stderr=subprocess.PIPE, check=True, env=env)
-    return Time(*map(float, ran.stderr.split()))
+        process = subprocess.run(command, stdin=text, stdout=subprocess.DEVNULL, stderr=subprocess.PIPE, check=True, env=env)
+    return Time(*map(float, process.stderr.split()))
 
 
 def once(command: Sequence[str], path: str, measure: Callable[[Sequence[str], str], Time] = timed) -> Time:
@@ -127,11 +127,11 @@ def once(command: Sequence[str], path: str, measure: Callable[[Sequence[str], st
 def turns(runs: Mapping[Name, tuple[Any, ...]], times: int) -> dict[Name, list[Time]]:
     """The times of runs, by their names. The runs alternate, `times` times each. A run is a command, the path of its input,
     and the function that measures it, if that is not `timed`."""
-    took: dict[Name, list[Time]] = {name: [] for name in runs}
+    times_by_name: dict[Name, list[Time]] = {name: [] for name in runs}
     for _ in range(times):
         for name, run in runs.items():
-            took[name].append(once(*run))
-    return took
+            times_by_name[name].append(once(*run))
+    return times_by_name
 
 
 def best(times: Iterable[Time]) -> Time:
@@ -149,13 +149,13 @@ def settled(times: Iterable[Time]) -> bool:
 def best_of(runs: Mapping[Name, tuple[Any, ...]], count: int) -> dict[Name, Time]:
     """The best times of runs, by their names. The runs alternate `count` times, and those whose two smallest times differ up
     to `LONGEST` times as often, because on a shared machine even the best of a few runs may be disturbed."""
-    took = turns(runs, count)
+    times_by_name = turns(runs, count)
     for _ in range((LONGEST - 1) * count):
-        more = {name: run for name, run in runs.items() if not settled(took[name])}
+        more = {name: run for name, run in runs.items() if not settled(times_by_name[name])}
         for name, times in turns(more, 1).items():
-            took[name] += times
-    SETTLED.extend(settled(times) for times in took.values())
-    return {name: best(times) for name, times in took.items()}
+            times_by_name[name] += times
+    SETTLED.extend(settled(times) for times in times_by_name.values())
+    return {name: best(times) for name, times in times_by_name.items()}
 
 
 def agreement() -> str:
@@ -180,9 +180,9 @@ def compare(commands: Sequence[Sequence[str]], path: str, folder: str) -> None:
     """Runs each command on an input once, and ends if two outputs differ."""
     outputs = [os.path.join(folder, f"output{k}") for k in range(len(commands))]
     for command, output in zip(commands, outputs):
-        with open(path, "rb") as text, open(output, "wb") as out:
-            ran = subprocess.run(command, stdin=text, stdout=out, stderr=subprocess.PIPE)
-        if ran.returncode != 0:
-            sys.exit(f"{' '.join(command)} ended with {ran.returncode}: {ran.stderr.decode()}")
+        with open(path, "rb") as text, open(output, "wb") as file:
+            process = subprocess.run(command, stdin=text, stdout=file, stderr=subprocess.PIPE)
+        if process.returncode != 0:
+            sys.exit(f"{' '.join(command)} ended with {process.returncode}: {process.stderr.decode()}")
         if not filecmp.cmp(outputs[0], output, shallow=False):
             sys.exit(f"{' '.join(command)} and {' '.join(commands[0])} write different outputs for {path}")

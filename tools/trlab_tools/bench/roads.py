@@ -86,9 +86,9 @@ def fitting_steps(road: Road, path: str, seconds_of: Callable[[str], float], mos
     """The number of steps with which a run takes about SECONDS."""
     steps = 1
     while steps < most:
-        took = seconds_of(road.write(path, steps))
-        if took > SECONDS / 4:
-            return max(1, min(most, int(steps * SECONDS / took)))
+        seconds = seconds_of(road.write(path, steps))
+        if seconds > SECONDS / 4:
+            return max(1, min(most, int(steps * SECONDS / seconds)))
         steps *= 8
     return most
 
@@ -137,27 +137,27 @@ def measure(programs: Programs, road: Road, times: int, folder: str) -> Row:
     if programs.numba and road.rule.startswith("nasch"):
         whole |= measuring.best_of(by_numba(programs.numba, path), times // measuring.REPEATS)
         idle |= {"numba": measuring.Time(0, 0), TUNED + "numba": measuring.Time(0, 0)}
-    took = {name: a_move(whole[name], idle[name], road.cars() * steps) for name in whole}
+    times_per_move = {name: a_move(whole[name], idle[name], road.cars() * steps) for name in whole}
     if programs.numpy and road.rule.startswith("nasch"):
-        took["NumPy"] = by_numpy(programs, road, folder, times)
-    return row_of(road, took)
+        times_per_move["NumPy"] = by_numpy(programs, road, folder, times)
+    return row_of(road, times_per_move)
 
 
 def wish_of(what: str, bound: float, row: Row, name: str) -> str:
     return wish(what, row.ratio(name) <= bound) if name in row.times else f"{what} (not measured)"
 
 
-def row_of(road: Road, took: dict[str, measuring.Time]) -> Row:
+def row_of(road: Road, times: dict[str, measuring.Time]) -> Row:
     """The row of a road, with its wanted values."""
-    what = f"`{road.rule}`" if road.density is not None else f"heap, `{road.rule}`"
-    row = Row(what, road.lanes, road.cells, road.cars(), took)
-    wide = ", ".join(f"{name} {row.cell(WIDE + name)}" for name in ("plain", "interpreter") if WIDE + name in took)
-    tuned = f"numba tuned {row.cell(TUNED + 'numba')}" if TUNED + "numba" in took and road.wanted() else ""
-    beside = "; ".join(filter(None, [wide and f"with eight words at once {wide}", tuned]))
+    title = f"`{road.rule}`" if road.density is not None else f"heap, `{road.rule}`"
+    row = Row(title, road.lanes, road.cells, road.cars(), times)
+    with_wide_words = ", ".join(f"{name} {row.cell(WIDE + name)}" for name in ("plain", "interpreter") if WIDE + name in times)
+    tuned = f"numba tuned {row.cell(TUNED + 'numba')}" if TUNED + "numba" in times and road.wanted() else ""
+    beside = "; ".join(filter(None, [with_wide_words and f"with eight words at once {with_wide_words}", tuned]))
     wanted = [wish_of(f"{name} at most {bound}", bound, row, name) for name, bound in road.wanted().items()]
     if road.size() == SMALL_BLOCK_CARS and road.rule in WANTED_TIMES:
         bound = WANTED_TIMES[road.rule]
-        wanted.append(wish(f"at most {bound} ns", took["trlab"].cpu <= bound))
+        wanted.append(wish(f"at most {bound} ns", times["trlab"].cpu <= bound))
     return row._replace(beside=beside, wanted=tuple(wanted))
 
 
@@ -173,8 +173,8 @@ def growth(programs: Programs, times: int, folder: str) -> Row:
     whole, idle, whole_of_small, idle_of_small = measuring.best_of(dict(enumerate(texts)), times).values()
     step, step_of_small = a_move(whole, idle, steps), a_move(whole_of_small, idle_of_small, steps)
     ratio = step.cpu / step_of_small.cpu
-    took = {"trlab": a_move(whole, idle, steps * large.cells)}
-    row = Row(f"heap, `{HEAP}`", 2, large.cells, large.cars(), took)
+    per_move = {"trlab": a_move(whole, idle, steps * large.cells)}
+    row = Row(f"heap, `{HEAP}`", 2, large.cells, large.cars(), per_move)
     wanted = (wish("at most 4.5 times", ratio <= 4.5),)
     return row._replace(beside=f"{ratio:.2f} times a step of 16000 cells", wanted=wanted)
 

@@ -100,7 +100,7 @@ def as_data(rows: list[dict[str, str]]) -> str:
 
 def as_page(rows: list[dict[str, str]]) -> str:
     """The rows of the page in Markdown, below their heading, without columns that are empty."""
-    found = [row for wanted in ROWS_OF_PAGE for row in rows if (row["what"], int(row["cells"] or 0), int(row["cars"] or 0)) == wanted]
-    columns = [column for column in COLUMNS_OF_PAGE if any(row.get(column) for row in found)]
+    shown_rows = [row for key in ROWS_OF_PAGE for row in rows if (row["what"], int(row["cells"] or 0), int(row["cars"] or 0)) == key]
+    columns = [column for column in COLUMNS_OF_PAGE if any(row.get(column) for row in shown_rows)]
     names = [NAMES_ON_PAGE.get(column, column) for column in columns]
-    return "\n".join(heading(names) + [line(row[column] for column in columns) for row in found]) + "\n"
+    return "\n".join(heading(names) + [line(row[column] for column in columns) for row in shown_rows]) + "\n"

@@ -37,9 +37,9 @@ class Shared(NamedTuple):
     def name(self, count: int) -> str:
         return f"{count} {self.who}{'s' if count > 1 else ''}"
 
-    def a_move(self, took: Sequence[measuring.Time], runs: int = 1) -> measuring.Time:
+    def a_move(self, times: Sequence[measuring.Time], runs: int = 1) -> measuring.Time:
         """The nanoseconds per car and step in the best turn, with `runs` runs at once."""
-        return a_move(measuring.best(took), (0, 0), self.cars * self.steps * runs)
+        return a_move(measuring.best(times), (0, 0), self.cars * self.steps * runs)
 
 
 def a_sweep(points: int, cells: int, steps: int) -> Shared:
@@ -98,22 +98,22 @@ def rows_of(
     runs["plain"] = plain, path
     if shared.command == "run":
         runs["four runs at once"] = ["sh", "-c", AT_ONCE, programs.trlab, path, os.devnull], path
-    took = measuring.turns(runs, times)
-    plain_time = shared.a_move(took.pop("plain"))
-    for name, each in took.items():
-        yield row_of(shared, name, each, took[shared.name(1)], plain_time, bound)
+    times_by_name = measuring.turns(runs, times)
+    plain_time = shared.a_move(times_by_name.pop("plain"))
+    for name, times_of_run in times_by_name.items():
+        yield row_of(shared, name, times_of_run, times_by_name[shared.name(1)], plain_time, bound)
 
 
 def row_of(
-    shared: Shared, name: str, took: list[measuring.Time], alone: list[measuring.Time], plain_time: measuring.Time,
+    shared: Shared, name: str, times: list[measuring.Time], alone: list[measuring.Time], plain_time: measuring.Time,
     bound: Optional[float],
 ) -> Row:
     """The row with this name. Its speed-up over one worker or runner is wall-clock time, the median of the turns."""
     runs = 4 if name == "four runs at once" else 1
-    row = Row(f"{shared.what}, {name}", shared.lanes, shared.cells, shared.cars, {"trlab": shared.a_move(took, runs)})
-    if took is alone:
+    row = Row(f"{shared.what}, {name}", shared.lanes, shared.cells, shared.cars, {"trlab": shared.a_move(times, runs)})
+    if times is alone:
         return row._replace(times={**row.times, "plain": plain_time})
-    faster = statistics.median(runs * one.clock / each.clock for one, each in zip(alone, took))
+    faster = statistics.median(runs * one.clock / each.clock for one, each in zip(alone, times))
     row = row._replace(beside=f"{faster:.2f} times as fast as one")
     if bound is None or name != shared.name(4):
         return row
@@ -131,8 +131,8 @@ def sweep_over_run(programs: Programs, cells: int, cars: int, bound: float, time
         path = measuring.write(os.path.join(folder, f"sweep {count}"), measuring.sweep(BRAKING, cells, [cars], count))
         runs[f"sweep {count}"] = [programs.trlab, "sweep"], path
         measuring.compare([[programs.plain, "sweep"], [programs.trlab, "sweep"]], path, folder)
-    ran, started, swept, stepped = measuring.best_of(runs, times).values()
-    one, other = a_move(swept, stepped, cars * steps), a_move(ran, started, cars * steps)
+    run_time, run_start, sweep_time, sweep_start = measuring.best_of(runs, times).values()
+    one, other = a_move(sweep_time, sweep_start, cars * steps), a_move(run_time, run_start, cars * steps)
     row = Row(f"sweep of one point, `{BRAKING}`", 1, cells, cars, {"trlab": one})
     ratio = one.cpu / other.cpu
     wanted = (wish(f"a run at most {bound}", ratio <= bound),)

@@ -16,12 +16,12 @@ SWITCHES = "voluntary_ctxt_switches:", "nonvoluntary_ctxt_switches:"
 
 def switches_of(pid: int) -> dict[str, int]:
     """The number of context switches of each thread of a process."""
-    found = {}
+    switches = {}
     for thread in os.listdir(f"/proc/{pid}/task"):
         with open(f"/proc/{pid}/task/{thread}/status") as status:
             words = [line.split() for line in status]
-        found[thread] = sum(int(word[1]) for word in words if word[0] in SWITCHES)
-    return found
+        switches[thread] = sum(int(word[1]) for word in words if word[0] in SWITCHES)
+    return switches
 
 
 def settled(program: Process, seconds: float) -> tuple[int, int]:

@@ -28,15 +28,15 @@ Bodies = dict[tuple[str, str], list[tuple[str, str]]]
 
 def bodies() -> Bodies:
     """The bodies of all functions by crate and name; several methods of a trait may have the same name."""
-    found: Bodies = collections.defaultdict(list)
+    bodies_by_name: Bodies = collections.defaultdict(list)
     crates = os.path.join(TOP, "crates")
     for path in glob.glob(os.path.join(crates, "*", "src", "**", "*.rt"), recursive=True):
         crate, _, file = os.path.relpath(path, crates).partition(os.sep)
-        with open(path, encoding="utf-8") as it:
-            text = it.read()
+        with open(path, encoding="utf-8") as source:
+            text = source.read()
         for function in functions_in(file, text):
-            found[crate, function.name].append((function.owner, text[function.body:function.end]))
-    return found
+            bodies_by_name[crate, function.name].append((function.owner, text[function.body:function.end]))
+    return bodies_by_name
 
 
 def bodies_of(row: Row, every: Bodies) -> list[str]:
@@ -49,13 +49,13 @@ def rows(block: str) -> Iterator[tuple[Row, Optional[Row]]]:
     """The rows of a block, each with the row of its caller, or with None."""
     above: list[Row] = []
     for line in block.splitlines():
-        found = ROW.fullmatch(line)
-        if not found or len(found[1]) % 2 or len(found[1]) // 2 > len(above):
+        match = ROW.fullmatch(line)
+        if not match or len(match[1]) % 2 or len(match[1]) // 2 > len(above):
             yield Row(0, line, ""), None
             continue
-        del above[len(found[1]) // 2:]
+        del above[len(match[1]) // 2:]
         caller = above[-1] if above else None
-        above.append(Row(len(above), found[2], found[3] or (caller.crate if caller else "")))
+        above.append(Row(len(above), match[2], match[3] or (caller.crate if caller else "")))
         yield above[-1], caller
 
 

@@ -7,8 +7,8 @@ END = "<!-- end -->\n"
 
 def put(document: Path, begin: str, table: str) -> None:
     """Put a table between the comment `begin` and the next end."""
-    before, begun, rest = document.read_text("utf-8").partition(begin)
+    before, marker, rest = document.read_text("utf-8").partition(begin)
     _, end, after = rest.partition(END)
-    if not (begun and end):
+    if not (marker and end):
         sys.exit(f"{document} has no place for the table")
-    document.write_text(before + begun + table + end + after, "utf-8")
+    document.write_text(before + marker + table + end + after, "utf-8")

@@ -32,9 +32,9 @@ NAME_ON_PAGE = re.compile(r"[>\"]([^<>\"\n]+)[<\"]")
 
 def words_are_few() -> Verdicts:
     """No page has more words outside its blocks than it may have."""
-    for name, most in MAX_WORDS_OUTSIDE_BLOCKS.items():
+    for name, maximum in MAX_WORDS_OUTSIDE_BLOCKS.items():
         words = len(standing.FENCED.sub("", standing.content(name)).split())
-        yield words <= most, f"{name} has {words} words outside its blocks, and may have {most} at most"
+        yield words <= maximum, f"{name} has {words} words outside its blocks, and may have {maximum} at most"
 
 
 def index_has_all_pages() -> Verdicts:
@@ -85,8 +85,8 @@ def published_rules_are_listed() -> Verdicts:
 def solutions_are_measured() -> Verdicts:
     """Each number in the solutions of the course is in a stored output of its notebook, which ./test notebook runs."""
     cells = json.loads(standing.content(NOTEBOOK))["cells"]
-    printed = "".join("".join(output.get("text", "")) for cell in cells for output in cell.get("outputs", ()))
-    measured = set(map(float, re.findall(r"\d+(?:\.\d+)?", printed)))
+    outputs = "".join("".join(output.get("text", "")) for cell in cells for output in cell.get("outputs", ()))
+    measured = set(map(float, re.findall(r"\d+(?:\.\d+)?", outputs)))
     cited = SOLUTION.findall(NO_RESULTS.sub("", match_in(SOLUTIONS, standing.content(COURSE))[1]))
     yield len(cited) > 50, f"{COURSE} has no solutions with numbers"
     for number in cited:
@@ -102,7 +102,7 @@ def controls_are_on_the_page() -> Verdicts:
 
 
 def verdicts() -> Verdicts:
-    for tried in (
+    for test in (
         words_are_few,
         index_has_all_pages,
         reproduced_numbers_are_of_studies,
@@ -112,4 +112,4 @@ def verdicts() -> Verdicts:
         solutions_are_measured,
         controls_are_on_the_page,
     ):
-        yield from tried()
+        yield from test()

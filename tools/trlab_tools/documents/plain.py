@@ -54,8 +54,8 @@ def literals(path: str) -> str:
 
 def docstrings(path: str) -> str:
     """The docstrings of a Python file."""
-    found = (ast.get_docstring(node) for node in ast.walk(ast.parse(content(path))) if isinstance(node, DOCUMENTED))
-    return " ".join(text for text in found if text)
+    texts = (ast.get_docstring(node) for node in ast.walk(ast.parse(content(path))) if isinstance(node, DOCUMENTED))
+    return " ".join(text for text in texts if text)
 
 
 def texts() -> Iterator[tuple[str, str]]:
@@ -86,12 +86,12 @@ def path_of(kind: str, name: str) -> str:
 def pages_are_connected() -> Verdicts:
     """Whether the pages of each kind together have enough of each connecting word, and the mean length of their sentences."""
     for kind, names in CONNECTED.items():
-        found = [words for name in names for words in sentences(content(path_of(kind, name)))]
-        words = re.findall(r"[a-z][\w'-]*", " ".join(" ".join(words) for words in found).lower())
+        all_sentences = [words for name in names for words in sentences(content(path_of(kind, name)))]
+        words = re.findall(r"[a-z][\w'-]*", " ".join(" ".join(words) for words in all_sentences).lower())
         for word, least in CONNECTING.items():
             share = 1000 * words.count(word) / len(words)
             yield share >= least, f"the {kind} have only {share:.1f} {word!r} per 1000 words: give reasons, contrasts and advice"
-        mean = sum(map(len, found)) / len(found)
+        mean = sum(map(len, all_sentences)) / len(all_sentences)
         yield MEAN_SENTENCE[0] <= mean <= MEAN_SENTENCE[1], f"the sentences of the {kind} have {mean:.1f} words on average"
 
 

@@ -82,16 +82,16 @@ def value_in(module: ast.Module, name: str) -> ast.expr:
 
 def definitions_of(path: Path) -> dict[str, Definition]:
     """Each class, function and named value of a file, with its docstring: that of a value is below it."""
-    found: dict[str, Definition] = {}
+    definitions: dict[str, Definition] = {}
     body = tree(path).body
     for node, after in zip(body, [*body[1:], None]):
         name = assigned(node)
         if isinstance(node, (ast.ClassDef, Function)):
-            found[node.name] = node, ast.get_docstring(node) or ""
+            definitions[node.name] = node, ast.get_docstring(node) or ""
         elif name:
             is_described = isinstance(after, ast.Expr) and isinstance(after.value, ast.Constant)
-            found[name] = node, inspect.cleandoc(after.value.value) if is_described else ""  # type: ignore[union-attr]
-    return found
+            definitions[name] = node, inspect.cleandoc(after.value.value) if is_described else ""  # type: ignore[union-attr]
+    return definitions
 
 
 class Package:
@@ -105,21 +105,21 @@ class Package:
 
     def definitions(self) -> dict[str, Definition]:
         """All names of all files; if several files have a name, that of the file that exports it."""
-        found: dict[str, Definition] = {}
+        definitions: dict[str, Definition] = {}
         by_module: dict[str, dict[str, Definition]] = {}
         for path in sorted(MODULE.rglob("*.py")):
             module = ".".join(path.relative_to(MODULE).with_suffix("").parts)
             by_module[module] = definitions_of(path)
-            found.update(by_module[module])
+            definitions.update(by_module[module])
         for node in self.overview.body:
             if isinstance(node, ast.ImportFrom) and node.module in by_module:
-                found.update({name.name: by_module[node.module].get(name.name, found[name.name]) for name in node.names})
+                definitions.update({name.name: by_module[node.module].get(name.name, definitions[name.name]) for name in node.names})
         for module, names in self.with_libraries.items():
-            found.update({name: by_module[module][name] for name in names})
+            definitions.update({name: by_module[module][name] for name in names})
         for node in self.exact.body:
             if isinstance(node, ast.ImportFrom) and node.module in by_module:
-                found.update({f"exact.{name.name}": by_module[node.module][name.name] for name in node.names})
-        return found
+                definitions.update({f"exact.{name.name}": by_module[node.module][name.name] for name in node.names})
+        return definitions
 
     def exported(self) -> set[str]:
         """The names in the lists of both modules, and those that need a library."""
@@ -138,13 +138,13 @@ class Package:
 
     def members(self, node: ast.ClassDef) -> dict[str, tuple[Function, str]]:
         """The public methods and properties of a class that have a docstring, by name."""
-        found: dict[str, tuple[Function, str]] = {}
+        members: dict[str, tuple[Function, str]] = {}
         for part in self.bases(node):
             for method in methods(part):
                 docstring = ast.get_docstring(method)
                 if docstring and not method.name.startswith("_"):
-                    found.setdefault(method.name, (method, docstring))
-        return found
+                    members.setdefault(method.name, (method, docstring))
+        return members
 
     def fields(self, node: ast.ClassDef) -> list[str]:
         """The arguments with which an object of a class is made."""
@@ -166,9 +166,9 @@ def annotated(node: ast.ClassDef) -> Iterator[str]:
 
 def arguments(args: ast.arguments) -> Iterator[str]:
     """The arguments of a function, each by itself, without `self` and `cls`."""
-    named = [*args.posonlyargs, *args.args]
-    values = [*[None] * (len(named) - len(args.defaults)), *args.defaults]
-    for place, (argument, value) in enumerate(zip(named, values), 1):
+    positional = [*args.posonlyargs, *args.args]
+    values = [*[None] * (len(positional) - len(args.defaults)), *args.defaults]
+    for place, (argument, value) in enumerate(zip(positional, values), 1):
         if argument.arg not in ("self", "cls"):
             yield ast.unparse(argument) + ("" if value is None else f" = {ast.unparse(value)}")
         if place == len(args.posonlyargs):
@@ -259,22 +259,22 @@ def linked(text: str, name: str, own: Iterable[str], exported: set[str]) -> str:
     """A text with a link for each exported name in it, except its own name and those of its parameters."""
     prefix = "exact." if name.startswith("exact.") else ""
 
-    def link(found: re.Match[str]) -> str:
-        for meant in prefix + found[1], found[1]:
-            if meant in exported and meant != name and found[1] not in own:
-                return f"[{found[0]}](#{anchor(meant)})"
-        return found[0]
+    def link(match: re.Match[str]) -> str:
+        for candidate in prefix + match[1], match[1]:
+            if candidate in exported and candidate != name and match[1] not in own:
+                return f"[{match[0]}](#{anchor(candidate)})"
+        return match[0]
 
     parts = re.split(r"(^```.*?^```$)", text, flags=re.M | re.S)
     return "".join(part if part.startswith("```") else CODE.sub(link, part) for part in parts)
 
 
-def members_of(package: Package, node: ast.ClassDef, shown: set[Function]) -> Iterator[str]:
+def members_of(package: Package, node: ast.ClassDef, described: set[Function]) -> Iterator[str]:
     """The public methods and attributes of a class as Markdown, without those that a class above has shown."""
     for method, docstring in package.members(node).values():
-        if method in shown:
+        if method in described:
             continue
-        shown.add(method)
+        described.add(method)
         is_property = any(ast.unparse(word) == "property" for word in method.decorator_list)
         words = "" if is_property else f"({', '.join(arguments(method.args))})"
         result = result_of(method).replace(" ->", ":") if is_property else result_of(method)
@@ -291,13 +291,13 @@ def own_names(package: Package, node: ast.AST) -> set[str]:
     return set()
 
 
-def section(package: Package, name: str, shown: set[Function]) -> str:
+def section(package: Package, name: str, described: set[Function]) -> str:
     node, docstring = package.known[name]
     if isinstance(node, ast.ClassDef):
         fields = package.fields(node)
         # The call of an error without arguments of its own would add no information.
-        made = [block(call(node.name, fields))] if fields else []
-        parts = [*made, prose(docstring), *members_of(package, node, shown)]
+        heading = [block(call(node.name, fields))] if fields else []
+        parts = [*heading, prose(docstring), *members_of(package, node, described)]
     elif isinstance(node, Function):
         parts = [block(call(name, arguments(node.args), result_of(node))), prose(docstring)]
     else:
@@ -313,10 +313,10 @@ def page() -> str:
     package = Package()
     first = (ast.get_docstring(package.overview) or "").split("\n\n")
     overview = prose("\n\n".join(part for part in first[1:] if not part.startswith("    ")))
-    parts, shown = [HEAD.format(overview=overview)], set[Function]()
+    parts, described = [HEAD.format(overview=overview)], set[Function]()
     for title, names in GROUPS.items():
         introduction = [prose(ast.get_docstring(package.exact) or "")] if title == "Exact results" else []
-        parts += [f"## {title}", *introduction, *(section(package, name, shown) for name in names)]
+        parts += [f"## {title}", *introduction, *(section(package, name, described) for name in names)]
     return "\n\n".join(part.strip("\n") for part in parts) + "\n"
 
 

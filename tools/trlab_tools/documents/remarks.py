@@ -34,9 +34,9 @@ def kind_of(name: str, text: str) -> str:
 
 def found_by(pattern: re.Pattern[str], text: str) -> Remarks:
     """The line and the last group of each match."""
-    for found in pattern.finditer(text):
-        group = found.lastindex or 0
-        yield text.count("\n", 0, found.start(group)) + 1, found[group]
+    for match in pattern.finditer(text):
+        group = match.lastindex or 0
+        yield text.count("\n", 0, match.start(group)) + 1, match[group]
 
 
 def patterns_in(tree: ast.AST) -> Iterator[ast.expr]:
@@ -70,9 +70,9 @@ def remarks(name: str, text: str) -> Remarks:
     if kind in COMMENTS:
         yield from found_by(COMMENTS[kind], text)
     if kind in NAMES:
-        yield from ((line, found.replace("_", " ")) for line, found in found_by(NAMES[kind], text))
+        yield from ((line, words.replace("_", " ")) for line, words in found_by(NAMES[kind], text))
     if kind in HAS_MESSAGES:
-        yield from ((line, found) for line, found in found_by(LITERAL, text) if MESSAGE.search(found))
+        yield from ((line, words) for line, words in found_by(LITERAL, text) if MESSAGE.search(words))
     # The name of the file is the name of the wrong body.
     if kind == ".edit" and os.path.basename(os.path.dirname(name)) == "must-fail":
         yield 1, os.path.basename(name).removesuffix(kind).replace("_", " ")

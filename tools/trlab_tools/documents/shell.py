@@ -21,5 +21,5 @@ def folder_of_reader() -> Iterator[str]:
 def run(lines: str, folder: str) -> tuple[str, bool]:
     """The output of lines of the shell in a folder, and whether they succeed."""
     words = ["bash", "-euo", "pipefail", "-c", lines]
-    ran = subprocess.run(words, cwd=folder, stdout=subprocess.PIPE, stderr=subprocess.STDOUT, text=True)
-    return ran.stdout, ran.returncode == 0
+    process = subprocess.run(words, cwd=folder, stdout=subprocess.PIPE, stderr=subprocess.STDOUT, text=True)
+    return process.stdout, process.returncode == 0

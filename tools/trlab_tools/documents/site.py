@@ -47,9 +47,9 @@ def collect(pages: str) -> None:
     """Copy the documents and the files that they show or link to."""
     for name in known_files():
         if name.endswith(".md") or name in FILES or name.startswith(FOLDERS) and LEFT_OUT not in name:
-            to = os.path.join(pages, name)
-            os.makedirs(os.path.dirname(to), exist_ok=True)
-            shutil.copyfile(TOP / name, to)
+            target = os.path.join(pages, name)
+            os.makedirs(os.path.dirname(target), exist_ok=True)
+            shutil.copyfile(TOP / name, target)
     write(os.path.join(pages, reference.PAGE), reference.page())
     write(os.path.join(pages, reference.GUIDE), reference.with_index(content(reference.GUIDE), reference.on_site))
 
@@ -70,8 +70,8 @@ def render(folder: str, to: str, more: str = "", *, top: object = TOP) -> tuple[
     configuration = os.path.join(folder, f"{os.path.basename(to)}.yml")
     write(configuration, CONFIGURATION.format(top=top, to=to) + more)
     words = ["mkdocs", "build", "--strict", "--clean", "--config-file", configuration]
-    ran = subprocess.run(words, stdout=subprocess.PIPE, stderr=subprocess.STDOUT, text=True, errors="replace")
-    return ran.returncode == 0, ran.stdout
+    process = subprocess.run(words, stdout=subprocess.PIPE, stderr=subprocess.STDOUT, text=True, errors="replace")
+    return process.returncode == 0, process.stdout
 
 
 def render_plain(folder: str, to: str) -> tuple[bool, str]:
@@ -88,8 +88,8 @@ def links(folder: str, site: str) -> Iterator[Link]:
     configuration = os.path.join(folder, "linkcheckerrc")
     write(configuration, LINKCHECKER)
     words = ["linkchecker", "--config", configuration, *pages_below(site)]
-    ran = subprocess.run(words, stdout=subprocess.PIPE, stderr=subprocess.DEVNULL, text=True, errors="replace")
-    lines = [line for line in ran.stdout.splitlines() if not line.startswith("# ")]
+    process = subprocess.run(words, stdout=subprocess.PIPE, stderr=subprocess.DEVNULL, text=True, errors="replace")
+    lines = [line for line in process.stdout.splitlines() if not line.startswith("# ")]
     for row in csv.DictReader(lines, delimiter=";"):
         page = row["parentname"].partition("#")[0].removeprefix(f"file://{site}/")
         yield Link(page, row["urlname"], row["warningstring"] or ("" if row["valid"] == "True" else row["result"]))

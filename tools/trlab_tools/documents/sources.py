@@ -55,18 +55,18 @@ def area_of(name: str) -> str:
 
 def prose_by_area() -> dict[str, Prose]:
     """The prose of each area: places and words."""
-    found: dict[str, Prose] = collections.defaultdict(list)
+    prose: dict[str, Prose] = collections.defaultdict(list)
     for name in known_files():
         with contextlib.suppress(UnicodeDecodeError):
             for line, words in remarks(name, content(name)):
-                found[area_of(name)].append((f"{name}:{line}", CODE.sub(" ", words)))
-    return found
+                prose[area_of(name)].append((f"{name}:{line}", CODE.sub(" ", words)))
+    return prose
 
 
 def places(pattern: re.Pattern[str], prose: Prose) -> str:
     """The first places with words that match, for a message."""
-    found = [f"{words[0]} ({place})" for place, text in prose if (words := pattern.search(text))]
-    return ", ".join(found[:3])
+    examples = [f"{match[0]} ({place})" for place, text in prose if (match := pattern.search(text))]
+    return ", ".join(examples[:3])
 
 
 def prose_is_plain() -> Verdicts:
@@ -82,11 +82,11 @@ def prose_is_plain() -> Verdicts:
 
 def names_are_of_one_thing() -> Verdicts:
     for kind, folder, ending, pattern in (("type", "src", ".rt", TYPE), ("definition", "specs", ".antt", DEFINITION)):
-        found: dict[str, set[str]] = collections.defaultdict(set)
+        paths_by_name: dict[str, set[str]] = collections.defaultdict(set)
         for path in sources(folder, ending):
             for name in pattern.findall(content(path)):
-                found[name].add(os.path.relpath(path, os.path.join(TOP, "crates")))
-        twice = {name: sorted(paths) for name, paths in found.items() if len(paths) > 1}
+                paths_by_name[name].add(os.path.relpath(path, os.path.join(TOP, "crates")))
+        twice = {name: sorted(paths) for name, paths in paths_by_name.items() if len(paths) > 1}
         new = {name: paths for name, paths in twice.items() if name not in NO_DEFINITION | TWICE}
         yield not new, f"{kind}s of one name: {new}"
 
@@ -114,8 +114,8 @@ def examples_are_compiled() -> Verdicts:
             yield bool(examples), f"{name} begins with an example"
         for example in examples:
             lines = [without_layout(line) for line in DOC_MARK.sub("", example).splitlines()]
-            found = any(other != crate and has_in_order(code, lines) for other, code in compiled)
-            yield found, f"the example of {name} is compiled in another crate: {lines[0]}"
+            is_compiled = any(other != crate and has_in_order(code, lines) for other, code in compiled)
+            yield is_compiled, f"the example of {name} is compiled in another crate: {lines[0]}"
 
 
 def verdicts() -> Verdicts:

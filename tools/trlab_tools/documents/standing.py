@@ -101,9 +101,9 @@ def content(name: str) -> str:
 def known_files() -> list[str]:
     """The files that git tracks or would add; all files if this is not a clone."""
     words = ["git", "ls-files", "-z", "--cached", "--others", "--exclude-standard"]
-    told = subprocess.run(words, cwd=TOP, capture_output=True, text=True)
-    if told.returncode == 0:
-        return [name for name in told.stdout.split("\0") if os.path.isfile(os.path.join(TOP, name))]
+    process = subprocess.run(words, cwd=TOP, capture_output=True, text=True)
+    if process.returncode == 0:
+        return [name for name in process.stdout.split("\0") if os.path.isfile(os.path.join(TOP, name))]
     return [
         os.path.relpath(os.path.join(folder, name), TOP)
         for folder, _, names in os.walk(TOP) if "/out" not in folder for name in names
@@ -155,11 +155,11 @@ def citations_exist() -> Verdicts:
 
 def versions_agree() -> Verdicts:
     """The program, the Python module and the newest changes have the same version."""
-    told = match_in(r'VERSION: &str = "(\S+)', content("crates/trlab_command_line/src/help.rt"))[1]
+    program = match_in(r'VERSION: &str = "(\S+)', content("crates/trlab_command_line/src/help.rt"))[1]
     module = match_in(r'^__version__ = "(.*)"$', content("python/trlab/_version.py"), re.M)[1]
     changes = match_in(r"^## (\d\S*)", content("CHANGELOG.md"), re.M)[1]
-    yield module == told, f"python/trlab/_version.py has version {module}, the program {told}"
-    yield changes == told, f"CHANGELOG.md has version {changes}, the program {told}"
+    yield module == program, f"python/trlab/_version.py has version {module}, the program {program}"
+    yield changes == program, f"CHANGELOG.md has version {changes}, the program {program}"
 
 
 def levels_agree() -> Verdicts:
@@ -183,9 +183,9 @@ def layers_agree() -> Verdicts:
     """Each layer of crates.txt has a table in the map of crates, with the same crates in the same order."""
     for heading, crates in LAYER.findall(content("crates.txt")):
         table = re.search(rf"^### {re.escape(heading)}$(.*?)^#", content(ARCHITECTURE), re.M | re.S)
-        told = re.findall(r"^\| `(trlab_\w+)`", table[1], re.M) if table else []
+        listed = re.findall(r"^\| `(trlab_\w+)`", table[1], re.M) if table else []
         wrong = f"{ARCHITECTURE} and crates.txt have different crates in the layer {heading!r}"
-        yield told == re.findall(r"^\w+", crates, re.M), wrong
+        yield listed == re.findall(r"^\w+", crates, re.M), wrong
 
 
 def crates_are_there() -> Verdicts:
@@ -210,16 +210,16 @@ def files_of_maps_are_there() -> Verdicts:
 def files_of(section: str) -> Iterator[str]:
     """The files of crates that a section of a map names."""
     crate, folder = "", ""
-    for named in re.findall(r"`([\w./]+)`", section):
-        if begun := re.match(r"trlab_\w+", named):
-            crate = begun[0]
-        if not (crate and FILE.fullmatch(f"`{named}`")):
+    for path in re.findall(r"`([\w./]+)`", section):
+        if crate_name := re.match(r"trlab_\w+", path):
+            crate = crate_name[0]
+        if not (crate and FILE.fullmatch(f"`{path}`")):
             continue
-        if re.match(r"src/|specs/|proofs/", named):
-            folder, named = os.path.join(crate, os.path.dirname(named)), os.path.basename(named)
-        elif begun:
-            folder, named = os.path.split(named)
-        yield os.path.join(folder, named)
+        if re.match(r"src/|specs/|proofs/", path):
+            folder, path = os.path.join(crate, os.path.dirname(path)), os.path.basename(path)
+        elif crate_name:
+            folder, path = os.path.split(path)
+        yield os.path.join(folder, path)
 
 
 def figure_is_of_the_table() -> Verdicts:
@@ -253,12 +253,12 @@ def names_are_there() -> Verdicts:
 @functools.cache
 def clauses() -> dict[str, set[str]]:
     """The clauses of all functions with a name, in all crates."""
-    found: dict[str, set[str]] = {}
+    clauses_by_function: dict[str, set[str]] = {}
     for name in known_files():
         if name.endswith(".rt"):
             for function, contract in CONTRACT.findall(content(name)):
-                found.setdefault(function, set()).update(re.findall(r"\bensures (\w+)", contract))
-    return found
+                clauses_by_function.setdefault(function, set()).update(re.findall(r"\bensures (\w+)", contract))
+    return clauses_by_function
 
 
 def clauses_are_there() -> Verdicts:
@@ -274,12 +274,12 @@ def clauses_are_there() -> Verdicts:
 @functools.cache
 def fields() -> dict[str, set[str]]:
     """The fields of all records with a name, in all definitions."""
-    found: dict[str, set[str]] = {}
+    fields_by_record: dict[str, set[str]] = {}
     for name in known_files():
         if name.endswith(".antt"):
             for record, body in RECORD.findall(content(name)):
-                found.setdefault(record, set()).update(re.findall(r"^  pub (\w+) :", body, re.M))
-    return found
+                fields_by_record.setdefault(record, set()).update(re.findall(r"^  pub (\w+) :", body, re.M))
+    return fields_by_record
 
 
 def fields_are_there() -> Verdicts:
@@ -317,18 +317,18 @@ def is_wide(line: str) -> bool:
 
 def lines_are_short() -> Verdicts:
     for name in documents():
-        wide = [number for number, line in prose(name) if is_wide(line)]
-        yield not wide, f"{name}, lines {wide}: over {MAX_CHARACTERS} characters, or indented by over {MAX_INDENTED}"
+        long = [number for number, line in prose(name) if is_wide(line)]
+        yield not long, f"{name}, lines {long}: over {MAX_CHARACTERS} characters, or indented by over {MAX_INDENTED}"
 
 
 def english_is_of_today() -> Verdicts:
     for name in documents():
-        old = {number: found[0] for number, line in prose(name) if (found := OLD_FORMS.search(line))}
+        old = {number: match[0] for number, line in prose(name) if (match := OLD_FORMS.search(line))}
         yield not old, f"{name} has old English, by lines: {old}"
 
 
 def verdicts() -> Verdicts:
-    for tried in (
+    for test in (
         decisions_are_short,
         citations_exist,
         versions_agree,
@@ -345,4 +345,4 @@ def verdicts() -> Verdicts:
         lines_are_short,
         english_is_of_today,
     ):
-        yield from tried()
+        yield from test()

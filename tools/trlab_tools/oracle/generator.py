@@ -239,6 +239,6 @@ def random_text(
     dice = random.Random(f"{seed} {number}")
     while True:
         command, text = draw(dice)
-        found = read(command, text)
-        if is_small(found[1]):
-            return command, text, found
+        result = read(command, text)
+        if is_small(result[1]):
+            return command, text, result

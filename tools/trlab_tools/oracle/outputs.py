@@ -30,9 +30,9 @@ def fault_line(fault: Fault) -> bytes:
 def reason_of(kind: str, text: bytes) -> Optional[int]:
     """The reason for which `trlab check` rejects a program in its canonical form, or None."""
     status, output = trlab.run(["check"], kind.encode() + b"\n" + text)
-    found = REFUSED_PROGRAM.fullmatch(output)
-    if status == trlab.REFUSED and found:
-        return int(found[2])
+    refusal = REFUSED_PROGRAM.fullmatch(output)
+    if status == trlab.REFUSED and refusal:
+        return int(refusal[2])
     return None
 
 
@@ -42,17 +42,17 @@ def verdict(kind: str, program: list[Instruction]) -> Optional[int]:
 
 def is_check(check: Check, status: Status, output: bytes) -> bool:
     """Whether an output says that a program is accepted, with its canonical form, or that it is rejected."""
-    found = REFUSED_PROGRAM.fullmatch(output)
-    if found:
-        return status == trlab.REFUSED and int(found[1]) < len(check.program)
+    refusal = REFUSED_PROGRAM.fullmatch(output)
+    if refusal:
+        return status == trlab.REFUSED and int(refusal[1]) < len(check.program)
     longest = budget(check.program)
     front = b"accepted budget %d\n" % (longest or 0) + disassemble(check.program)
     if status != trlab.DONE or longest is None or not output.startswith(front):
         return False
     notes = output[len(front):].splitlines(keepends=True)
-    wanted = range(len(check.program) if check.notes else 0)
+    expected = range(len(check.program) if check.notes else 0)
     numbers = [int(note[1]) if note else None for note in map(NOTE.fullmatch, notes)]
-    return numbers == list(wanted)
+    return numbers == list(expected)
 
 
 def cars_of(lanes: list[bytes]) -> dict[tuple[int, int], int]:
@@ -127,5 +127,5 @@ def expectation(command: str, text: bytes) -> Expectation:
         sweep = read_sweep(text, verdict)
         return functools.partial(is_table, sweep), sweep
     except Fault as fault:
-        wanted = trlab.REFUSED, fault_line(fault)
-        return lambda status, output: (status, output) == wanted, fault
+        refusal = trlab.REFUSED, fault_line(fault)
+        return lambda status, output: (status, output) == refusal, fault

@@ -5,6 +5,7 @@ program is a list of instructions. An instruction is its name and the tuple of i
 the number of its instruction."""
 import re
 from collections.abc import Iterable, Sequence
+from enum import IntEnum
 from typing import Optional, Union
 
 # The name of an instruction and its operands.
@@ -33,12 +34,47 @@ DIGITS = re.compile(rb"[0-9]+")
 BLANKS = b" \t"
 
 
+class Cause(IntEnum):
+    """The numbers of the causes that docs/ERRORS.md and docs/VERIFIER.md describe."""
+
+    UNEXPECTED_LINE = 1
+    NUMBER = 2
+    KEY = 3
+    ONE_LANE = 4
+    ORDER_OF_STEPS = 5
+    TOO_MANY_LINES = 6
+    TOO_MUCH_WORK = 7
+    HEXADECIMAL = 8
+    TOO_LARGE = 9
+    UNKNOWN_INSTRUCTION = 11
+    OPERANDS = 12
+    OPERAND_RANGE = 13
+    LABEL_TWICE = 14
+    NO_SUCH_LABEL = 15
+    TOO_MANY_INSTRUCTIONS = 16
+    NO_INSTRUCTIONS = 17
+    CUT_CODE = 21
+    FIRST_BYTES = 22
+    VERSION = 23
+    OTHER_KIND = 24
+    INSTRUCTION_COUNT = 25
+    OPCODE = 26
+    FIELD_RANGE = 27
+    BYTES_AFTER_CODE = 28
+    NEEDLESS_VERSION = 30
+    LANE_LENGTH = 32
+    LANE_CHARACTER = 34
+    CAR_TOO_FAST = 35
+    TOO_MANY_CARS = 37
+    REJECTED_PROGRAM = 40  # plus the number of the verifier's reason
+
+
 class Fault(Exception):
     """The first fault of an input: its line, counted from 1, and its cause."""
 
     def __init__(self, line: int, cause: int) -> None:
-        super().__init__(f"line {line} cause {cause}")
-        self.line, self.cause = line, cause
+        super().__init__(f"line {line} cause {int(cause)}")
+        self.line, self.cause = line, int(cause)
 
 
 def is_label(word: bytes) -> bool:
@@ -76,27 +112,27 @@ def read_operands(forms: str, text: bytes, line: int) -> list[Union[bytes, int]]
     """The operands of an instruction; a target that is a label is still its name."""
     words = [word.strip(BLANKS) for word in text.split(b",")] if text else []
     if len(words) != len(forms) or not all(map(is_operand, forms, words)):
-        raise Fault(line, 12)
+        raise Fault(line, Cause.OPERANDS)
     operands: list[Union[bytes, int]] = []
     for form, word in zip(forms, words):
         operand = word if form == "l" and is_label(word) else number_of(form, word)
         if operand is None:
-            raise Fault(line, 13)
+            raise Fault(line, Cause.OPERAND_RANGE)
         operands.append(operand)
     return operands
 
 
-def read_label(text: bytes, labels: dict[bytes, int], place: int, line: int) -> bytes:
+def read_label(text: bytes, labels: dict[bytes, int], target: int, line: int) -> bytes:
     """The rest of a line after its label, which is recorded; or the whole line if it has no label."""
     if b":" not in text:
         return text
     label, rest = text.split(b":", 1)
     label = label.strip(BLANKS)
     if label in labels:
-        raise Fault(line, 14)
+        raise Fault(line, Cause.LABEL_TWICE)
     if not is_label(label):
-        raise Fault(line, 11)
-    labels[label] = place
+        raise Fault(line, Cause.UNKNOWN_INSTRUCTION)
+    labels[label] = target
     return rest.strip(BLANKS)
 
 
@@ -112,14 +148,14 @@ def assemble(lines: Iterable[bytes], first: int) -> list[Instruction]:
         name, *_ = re.split(rb"[ \t]", text, maxsplit=1)
         forms = FORMS.get(name.decode("latin-1"))
         if forms is None:
-            raise Fault(line, 11)
+            raise Fault(line, Cause.UNKNOWN_INSTRUCTION)
         if len(instructions) == MAX_INSTRUCTIONS:
-            raise Fault(line, 16)
+            raise Fault(line, Cause.TOO_MANY_INSTRUCTIONS)
         operands = read_operands(forms, text[len(name):].strip(BLANKS), line)
         instructions.append((name.decode(), operands))
         numbers.append(line)
     if not instructions:
-        raise Fault(first, 17)
+        raise Fault(first, Cause.NO_INSTRUCTIONS)
     return [named(instruction, labels, line) for instruction, line in zip(instructions, numbers)]
 
 
@@ -128,7 +164,7 @@ def named(instruction: tuple[str, list[Union[bytes, int]]], labels: dict[bytes, 
     name, operands = instruction
     for operand in operands:
         if isinstance(operand, bytes) and operand not in labels:
-            raise Fault(line, 15)
+            raise Fault(line, Cause.NO_SUCH_LABEL)
     return name, tuple(labels[operand] if isinstance(operand, bytes) else operand for operand in operands)
 
 
@@ -141,7 +177,7 @@ def instruction_of(code: bytes, version: int, line: int) -> Instruction:
     """The instruction of eight bytes."""
     opcode, fields, number = split_fields(code)
     if not 1 <= opcode <= len(NAMES):
-        raise Fault(line, 26)
+        raise Fault(line, Cause.OPCODE)
     name = NAMES[opcode - 1]
     forms = FORMS[name]
     small = sum(form in "drik" for form in forms)
@@ -149,26 +185,29 @@ def instruction_of(code: bytes, version: int, line: int) -> Instruction:
     unused = [*fields[small:], *([number] if small == len(forms) else [])]
     is_old = version == 1 and name == "get" and operands[1] == HEADSPEED
     if any(unused) or is_old or not all(map(is_in_range, forms, operands)):
-        raise Fault(line, 27)
+        raise Fault(line, Cause.FIELD_RANGE)
     return name, tuple(operands)
 
 
 def decode(code: bytes, line: int) -> tuple[str, list[Instruction]]:
     """The kind and the program of the bytes on a line."""
     if len(code) < 8:
-        raise Fault(line, 21)
+        raise Fault(line, Cause.CUT_CODE)
     count = int.from_bytes(code[6:8], "little")
     for cause, is_right in (
-        (22, code[:4] == MAGIC), (23, code[4] in (1, 2)), (24, code[5] in (0, 1)),
-        (25, 1 <= count <= MAX_INSTRUCTIONS), (21, len(code) >= 8 + 8 * count),
+        (Cause.FIRST_BYTES, code[:4] == MAGIC),
+        (Cause.VERSION, code[4] in (1, 2)),
+        (Cause.OTHER_KIND, code[5] in (0, 1)),
+        (Cause.INSTRUCTION_COUNT, 1 <= count <= MAX_INSTRUCTIONS),
+        (Cause.CUT_CODE, len(code) >= 8 + 8 * count),
     ):
         if not is_right:
             raise Fault(line, cause)
     instructions = [instruction_of(code[8 + 8 * pc:16 + 8 * pc], code[4], line) for pc in range(count)]
     if code[4] == 2 and ("get", HEADSPEED) not in ((name, operands[-1:] and operands[-1]) for name, operands in instructions):
-        raise Fault(line, 30)
+        raise Fault(line, Cause.NEEDLESS_VERSION)
     if len(code) > 8 + 8 * count:
-        raise Fault(line, 28)
+        raise Fault(line, Cause.BYTES_AFTER_CODE)
     return KINDS[code[5]], instructions
 
 
@@ -202,10 +241,10 @@ def operand_text(form: str, number: int, count: int) -> str:
 
 def disassemble(instructions: Sequence[Instruction]) -> bytes:
     """The canonical text of a program."""
-    named_ones, lines = targets(instructions), []
+    labelled, lines = targets(instructions), []
     for pc, (name, operands) in enumerate(instructions):
         words = ", ".join(operand_text(form, number, len(instructions)) for form, number in zip(FORMS[name], operands))
-        lines.append((f"L{pc}: " if pc in named_ones else "") + name + (" " + words if words else ""))
+        lines.append((f"L{pc}: " if pc in labelled else "") + name + (" " + words if words else ""))
     return "".join(line + "\n" for line in lines).encode()
 
 

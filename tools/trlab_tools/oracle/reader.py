@@ -7,7 +7,7 @@ import re
 from collections.abc import Callable
 from typing import NamedTuple, NoReturn, Optional
 
-from .programs import CERTAIN, Fault, Instruction, assemble, decode
+from .programs import CERTAIN, Cause, Fault, Instruction, assemble, decode
 
 # The reason for which a program of a kind is rejected, or None.
 Judge = Callable[[str, list[Instruction]], Optional[int]]
@@ -60,11 +60,11 @@ def lines_of(text: bytes) -> list[bytes]:
 
 
 class Lines:
-    """The lines of an input from the next one on, which has this number."""
+    """The lines of an input, and the number of the next one, which is read."""
 
     def __init__(self, text: bytes, verdict: Judge) -> None:
         if len(text) > LONGEST_TEXT:
-            raise Fault(0, 9)
+            raise Fault(0, Cause.TOO_LARGE)
         self.lines, self.number, self.verdict = lines_of(text), 1, verdict
 
     def is_end(self) -> bool:
@@ -75,52 +75,58 @@ class Lines:
         return None if self.is_end() else self.lines[self.number - 1].split(b" ")[0]
 
     def fail(self, cause: int) -> NoReturn:
+        """Raise a fault of the next line."""
         raise Fault(self.number, cause)
 
     def words(self) -> list[bytes]:
         """The words of the next line, which single spaces separate."""
         if self.is_end():
-            self.fail(1)
+            self.fail(Cause.UNEXPECTED_LINE)
         words = self.lines[self.number - 1].split(b" ")
         if b"" in words:
-            self.fail(1)
+            self.fail(Cause.UNEXPECTED_LINE)
         return words
 
-    def past(self) -> None:
+    def skip(self) -> None:
+        """Go on to the line after the next one."""
         self.number += 1
 
     def value(self, word: bytes, least: int, most: int) -> int:
         """The number of a word of the next line."""
         if not NUMBER.fullmatch(word) or not least <= int(word) <= most:
-            self.fail(2)
+            self.fail(Cause.NUMBER)
         return int(word)
 
     def named(self, name: bytes) -> bytes:
         """The one word of the next line after its name."""
         words = self.words()
         if len(words) != 2 or words[0] != name:
-            self.fail(1)
+            self.fail(Cause.UNEXPECTED_LINE)
         return words[1]
 
     def number_line(self, name: bytes, least: int, most: int) -> int:
+        """Read a line of this name, and return its number."""
         value = self.value(self.named(name), least, most)
-        self.past()
+        self.skip()
         return value
 
     def exactly(self, line: bytes) -> None:
+        """Read the next line, which must be this one."""
         if self.is_end() or self.lines[self.number - 1] != line:
-            self.fail(1)
-        self.past()
+            self.fail(Cause.UNEXPECTED_LINE)
+        self.skip()
 
     def key(self) -> None:
+        """Read the line `key`."""
         word = self.named(b"key")
         if len(word) != 64 or not HEX.fullmatch(word):
-            self.fail(3)
-        self.past()
+            self.fail(Cause.KEY)
+        self.skip()
 
     def hexadecimal(self, word: bytes) -> bytes:
+        """The bytes of a word of the next line."""
         if len(word) % 2 or not HEX.fullmatch(word):
-            self.fail(8)
+            self.fail(Cause.HEXADECIMAL)
         return bytes.fromhex(word.decode())
 
 
@@ -128,17 +134,17 @@ def judge(lines: Lines, line: int, kind: str, program: list[Instruction]) -> Non
     """Raises the fault of a program that the verifier rejects."""
     reason = lines.verdict(kind, program)
     if reason is not None:
-        raise Fault(line, 40 + reason)
+        raise Fault(line, Cause.REJECTED_PROGRAM + reason)
 
 
 def read_block(lines: Lines, kind: str) -> list[bytes]:
     """The lines of a part after its heading, which comes next, up to the line `end`, which is then the next one."""
-    lines.past()
+    lines.skip()
     first = lines.number
     while not lines.is_end() and lines.lines[lines.number - 1] != b"end":
-        lines.past()
+        lines.skip()
     if lines.is_end():
-        lines.fail(1)
+        lines.fail(Cause.UNEXPECTED_LINE)
     return lines.lines[first - 1:lines.number - 1]
 
 
@@ -147,16 +153,16 @@ def read_part(lines: Lines, kind: str, fits: bool = True) -> None:
     first, words = lines.number, lines.words()
     is_block = words == [kind.encode()]
     if not is_block and (len(words) != 2 or words[0] != b"code"):
-        lines.fail(1)
+        lines.fail(Cause.UNEXPECTED_LINE)
     block = read_block(lines, kind) if is_block else []
     code = b"" if is_block else lines.hexadecimal(words[1])
     if not fits:
-        raise Fault(first, 4)
-    found, program = (kind, assemble(block, first)) if is_block else decode(code, first)
-    if found != kind:
-        lines.fail(24)
+        raise Fault(first, Cause.ONE_LANE)
+    actual_kind, program = (kind, assemble(block, first)) if is_block else decode(code, first)
+    if actual_kind != kind:
+        lines.fail(Cause.OTHER_KIND)
     judge(lines, first, kind, program)
-    lines.past()
+    lines.skip()
 
 
 def read_own(lines: Lines, lanes: int) -> None:
@@ -171,7 +177,7 @@ def read_rule(lines: Lines, words: list[bytes], judge_line: Callable[[], object]
     count = STANDARD.get(words[1]) if len(words) > 1 else None
     is_own = words == [b"rule", b"own"]
     if not is_own and (words[0] != b"rule" or count is None or len(words) != 2 + count):
-        lines.fail(1)
+        lines.fail(Cause.UNEXPECTED_LINE)
     judge_line()
     for word in words[2:]:
         lines.value(word, 0, CERTAIN)
@@ -180,8 +186,8 @@ def read_rule(lines: Lines, words: list[bytes], judge_line: Callable[[], object]
 def finish_rule(lines: Lines, words: list[bytes], lanes: int) -> None:
     """Judges a rule after its words and numbers, and reads its parts."""
     if words[1] == b"rickert" and lanes == 1:
-        lines.fail(4)
-    lines.past()
+        lines.fail(Cause.ONE_LANE)
+    lines.skip()
     if words[1] == b"own":
         read_own(lines, lanes)
 
@@ -198,14 +204,14 @@ def read_later_rules(lines: Lines, steps: int, lanes: int) -> None:
     while not lines.is_end():
         words = lines.words()
         if words[0] != b"at" or len(words) < 3:
-            lines.fail(1)
+            lines.fail(Cause.UNEXPECTED_LINE)
         at: list[int] = []
         read_rule(lines, words[2:], lambda: at.append(lines.value(words[1], 0, 9999999999)))
         count += 1
         if count > MAX_LATER_RULES:
-            lines.fail(6)
+            lines.fail(Cause.TOO_MANY_LINES)
         if not last < at[0] < steps:
-            lines.fail(5)
+            lines.fail(Cause.ORDER_OF_STEPS)
         finish_rule(lines, words[2:], lanes)
         last = at[0]
 
@@ -217,15 +223,15 @@ def read_lanes(lines: Lines, limit: int) -> list[bytes]:
     while not lanes or len(lanes) < 2 and lines.head() == b"lane":
         lanes.append(lines.named(b"lane"))
         numbers.append(lines.number)
-        lines.past()
+        lines.skip()
     if len({len(lane) for lane in lanes}) > 1 or len(lanes[0]) > MAX_CELLS:
-        raise Fault(numbers[-1], 32)
+        raise Fault(numbers[-1], Cause.LANE_LENGTH)
     for number, lane in zip(numbers, lanes):
         for cell in lane:
             if cell != ord(".") and cell not in SPEEDS:
-                raise Fault(number, 34)
+                raise Fault(number, Cause.LANE_CHARACTER)
             if cell != ord(".") and SPEEDS.index(cell) > limit:
-                raise Fault(number, 35)
+                raise Fault(number, Cause.CAR_TOO_FAST)
     return lanes
 
 
@@ -258,12 +264,13 @@ def read_sweep(text: bytes, verdict: Judge) -> Sweep:
         count = lines.value(lines.named(b"cars"), 0, 200000)
         cars.append(count)
         for cause, is_right in (
-            (6, len(cars) <= MAX_POINTS), (37, count <= lanes * length),
-            (7, len(cars) * (warm + measure) <= MAX_STEPS),
+            (Cause.TOO_MANY_LINES, len(cars) <= MAX_POINTS),
+            (Cause.TOO_MANY_CARS, count <= lanes * length),
+            (Cause.TOO_MUCH_WORK, len(cars) * (warm + measure) <= MAX_STEPS),
         ):
             if not is_right:
                 lines.fail(cause)
-        lines.past()
+        lines.skip()
     return Sweep(lanes * length, warm + measure, measure, cars)
 
 
@@ -271,7 +278,7 @@ def read_check(text: bytes) -> Check:
     """The check of an input. Its program is not judged."""
     lines = Lines(text, is_never_rejected)
     if lines.is_end():
-        lines.fail(1)
+        lines.fail(Cause.UNEXPECTED_LINE)
     line = lines.lines[0]
     notes = line.startswith(b"notes ")
     line = line.removeprefix(b"notes ")
@@ -279,9 +286,9 @@ def read_check(text: bytes) -> Check:
         return Check(line.decode(), assemble(lines.lines[1:], 1), notes)
     words = line.split(b" ")
     if len(words) != 2 or words[0] != b"code" or words[1] == b"":
-        lines.fail(1)
+        lines.fail(Cause.UNEXPECTED_LINE)
     kind, program = decode(lines.hexadecimal(words[1]), 1)
-    lines.past()
+    lines.skip()
     if not lines.is_end():
-        lines.fail(1)
+        lines.fail(Cause.UNEXPECTED_LINE)
     return Check(kind, program, notes)

@@ -79,14 +79,14 @@ class Change(NamedTuple):
 
 
 class Verdict(NamedTuple):
-    """The functions that are not proved with a body, each with the prover's line about it, and what it says if there are none."""
+    """The functions that are not proved with a body, each with the line of the prover about it, and its message if there are none."""
 
     refusing: dict[Change, str]
-    said: str
+    message: str
 
     @property
     def why(self) -> str:
-        return next(iter(self.refusing.values()), self.said)
+        return next(iter(self.refusing.values()), self.message)
 
     @property
     def by_clauses(self) -> list[Change]:
@@ -150,8 +150,8 @@ def crates_of(names: Collection[str]) -> list["Crate"]:
 
 def below(name: str, libraries: dict[str, list[str]]) -> list[str]:
     """The crates of the repository that a crate uses, or that those use."""
-    own = [it for it in libraries[name] if it in libraries]
-    return sorted({*own, *(lower for it in own for lower in below(it, libraries))})
+    direct = [used for used in libraries[name] if used in libraries]
+    return sorted({*direct, *(lower for used in direct for lower in below(used, libraries))})
 
 
 def rlib_folder(name: str) -> str:
@@ -166,17 +166,17 @@ def at_once() -> int:
     return max(1, min(len(os.sched_getaffinity(0)), free // 3_000_000))
 
 
-def function_around(file: str, text: str, at: int) -> Optional[Function]:
+def function_around(file: str, text: str, offset: int) -> Optional[Function]:
     """The function in which a place of a file is, or None."""
-    around = [it for it in functions_in(file, text) if it.start <= text.index("\n", at) and at < it.end]
-    return around[-1] if around else None
+    functions = [function for function in functions_in(file, text) if function.start <= text.index("\n", offset) and offset < function.end]
+    return functions[-1] if functions else None
 
 
 def place_of(edit: Edit, text: str, name: str) -> int:
     """Where the old text of an edit is; a ValueError if it is not there exactly once."""
     begin, end = 0, len(text)
     if edit.function:
-        spans = [(it.body, it.end) for it in functions_in(edit.file, text) if str(it) == edit.function]
+        spans = [(function.body, function.end) for function in functions_in(edit.file, text) if str(function) == edit.function]
         if len(spans) != 1:
             raise ValueError(f"{name}: {edit.file} has {len(spans)} functions {edit.function}")
         begin, end = spans[0]
@@ -187,14 +187,14 @@ def place_of(edit: Edit, text: str, name: str) -> int:
 
 def run_timed(words: Sequence[str], folder: str) -> tuple[str, int, float]:
     """What a command prints, its exit status and its processor seconds. It is ended at the limit, and its last line says so."""
-    with tempfile.TemporaryFile("w+", errors="replace") as said:
-        running = subprocess.Popen(words, cwd=folder, stdin=subprocess.DEVNULL, stdout=said, stderr=subprocess.STDOUT)
-        resource.prlimit(running.pid, resource.RLIMIT_CPU, (LIMIT, LIMIT))
-        _, status, used = os.wait4(running.pid, 0)
-        running.returncode = os.waitstatus_to_exitcode(status)
-        said.seek(0)
-        ended = f"\nit was ended by signal {-running.returncode}; the limit is {LIMIT} processor seconds"
-        return said.read() + ended * (running.returncode < 0), running.returncode, used.ru_utime + used.ru_stime
+    with tempfile.TemporaryFile("w+", errors="replace") as output:
+        process = subprocess.Popen(words, cwd=folder, stdin=subprocess.DEVNULL, stdout=output, stderr=subprocess.STDOUT)
+        resource.prlimit(process.pid, resource.RLIMIT_CPU, (LIMIT, LIMIT))
+        _, status, used = os.wait4(process.pid, 0)
+        process.returncode = os.waitstatus_to_exitcode(status)
+        output.seek(0)
+        message = f"\nit was ended by signal {-process.returncode}; the limit is {LIMIT} processor seconds"
+        return output.read() + message * (process.returncode < 0), process.returncode, used.ru_utime + used.ru_stime
 
 
 class Crate:
@@ -240,25 +240,25 @@ class Crate:
     @functools.cached_property
     def public(self) -> list[Function]:
         """The public functions that have a clause and a body."""
-        found = sorted(glob.glob(os.path.join(self.folder, "src", "**", "*.rt"), recursive=True))
-        files = [os.path.relpath(file, self.folder) for file in found]
-        every = [function for file in files for function in functions_in(file, self.text(file))]
-        return [it for it in every if it.has_clause and not it.is_empty and self.exports.shows(it)]
+        paths = sorted(glob.glob(os.path.join(self.folder, "src", "**", "*.rt"), recursive=True))
+        files = [os.path.relpath(file, self.folder) for file in paths]
+        functions = [function for file in files for function in functions_in(file, self.text(file))]
+        return [function for function in functions if function.has_clause and not function.is_empty and self.exports.shows(function)]
 
     @functools.cached_property
     def proved_alone(self) -> set[str]:
         """The functions, but closures, that have a proof of their own, unless they are in a cycle of calls; of a program none."""
         if self.is_program:
             return set()
-        made = "\n".join(json.loads(row)[0] for row in self.of_library("toolchain/made.json").splitlines())
-        paths = [path.split("/") for path in re.findall(r"(?m)^proofs/((?:\w+/)*\w+)/Code$", made)]
-        cycles = re.findall(r"(?m)^proofs/((?:\w+/)*)\+[^/\n]+/Code/\+([^/\n]+)$", made)
+        names_of_proofs = "\n".join(json.loads(row)[0] for row in self.of_library("toolchain/made.json").splitlines())
+        paths = [path.split("/") for path in re.findall(r"(?m)^proofs/((?:\w+/)*\w+)/Code$", names_of_proofs)]
+        cycles = re.findall(r"(?m)^proofs/((?:\w+/)*)\+[^/\n]+/Code/\+([^/\n]+)$", names_of_proofs)
         shared = {(module + name.replace("-", "/")).replace("/", "::") for module, name in cycles}
         return {"::".join(path) for path in paths if "fn" not in path} - shared
 
     def text(self, file: str) -> str:
-        with open(os.path.join(self.folder, file), encoding="utf-8") as it:
-            return it.read()
+        with open(os.path.join(self.folder, file), encoding="utf-8") as source:
+            return source.read()
 
     def edited(self, bodies: Iterable[Body]) -> dict[str, str]:
         """The texts of the files that bodies change, by their names. A text that is not there once is a ValueError."""
@@ -308,7 +308,7 @@ class Crate:
         if bool(body.function) != bool(round_[0].function):
             return False
         if body.function:
-            return all(self.clauses_against(it, [*round_, body]) for it in [*round_, body])
+            return all(self.clauses_against(other, [*round_, body]) for other in [*round_, body])
         is_apart = not self.changed_by(body).keys() & set().union(*map(self.changed_by, round_))
         return is_apart and not self.misfit([*round_, body])
 
@@ -316,10 +316,10 @@ class Crate:
         """The clauses of the law that a body names that are about a constant that only this body changes."""
         module, _, name = body.function.rpartition("::")
         file = f"src/{module.replace('::', '/') or 'lib'}.rt"
-        law = next(it for it in functions_in(file, self.text(file)) if it.name == name)
-        others = set().union(*(self.constants_of(it) for it in round_ if it is not body))
-        told = {clause: set(WORD.findall(text)) for clause, text in CLAUSE.findall(self.text(file)[law.start:law.end])}
-        return [clause for clause, words in told.items() if words & self.constants_of(body) and not words & others]
+        law = next(function for function in functions_in(file, self.text(file)) if function.name == name)
+        others = set().union(*(self.constants_of(function) for function in round_ if function is not body))
+        words_of_clauses = {clause: set(WORD.findall(text)) for clause, text in CLAUSE.findall(self.text(file)[law.start:law.end])}
+        return [clause for clause, words in words_of_clauses.items() if words & self.constants_of(body) and not words & others]
 
     def constants_of(self, body: Body) -> set[str]:
         """The constants that a body changes."""
@@ -342,16 +342,16 @@ class Crate:
         words += ["--antt-project", f"{kit()}/rattle/logic/antt-project.json", "--logic-built", f"{kit()}/logic_built"]
         return [*words, "--links", f"{self.name}=", "--jobs", "1", "--allow-holes"]
 
-    def write_copy(self, to: str, bodies: Iterable[Body], changed: Iterable[str]) -> None:
+    def write_copy(self, target: str, bodies: Iterable[Body], changed: Iterable[str]) -> None:
         """Writes the crate with these bodies, and with holes for proofs of functions that they do not change."""
         for part in "src", "specs", "proofs":
             if os.path.isdir(os.path.join(self.folder, part)):
-                shutil.copytree(os.path.join(self.folder, part), os.path.join(to, part))
+                shutil.copytree(os.path.join(self.folder, part), os.path.join(target, part))
         for file, text in self.edited(bodies).items():
-            with open(os.path.join(to, file), "w", encoding="utf-8") as it:
-                it.write(text)
+            with open(os.path.join(target, file), "w", encoding="utf-8") as source:
+                source.write(text)
         for function in (self.proved_alone & self.paths).difference(changed):
-            self.write_hole(to, function.split("::"))
+            self.write_hole(target, function.split("::"))
 
     def write_hole(self, to: str, path: Sequence[str]) -> None:
         folder = os.path.join(to, "proofs", *path)
@@ -376,8 +376,8 @@ class Crate:
     def ask(self, copy: str, changed: Iterable[str], work: str) -> trials.Trial:
         """What the prover says of functions in a copy of the crate. (Lines that begin with a space show a goal.)"""
         words = [word for path in changed for word in ("--only", path)]
-        said, status, seconds = run_timed([*self.check_words(), "--incremental", work, *words], copy)
-        return trials.Trial([line for line in said.splitlines() if line[:1].strip()], seconds, status, is_kept=False)
+        output, status, seconds = run_timed([*self.check_words(), "--incremental", work, *words], copy)
+        return trials.Trial([line for line in output.splitlines() if line[:1].strip()], seconds, status, is_kept=False)
 
     @functools.cached_property
     def sum_below(self) -> list[str]:
@@ -389,13 +389,13 @@ class Crate:
 
     def line_with_function(self, copy: str, line: str) -> str:
         """A line that the prover says, with the function of the place in a source that it names."""
-        found = NOTE.match(line)
-        if not found:
+        note = NOTE.match(line)
+        if not note:
             return line
-        text = self.text(os.path.join(copy, found[1]))
-        at = sum(map(len, text.splitlines(True)[:int(found[2]) - 1]))
-        function = function_around(found[1], text, at)
-        return f"note: {function and function.path_in(self.paths)}: {found[3]}"
+        text = self.text(os.path.join(copy, note[1]))
+        offset = sum(map(len, text.splitlines(True)[:int(note[2]) - 1]))
+        function = function_around(note[1], text, offset)
+        return f"note: {function and function.path_in(self.paths)}: {note[3]}"
 
     def refusal(self, lines: Sequence[str], function: str) -> Optional[str]:
         """The line by which the prover refuses a clause of a function, or None."""
@@ -421,10 +421,10 @@ class Crate:
             goals = tuple(f"`returns-clause-{clause}`" for clause in self.clauses_against(body, round_) if clause)
             lines = [line for line in lines if not goals or any(goal in line for goal in goals)]
         refused = {change: self.refusal(lines, path) for path, change in changed.items()}
-        return Verdict({change: line for change, line in refused.items() if line}, self.said_of(lines, changed))
+        return Verdict({change: line for change, line in refused.items() if line}, self.message_of(lines, changed))
 
-    def said_of(self, lines: Sequence[str], changed: Iterable[str]) -> str:
+    def message_of(self, lines: Sequence[str], changed: Iterable[str]) -> str:
         """What the prover says of functions that no clause refuses."""
         begins = tuple(f"fn {self.name}::{path}: " for path in changed)
-        said = [line for line in lines if "error[" in line or line.startswith(begins)]
-        return "; ".join(said[:2]) or (lines or ["nothing"])[-1]
+        messages = [line for line in lines if "error[" in line or line.startswith(begins)]
+        return "; ".join(messages[:2]) or (lines or ["nothing"])[-1]

@@ -63,14 +63,14 @@ class Run(Counts):
                 self.rows.append([])
             else:
                 self.rows[-1].append(line)
-        counted = [line.split(",") for line in output(["series"], lines)[1:]][job.warm:]
-        sums = [sum(int(line[k]) for line in counted) for k in (4, 5, 6)]
+        windows = [line.split(",") for line in output(["series"], lines)[1:]][job.warm:]
+        sums = [sum(int(line[k]) for line in windows) for k in (4, 5, 6)]
         cells = sum(map(len, job.lanes))
         super().__init__(job.limit, job.warm, cells - "".join(job.lanes).count("."), cells, job.steps - job.warm, *sums)
         self.places = [[x for x, cell in enumerate(job.lanes[0]) if cell != "."]]
         for row, *_ in self.rows[1:] if len(job.lanes) == 1 else ():
-            came = {(x - int(cell)) % self.n: x for x, cell in enumerate(row) if cell != "."}
-            self.places.append([came[x] for x in self.places[-1]])
+            came_from = {(x - int(cell)) % self.n: x for x, cell in enumerate(row) if cell != "."}
+            self.places.append([came_from[x] for x in self.places[-1]])
 
     def speeds(self, t: int) -> list[int]:
         """The speed of each car."""
@@ -224,9 +224,9 @@ def distances(p: int, n: int, cars: int) -> int:
 
 def names_of(runs: Iterable[Union[Job, Sweep]]) -> dict[str, object]:
     """The names that expressions of a counterexample may use: the numbers of the first run, and all runs as a, b, .."""
-    made = [Run(run) if isinstance(run, Job) else Point(run) for run in runs]
-    first = {name: getattr(made[0], name) for name in dir(made[0]) if not name.startswith("_")} if made else {}
-    return {**globals(), "comb": comb, **first, **dict(zip("abcd", made))}
+    results = [Run(run) if isinstance(run, Job) else Point(run) for run in runs]
+    first = {name: getattr(results[0], name) for name in dir(results[0]) if not name.startswith("_")} if results else {}
+    return {**globals(), "comb": comb, **first, **dict(zip("abcd", results))}
 
 
 def refutes(false: False_) -> tuple[bool, bool]:

@@ -66,18 +66,18 @@ def owner_in(head: str) -> str:
 
 def functions_in(file: str, text: str) -> list[Function]:
     """The functions of a file."""
-    return [function_at(file, text, found) for found in FUNCTION.finditer(text)]
+    return [function_at(file, text, match) for match in FUNCTION.finditer(text)]
 
 
-def function_at(file: str, text: str, found: re.Match[str]) -> Function:
-    indent, visibility, name = found.groups()
-    owner = owner_in(list(BLOCK.finditer(text, 0, found.start()))[-1][1]) if indent else ""
+def function_at(file: str, text: str, match: re.Match[str]) -> Function:
+    indent, visibility, name = match.groups()
+    owner = owner_in(list(BLOCK.finditer(text, 0, match.start()))[-1][1]) if indent else ""
     # Its body begins on a line of its own if it has clauses.
-    brace = match_in(rf"(?m)^{indent}([{{}}]\S*)|\Z", text, begin=found.start())
-    head = text[found.start():brace.start()]
+    brace = match_in(rf"(?m)^{indent}([{{}}]\S*)|\Z", text, begin=match.start())
+    head = text[match.start():brace.start()]
     end = text.index(f"\n{indent}}}", brace.start()) + len(indent) + 2 if brace[1] == "{" else brace.end()
     return Function(
-        file, owner, name, found.start(), brace.start() if brace[1] in ("{", "{}") else found.start(), end,
+        file, owner, name, match.start(), brace.start() if brace[1] in ("{", "{}") else match.start(), end,
         is_pub=visibility == "pub ",
         has_clause=bool(re.search(rf"(?m)^{indent}    ensures\b", head)),
         is_empty=not text[brace.start():end].strip("{} \n"),
@@ -95,10 +95,10 @@ class Exports:
             self.read(folder, "src/lib.rt", ())
 
     def read(self, folder: str, file: str, module: tuple[str, ...]) -> None:
-        with open(os.path.join(folder, file), encoding="utf-8") as it:
-            text = re.sub(r"//.*", "", it.read())
-        for shown in EXPORT.findall(text):
-            self.names |= set(re.findall(r"(\w+)(?=\s*[,}]|\s*$)", shown))
+        with open(os.path.join(folder, file), encoding="utf-8") as source:
+            text = re.sub(r"//.*", "", source.read())
+        for exported in EXPORT.findall(text):
+            self.names |= set(re.findall(r"(\w+)(?=\s*[,}]|\s*$)", exported))
         for pub, name in MODULE.findall(text):
             if pub:
                 self.modules.add("::".join((*module, name)))

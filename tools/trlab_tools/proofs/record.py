@@ -27,10 +27,10 @@ Recorded = dict[str, dict[str, str]]
 @functools.cache
 def logic() -> str:
     """What identifies the logic of the toolchain."""
-    said = subprocess.run(["rt", "--version"], capture_output=True, check=True, text=True).stdout
-    if not (found := LOGIC.search(said)):
-        raise SystemExit(f"`rt --version` names no logic: {said}")
-    return found[1]
+    version = subprocess.run(["rt", "--version"], capture_output=True, check=True, text=True).stdout
+    if not (match := LOGIC.search(version)):
+        raise SystemExit(f"`rt --version` names no logic: {version}")
+    return match[1]
 
 
 def sum_of(crate: Crate) -> str:
@@ -93,15 +93,15 @@ def verdict_on(crate: Crate, body: Body, recorded: Recorded) -> Verdict:
 
 def shortened(line: str) -> str:
     """The beginning of what the prover says, with the words that show whether a clause was refused."""
-    found = OF_CLAUSE.search(line)
-    return line[:max(MAX_CHARACTERS, found.end() if found else 0)].replace("\t", " ")
+    refusal = OF_CLAUSE.search(line)
+    return line[:max(MAX_CHARACTERS, refusal.end() if refusal else 0)].replace("\t", " ")
 
 
 def write(crate: Crate, verdicts: list[tuple[Body, Verdict]]) -> None:
     """Record the verdicts on all bodies of a crate. A body that no function refuses gets no row, so that it is tried again."""
     rows = [
         f"{body.name}\t{change.path}\t{shortened(line)}\n"
-        for body, verdict in sorted(verdicts, key=lambda it: it[0].name)
+        for body, verdict in sorted(verdicts, key=lambda pair: pair[0].name)
         for change, line in verdict.refusing.items()
     ]
     with open(path_of(crate), "w", encoding="utf-8") as file:

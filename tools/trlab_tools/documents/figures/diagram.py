@@ -11,13 +11,13 @@ Points = Sequence[Tuple[float, float]]
 
 def runs(table: str, begin: str) -> Dict[float, List[float]]:
     """The flows of the rows of a study's table whose input has this first part of its name, by density."""
-    found: Dict[float, List[float]] = {}
+    flows_by_density: Dict[float, List[float]] = {}
     with open(REPOSITORY / "studies" / table, encoding="utf-8") as file:
         for row in csv.DictReader(file):
             if row["text"].startswith(begin):
                 flow = int(row["distance"]) / (int(row["cells"]) * int(row["steps"]))
-                found.setdefault(int(row["cars"]) / int(row["cells"]), []).append(flow)
-    return found
+                flows_by_density.setdefault(int(row["cars"]) / int(row["cells"]), []).append(flow)
+    return flows_by_density
 
 
 def means(table: str, begin: str) -> Points:
@@ -29,10 +29,10 @@ class Diagram:
     """A frame with the density from left to right, up to `widest`, and the flow upwards, up to `highest`."""
 
     def __init__(
-        self, drawing: Drawing, left: float, top: float, wide: float, high: float,
+        self, drawing: Drawing, left: float, top: float, width: float, height: float,
         widest: float = 1, highest: float = 0.9, marks: Tuple[float, float] = (0.2, 0.2),
     ) -> None:
-        self.drawing, self.left, self.bottom, self.wide, self.high = drawing, left, top + high, wide, high
+        self.drawing, self.left, self.bottom, self.width, self.height = drawing, left, top + height, width, height
         self.widest, self.highest = widest, highest
         for place in range(int(widest / marks[0] + 1e-9) + 1):
             x = self.across(place * marks[0])
@@ -42,19 +42,19 @@ class Diagram:
             y = self.up(place * marks[1])
             drawing.line(left - 4, y, left, y)
             drawing.text(left - 7, y + 4, f"{place * marks[1]:g}", "end", 12)
-        drawing.line(left, self.bottom, left + wide, self.bottom)
+        drawing.line(left, self.bottom, left + width, self.bottom)
         drawing.line(left, self.bottom, left, top)
-        drawing.text(left + wide / 2, self.bottom + 34, "density (cars per cell)", "middle", 12)
+        drawing.text(left + width / 2, self.bottom + 34, "density (cars per cell)", "middle", 12)
 
     def across(self, density: float) -> float:
-        return self.left + self.wide * density / self.widest
+        return self.left + self.width * density / self.widest
 
     def up(self, flow: float) -> float:
-        return self.bottom - self.high * flow / self.highest
+        return self.bottom - self.height * flow / self.highest
 
     def flows(self, words: str) -> None:
         """The title of the vertical axis."""
-        self.drawing.text(self.left - 36, self.bottom - self.high / 2, words, "middle", 12, turned=True)
+        self.drawing.text(self.left - 36, self.bottom - self.height / 2, words, "middle", 12, turned=True)
 
     def line(self, points: Points, stroke: str, width: float = 1.5, dashes: str = "") -> None:
         places = "L".join(f"{self.across(density):.1f} {self.up(flow):.1f}" for density, flow in points)

@@ -17,10 +17,10 @@ LEFT, WIDE, HIGH, ROW = 236, 150, 26, 35
 def layers() -> Iterator[tuple[str, str, dict[str, list[str]]]]:
     """The layers, lowest first: the name of each, its subject, and its crates with the crates that they use."""
     with open(CRATES, encoding="utf-8") as file:
-        found = LAYER.findall(file.read())
-    for name, about, lines in found:
+        sections = LAYER.findall(file.read())
+    for name, subject, lines in sections:
         if name != BESIDE:
-            yield name, about, {crate: used.split() for crate, used in re.findall(r"^(\w+):(.*)$", lines, re.M)}
+            yield name, subject, {crate: used.split() for crate, used in re.findall(r"^(\w+):(.*)$", lines, re.M)}
 
 
 def rows(crates: dict[str, list[str]]) -> list[list[str]]:
@@ -37,20 +37,20 @@ def room(levels: list[list[str]]) -> int:
 
 
 def draw() -> str:
-    parts = [(name, about, rows(crates)) for name, about, crates in layers()]
-    high = sum(room(levels) + 8 for *_, levels in parts) + 32
-    drawing = Drawing(LEFT + 3 * (WIDE + 14) + 30, high)
-    y = high - 20
-    for fill, (name, about, levels) in zip(cycle(FILLS), parts):
-        tall = room(levels)
-        y -= tall
-        drawing.box(20, y, drawing.width - 40, tall, fill, FRAME, 6)
-        lines = textwrap.wrap(about, 30)
-        drawing.text(36, y + tall / 2 + 5 - 8 * len(lines), name, weight="bold")
+    parts = [(name, subject, rows(crates)) for name, subject, crates in layers()]
+    height = sum(room(levels) + 8 for *_, levels in parts) + 32
+    drawing = Drawing(LEFT + 3 * (WIDE + 14) + 30, height)
+    y = height - 20
+    for fill, (name, subject, levels) in zip(cycle(FILLS), parts):
+        layer_height = room(levels)
+        y -= layer_height
+        drawing.box(20, y, drawing.width - 40, layer_height, fill, FRAME, 6)
+        lines = textwrap.wrap(subject, 30)
+        drawing.text(36, y + layer_height / 2 + 5 - 8 * len(lines), name, weight="bold")
         for place, line in enumerate(lines):
-            drawing.text(36, y + tall / 2 + 21 + 15 * place - 8 * len(lines), line, size=11.5)
+            drawing.text(36, y + layer_height / 2 + 21 + 15 * place - 8 * len(lines), line, size=11.5)
         for level, crates in enumerate(levels):
-            top = y + tall - 8 - (level + 1) * ROW + (ROW - HIGH)
+            top = y + layer_height - 8 - (level + 1) * ROW + (ROW - HIGH)
             for place, crate in enumerate(crates):
                 x = LEFT + place * (WIDE + 14)
                 drawing.box(x, top, WIDE, HIGH, "white", "#909090")

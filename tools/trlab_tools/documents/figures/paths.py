@@ -23,12 +23,12 @@ def paths() -> List[List[int]]:
     cell is the first one of the next row."""
     first, *later = rows(LIMIT, LANE, RULE, STEPS)
     cells = [cell for cell, sign in enumerate(first) if sign != "."]
-    found = [[cell] for cell in cells]
+    paths_by_car = [[cell] for cell in cells]
     for row in later:
         came_from = {(cell - int(sign)) % len(row): int(sign) for cell, sign in enumerate(row) if sign != "."}
-        for path in found:
+        for path in paths_by_car:
             path.append(path[-1] + came_from[path[-1] % len(row)])
-    return found
+    return paths_by_car
 
 
 def axes(drawing: Drawing) -> None:

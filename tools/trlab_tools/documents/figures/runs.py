@@ -14,8 +14,8 @@ def answer(command: str, lines: List[str]) -> str:
 def snapshots(limit: int, lanes: List[str], rule: List[str], steps: int, key: int = 0) -> List[List[str]]:
     """The lanes after each step, from the initial road on."""
     job = ["road 1", f"key {key:064x}", f"limit {limit}", *(f"lane {lane}" for lane in lanes), *rule, f"steps {steps}"]
-    shown = [line for line in answer("run", job).splitlines() if not line.startswith("step")]
-    return [shown[place:place + len(lanes)] for place in range(0, len(shown), len(lanes))]
+    lines = [line for line in answer("run", job).splitlines() if not line.startswith("step")]
+    return [lines[place:place + len(lanes)] for place in range(0, len(lines), len(lanes))]
 
 
 def rows(limit: int, lane: str, rule: List[str], steps: int) -> List[str]:

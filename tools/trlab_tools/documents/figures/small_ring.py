@@ -17,14 +17,14 @@ GREY = "#909090"
 
 def measured(brake: Fraction) -> Dict[int, Tuple[float, float]]:
     """For each number of cars the mean flow over the keys, and its standard error."""
-    found: Dict[int, List[float]] = {cars: [] for cars in range(1, CELLS)}
+    flows_by_cars: Dict[int, List[float]] = {cars: [] for cars in range(1, CELLS)}
     for key in range(1, KEYS + 1):
         sweep = ["sweep 1", f"key {key:064x}", "limit 1", f"length {CELLS}", "lanes 1", f"rule nasch {2**31 * brake}"]
-        sweep += ["warm 200", "measure 5000", *(f"cars {cars}" for cars in found)]
+        sweep += ["warm 200", "measure 5000", *(f"cars {cars}" for cars in flows_by_cars)]
         for row in answer("sweep", sweep).splitlines()[1:]:
             cars, cells, steps, distance = map(int, row.split(",")[:4])
-            found[cars].append(distance / (cells * steps))
-    return {cars: (mean(flows), stdev(flows) / sqrt(KEYS)) for cars, flows in found.items()}
+            flows_by_cars[cars].append(distance / (cells * steps))
+    return {cars: (mean(flows), stdev(flows) / sqrt(KEYS)) for cars, flows in flows_by_cars.items()}
 
 
 def long_ring(density: float, brake: float) -> float:

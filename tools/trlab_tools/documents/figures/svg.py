@@ -26,12 +26,12 @@ class Drawing:
         self.parts: List[str] = []
 
     def box(
-        self, x: float, y: float, wide: float, high: float,
-        fill: str = "white", stroke: str = FRAME, round_by: float = 4, width: float = 1,
+        self, x: float, y: float, width: float, height: float,
+        fill: str = "white", stroke: str = FRAME, round_by: float = 4, stroke_width: float = 1,
     ) -> None:
         self.parts.append(
-            f'<rect x="{x:.1f}" y="{y:.1f}" width="{wide:.1f}" height="{high:.1f}" rx="{round_by}" '
-            f'fill="{fill}" stroke="{stroke}" stroke-width="{width}"/>'
+            f'<rect x="{x:.1f}" y="{y:.1f}" width="{width:.1f}" height="{height:.1f}" rx="{round_by}" '
+            f'fill="{fill}" stroke="{stroke}" stroke-width="{stroke_width}"/>'
         )
 
     def boxes(self, corners: List[Tuple[float, float]], size: float, fill: str) -> None:

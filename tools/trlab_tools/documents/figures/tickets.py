@@ -32,7 +32,7 @@ def draw() -> str:
         joined(drawing, middle, 80, places[worker], 138, WORKERS[worker])
         joined(drawing, places[worker], 226, middle, 288, WORKERS[worker])
     for worker, middle in enumerate(places):
-        tickets = ", ".join(str(number) for number, by in enumerate(DRAWN) if by == worker)
+        tickets = ", ".join(str(number) for number, drawn_by in enumerate(DRAWN) if drawn_by == worker)
         drawing.box(middle - 85, 140, 170, 86, "white", WORKERS[worker], 6, 2)
         drawing.text(middle, 164, f"worker {worker}", "middle", fill=WORKERS[worker], weight="bold")
         drawing.text(middle, 188, f"has drawn {tickets}", "middle")

@@ -40,53 +40,53 @@ def extend(piece: Piece, place: float, step: float) -> None:
     piece.append((place, step))
 
 
-def pieces(here: List[Move], cells: int) -> List[Piece]:
+def pieces(moves: List[Move], cells: int) -> List[Piece]:
     """The lines of cars through a frame: a car that leaves it at the right comes back at the left, on another line."""
-    found: List[Piece] = []
+    lines: List[Piece] = []
     ends: Dict[Tuple[int, int], Piece] = {}
-    for move in here:
+    for move in moves:
         begin, end = move.cell + 0.5, move.cell + move.speed + 0.5
         piece = ends.get((move.cell, move.step))
         if piece is None or move.before != move.after:
-            found.append(piece := [(begin, float(move.step))])
+            lines.append(piece := [(begin, float(move.step))])
         if end > cells:
             between = move.step + (cells - begin) / move.speed
             extend(piece, cells, between)
-            found.append(piece := [(0.0, between)])
+            lines.append(piece := [(0.0, between)])
         extend(piece, end % cells, move.step + 1)
         ends[(move.cell + move.speed) % cells, move.step + 1] = piece
-    return found
+    return lines
 
 
 class SpaceTime:
     """A frame with the cells of a lane from left to right, and time from the top down."""
 
-    def __init__(self, drawing: Drawing, left: float, top: float, wide: float, high: float, snapshots: Snapshots) -> None:
-        self.drawing, self.left, self.top, self.wide, self.high = drawing, left, top, wide, high
+    def __init__(self, drawing: Drawing, left: float, top: float, width: float, height: float, snapshots: Snapshots) -> None:
+        self.drawing, self.left, self.top, self.width, self.height = drawing, left, top, width, height
         self.snapshots, self.cells, self.steps = snapshots, len(snapshots[0][0]), len(snapshots) - 1
-        drawing.box(left, top, wide, high, "white", "#d0d0d0", 0)
+        drawing.box(left, top, width, height, "white", "#d0d0d0", 0)
 
     def x(self, place: float) -> float:
-        return self.left + self.wide * place / self.cells
+        return self.left + self.width * place / self.cells
 
     def y(self, step: float) -> float:
-        return self.top + self.high * step / self.steps
+        return self.top + self.height * step / self.steps
 
     def axes(self, every_cells: int, every_steps: int, has_times: bool = True) -> None:
-        bottom = self.top + self.high
+        bottom = self.top + self.height
         for cell in range(0, self.cells, every_cells):
             self.drawing.line(self.x(cell), bottom, self.x(cell), bottom + 4)
             self.drawing.text(self.x(cell), bottom + 17, str(cell), "middle", 12)
-        self.drawing.text(self.left + self.wide / 2, bottom + 34, "position (cells)", "middle", 12)
+        self.drawing.text(self.left + self.width / 2, bottom + 34, "position (cells)", "middle", 12)
         if has_times:
             for step in range(0, self.steps + 1, every_steps):
                 self.drawing.line(self.left - 4, self.y(step), self.left, self.y(step))
                 self.drawing.text(self.left - 7, self.y(step) + 4, str(step), "end", 12)
-            self.drawing.text(self.left - 34, self.top + self.high / 2, "time (steps)", "middle", 12, turned=True)
+            self.drawing.text(self.left - 34, self.top + self.height / 2, "time (steps)", "middle", 12, turned=True)
 
     def path(self, pieces: List[Piece], stroke: str, width: float) -> None:
-        shown = ("M" + " ".join(f"{self.x(place):.1f} {self.y(step):.1f}" for place, step in piece) for piece in pieces)
-        self.drawing.path("".join(shown), stroke, width)
+        lines = ("M" + " ".join(f"{self.x(place):.1f} {self.y(step):.1f}" for place, step in piece) for piece in pieces)
+        self.drawing.path("".join(lines), stroke, width)
 
     def paths(self, lane: int = 0) -> None:
         """The paths of the cars on a lane: blue if they move, red if they are stopped, with a circle at each lane change."""

@@ -13,10 +13,10 @@ TABLE = "1996/random.csv"
 
 def draw() -> str:
     drawing = Drawing(760, 330)
-    shown = snapshots(LIMIT, LANES, RULE, STEPS, 1)
+    run = snapshots(LIMIT, LANES, RULE, STEPS, 1)
     for lane in 0, 1:
         left = 56 + 206 * lane
-        panel = SpaceTime(drawing, left, 34, 190, 230, shown)
+        panel = SpaceTime(drawing, left, 34, 190, 230, run)
         panel.paths(lane)
         panel.axes(40, 20, lane == 0)
         drawing.text(left, 22, f"lane {lane} (p = 1/2, c = 1)", weight="bold")

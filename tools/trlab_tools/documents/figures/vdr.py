@@ -33,8 +33,8 @@ def branches(drawing: Drawing) -> None:
     diagram.curve(free_line, BLUE, 0, 0.165)
     diagram.curve(jam_line, RED, 0, WIDEST)
     for begin, fill in ("moving", BLUE), ("jam", RED):
-        found = {density: flows for density, flows in runs(TABLE, f"{begin}_").items() if density <= WIDEST}
-        diagram.circles([(density, flow) for density, flows in found.items() for flow in flows], fill, 2.8, 0.6)
+        branch = {density: flows for density, flows in runs(TABLE, f"{begin}_").items() if density <= WIDEST}
+        diagram.circles([(density, flow) for density, flows in branch.items() for flow in flows], fill, 2.8, 0.6)
     diagram.label(0.083, 0.53, "free line", BLUE, "end")
     diagram.label(0.195, 0.14, "jam line", RED, "end")
     drawing.text((low + high) / 2, 50, "two flows", "middle", 12, "#606060")

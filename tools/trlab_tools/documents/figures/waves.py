@@ -32,11 +32,11 @@ def panel(drawing: Drawing, left: float, lane: str, ahead: int, words: str) -> N
     drawing.text(left + SIZE * CELLS / 2, TOP - 24, words, "middle", weight="bold")
     drawing.text(left + SIZE * CELLS / 2, TOP - 8, "position (cells)", "middle", 12)
     drawing.box(left, TOP, SIZE * CELLS, SIZE * (STEPS + 1), "white", "#d0d0d0", 0)
-    shown = rows(LIMIT, lane, ["rule nasch 0"], STEPS)
+    snapshots = rows(LIMIT, lane, ["rule nasch 0"], STEPS)
     for speed in range(LIMIT + 1):
-        places = [(cell, step) for step, row in enumerate(shown) for cell, sign in enumerate(row) if sign == str(speed)]
+        places = [(cell, step) for step, row in enumerate(snapshots) for cell, sign in enumerate(row) if sign == str(speed)]
         drawing.boxes([(left + SIZE * cell, TOP + SIZE * step) for cell, step in places], SIZE, colour(speed, LIMIT))
-    characteristics(drawing, left, shown[first], first, ahead)
+    characteristics(drawing, left, snapshots[first], first, ahead)
     level = TOP + SIZE * first
     drawing.path(f"M{left - 8:.1f} {level:.1f}H{left + SIZE * CELLS:.1f}", INK, 1.2, dashes="4 3")
     drawing.text(left - 10, level + 4, f"step {first}", "end", 12)
