@@ -1,17 +1,15 @@
 -- Names are read back.
-use Rattle.std.proofs.Common.{◌≡◌, ℕ, Bool, true, List, [], ◌∷◌, Option, Some, find, refl, sym, ap, ◌∙◌, inl, inr}
-use Rattle.std.specs.Prelude.{bytes_eq}
-use Rattle.std.proofs.lemmas.Bool.{cases_Bool}
-use Rattle.std.proofs.lemmas.Slice.Eq.{bytes_eq-Decides}
-use Rattle.trlab_code.specs.declared.instruction.Register.{Register}
-use Rattle.trlab_code.specs.declared.instruction.Register.TheVariants.{R0, R1, R2, R3, R4, R5, R6, R7}
-use Rattle.trlab_code.specs.declared.instruction.Input.{Input}
-use Rattle.trlab_code.specs.declared.instruction.Input.TheVariants.{Speed, Limit, Gap, SideGap, SideBack, Lane, Headspeed}
-use Rattle.trlab_asm.specs.declared.names.Mnemonic.{Mnemonic}
-use Rattle.trlab_asm.specs.declared.names.Mnemonic.TheVariants as name
-use Rattle.trlab_asm.specs.declared.names.TheConstants.{REGISTERS, INPUTS, MNEMONICS}
-use Rattle.trlab_asm.specs.Names.{register_text, input_text, mnemonic_text, register_named, input_named, mnemonic_named}
+use Rattle.std.proofs.Common.{◌≡◌, ℕ, Bool, true, List, [], ◌∷◌, Option, Some, find, refl, sym, ap, ◌∙◌, inl}
+use Rattle.std.proofs.{Common.{inr, bytes_eq}, lemmas.{Bool.cases_Bool, Slice.Eq.bytes_eq-Decides}}
+use Rattle.trlab_code.specs.declared.instruction.Register.{Register, TheVariants.{R0, R1, R2, R3, R4, R5, R6}}
+use Rattle.trlab_code.specs.declared.instruction.{Register.TheVariants.R7, Input.{Input, TheVariants.Speed}}
+use Rattle.trlab_code.specs.declared.instruction.Input.TheVariants.{Limit, Gap, SideGap, SideBack, Lane}
+use Rattle.trlab_code.specs.declared.instruction.Input.TheVariants.{Headspeed}
+use Rattle.trlab_asm.specs.declared.names.{Mnemonic.Mnemonic, TheConstants.{REGISTERS, INPUTS, MNEMONICS}}
+use Rattle.trlab_asm.specs.Names.{register_text, input_text, mnemonic_text, register_named, input_named}
+use Rattle.trlab_asm.specs.Names.{mnemonic_named}
 use Rattle.trlab_asm.specs.Laws.{RegistersAreNamed, InputsAreNamed, InstructionsAreNamed}
+use Rattle.trlab_asm.specs.declared.names.Mnemonic.TheVariants as name
 
 some_inside : {X : Type 0} {a b : X} → ◌≡◌ {A = Option X} (Some a) (Some b) → a ≡ b
 some_inside h = cc

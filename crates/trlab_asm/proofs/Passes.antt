@@ -1,12 +1,11 @@
 -- The two passes, one step after the other.
-use Rattle.std.proofs.Common.{◌≡◌, ℕ, suc, ◌+◌, ◌<◌, ◌≤◌, List, [], ◌∷◌, ◌++◌, length, drop, get_or, refl, sym, ap, append_assoc, append-nil, add-one, drop-cons}
-use Rattle.std.specs.Prelude.{false, ◌==◌, Result, Ok, Err}
-use Rattle.std.proofs.Math.ListN.{drop_of_length-le}
+use Rattle.std.proofs.Common.{◌≡◌, ℕ, suc, ◌+◌, ◌<◌, ◌≤◌, List, [], ◌∷◌, ◌++◌, length, drop, get_or, refl}
+use Rattle.std.proofs.Common.{sym, ap, append_assoc, append-nil, add-one, drop-cons, false, ◌==◌, Result, Ok}
+use Rattle.std.proofs.Common.{Err, drop_of_length-le}
 use Rattle.trlab_code.specs.declared.instruction.Instr.{Instr}
-use Rattle.trlab_asm.specs.Results.{◌>>=◌}
-use Rattle.trlab_asm.specs.Reading.{Labels, Line, line_content}
-use Rattle.trlab_asm.specs.Assembly.{Parts, LineDraft, in_line, with_line, first_pass, resolve, second_pass, instrs_of}
-use Rattle.trlab_asm.specs.declared.fault.AsmFault.{AsmFault}
+use Rattle.trlab_asm.specs.{Operands.{◌>>=◌}, Reading.{Labels, Line, line_content}}
+use Rattle.trlab_asm.specs.Assembly.{Parts, LineDraft, in_line, with_line, first_pass, resolve, second_pass}
+use Rattle.trlab_asm.specs.{Assembly.instrs_of, declared.fault.AsmFault.AsmFault}
 
 -- a line that is not empty
 pub first_next : (parts : Parts) (number : ℕ) (line : List ℕ) (left : List (List ℕ)) (said : Line) → Ok said ≡ in_line number (line_content parts.labels (length parts.drafts) line)

@@ -1,25 +1,24 @@
 -- A printed operand is read back.
-use Rattle.std.proofs.Common.{◌≡◌, ◌||◌, ◌&&◌, ◌==◌, ℕ, ◌-◌, ◌<◌, ◌≤◌, ◌^◌, List, [], ◌∷◌, length, refl, arith, Bool, true, false, cond}
-use Rattle.std.specs.Prelude.{None, Some, Ok, nat_lt, nat_le, decimal}
-use Rattle.std.specs.Char.{is_ascii_digit, is_ascii_alphanumeric}
-use Rattle.std.specs.Str.Parse.{digits_value}
-use Rattle.std.proofs.lemmas.Fmt.{decimal_nonempty, digits_decimal, digits_value-decimal, length-decimal-le}
-use Rattle.std.proofs.lemmas.Bool.{lt-ltb, le-leb}
-use Rattle.std.proofs.lemmas.Bool.Decides.{nat_tests}
-use Rattle.trlab_code.specs.declared.instruction.Register.{Register}
-use Rattle.trlab_code.specs.declared.instruction.Register.TheVariants.{R0, R1, R2, R3, R4, R5, R6, R7}
-use Rattle.trlab_code.specs.declared.instruction.Input.{Input}
-use Rattle.trlab_code.specs.declared.instruction.Input.TheVariants.{Speed, Limit, Gap, SideGap, SideBack, Lane, Headspeed}
-use Rattle.trlab_bounds.specs.declared.programs.TheConstants.{WORDS, CERTAIN}
+use Rattle.std.proofs.Common.{◌≡◌, ◌||◌, ◌&&◌, ◌==◌, ℕ, ◌-◌, ◌<◌, ◌≤◌, ◌^◌, List, [], ◌∷◌, length, refl}
+use Rattle.std.proofs.Common.{arith, Bool, true, false, cond, None, Some, Ok, nat_lt, nat_le, decimal, lt-ltb}
+use Rattle.std.proofs.{Common.le-leb, lemmas.Fmt.{decimal_nonempty, digits_decimal, digits_value-decimal}}
+use Rattle.std.{proofs.lemmas.{Fmt.length-decimal-le, Bool.Decides.nat_tests}, specs.Char.is_ascii_digit}
+use Rattle.std.specs.{Char.is_ascii_alphanumeric, Str.Parse.digits_value}
+use Rattle.trlab_code.specs.declared.instruction.Register.{Register, TheVariants.{R0, R1, R2, R3, R4, R5, R6}}
+use Rattle.trlab_code.specs.declared.instruction.{Register.TheVariants.R7, Input.{Input, TheVariants.Speed}}
+use Rattle.trlab_code.specs.declared.instruction.Input.TheVariants.{Limit, Gap, SideGap, SideBack, Lane}
+use Rattle.trlab_code.specs.declared.instruction.Input.TheVariants.{Headspeed}
+use Rattle.trlab_bounds.specs.declared.programs.TheConstants.{WORDS, CERTAIN, MAX_NUMBER}
 use Rattle.trlab_asm.specs.Names.{register_text, input_text, mnemonic_text, mnemonic_named}
-use Rattle.trlab_lines.specs.Numbers.{all_digits}
-use Rattle.trlab_asm.specs.Operands.{register, input, digits_of, numeral, value_within, number, WrittenTarget, jump_target, target_named, is_label, all_label_bytes, two_registers, three_registers, register_input, register_and_number, two_registers_number, word_chance, register_word_chance, register_target, two_registers_target, ◌then◌}
-use Rattle.trlab_asm.specs.Canonical.{label_text, target_text, ◌comma◌}
-use Rattle.trlab_asm.specs.declared.names.Mnemonic.{Mnemonic}
+use Rattle.trlab_asm.specs.Operands.{register, input, digits_of, numeral, value_within, number, WrittenTarget}
+use Rattle.trlab_asm.specs.Operands.{jump_target, target_named, is_label, all_label_bytes, two_registers}
+use Rattle.trlab_asm.specs.Operands.{three_registers, register_input, register_and_number}
+use Rattle.trlab_asm.specs.Operands.{two_registers_number, word_chance, register_word_chance, register_target}
+use Rattle.trlab_asm.{specs.Operands.{two_registers_target, ◌then◌}, proofs.UncutWords.then_again}
+use Rattle.trlab_asm.specs.{Canonical.{label_text, target_text, ◌comma◌}, declared.names.Mnemonic.Mnemonic}
+use Rattle.trlab_asm.proofs.UncutWords.{is_plain, plain_word, and_parts, and_both, alone_behind_blank}
 use Rattle.trlab_asm.specs.declared.names.Mnemonic.TheVariants as name
-use Rattle.trlab_bounds.specs.declared.programs.TheConstants.{MAX_NUMBER}
-use Rattle.trlab_asm.proofs.UncutWords.{is_plain, plain_word, and_parts, and_both, alone_behind_blank, then_again}
-use Rattle.trlab_lines.proofs.Digits.{own}
+use Rattle.trlab_lines.{specs.Lines.all_digits, proofs.Digits.own}
 
 pub register_plain : (r : Register) → plain_word (register_text r) ≡ true
 register_plain R0 = refl

@@ -1,20 +1,19 @@
 -- A printed instruction is read back.
-use Rattle.std.proofs.Common.{◌≡◌, ℕ, ◌<◌, List, ◌∷◌, ◌++◌, length, refl, arith, false, length-append}
-use Rattle.std.specs.Prelude.{None, Some, Ok, decimal, ◌==◌}
-use Rattle.std.proofs.lemmas.Bool.{lt-ltb, ne_eqb}
-use Rattle.trlab_code.specs.Program.{IsInRange}
-use Rattle.trlab_code.specs.declared.instruction.Instr.{Instr}
-use Rattle.trlab_code.specs.declared.instruction.Instr.TheVariants.{Num, Get, Side, Draw, Copy, Add, Sub, Mul, Div, Min, Max, Not, And, Or, Jump, JumpLess, JumpAtMost, JumpTrue, JumpFalse, Go, Cross, Stay}
+use Rattle.std.proofs.Common.{◌≡◌, ℕ, ◌<◌, List, ◌∷◌, ◌++◌, length, refl, arith, false, length-append, None}
+use Rattle.std.proofs.Common.{Some, Ok, decimal, ◌==◌, lt-ltb, ne_eqb}
+use Rattle.trlab_code.specs.{Program.IsInRange, declared.instruction.Instr.Instr}
+use Rattle.trlab_code.specs.declared.instruction.Instr.TheVariants.{Num, Get, Side, Draw, Copy, Add, Sub, Mul}
+use Rattle.trlab_code.specs.declared.instruction.Instr.TheVariants.{Div, Min, Max, Not, And, Or, Jump}
+use Rattle.trlab_code.specs.declared.instruction.Instr.TheVariants.{JumpLess, JumpAtMost, JumpTrue, JumpFalse}
+use Rattle.trlab_code.specs.{declared.instruction.Instr.TheVariants.{Go, Cross, Stay}, Laws.FitsIn32Bits}
 use Rattle.trlab_bounds.specs.declared.programs.TheConstants.{MAX_INSTRUCTIONS}
-use Rattle.trlab_asm.specs.Names.{register_text, input_text, mnemonic_text}
-use Rattle.trlab_asm.specs.Operands.{WrittenTarget}
-use Rattle.trlab_asm.specs.Reading.{InstrDraft, draft_of, body}
-use Rattle.trlab_asm.specs.Canonical.{target_text, ◌comma◌, with_operands, instr_text}
-use Rattle.trlab_code.specs.Laws.{FitsIn32Bits}
-use Rattle.trlab_asm.specs.declared.names.Mnemonic.{Mnemonic}
+use Rattle.trlab_asm.specs.{Names.{register_text, input_text, mnemonic_text}, Operands.WrittenTarget}
+use Rattle.trlab_asm.specs.{Reading.{InstrDraft, draft_of, body}, Canonical.{target_text, ◌comma◌}}
+use Rattle.trlab_asm.specs.{Canonical.{with_operands, instr_text}, declared.names.Mnemonic.Mnemonic}
+use Rattle.trlab_asm.proofs.{UncutWords.word_and_more, Printed.{goal_of, name_again, register_again}}
+use Rattle.trlab_asm.proofs.Printed.{target_again, two_again, three_again, get_again, one_number_again}
+use Rattle.trlab_asm.proofs.Printed.{two_number_again, draw_again, one_target_again, two_target_again}
 use Rattle.trlab_asm.specs.declared.names.Mnemonic.TheVariants as name
-use Rattle.trlab_asm.proofs.UncutWords.{word_and_more}
-use Rattle.trlab_asm.proofs.Printed.{goal_of, name_again, register_again, target_again, two_again, three_again, get_again, one_number_again, two_number_again, draw_again, one_target_again, two_target_again}
 
 -- the fields are in range, and the number has 32 bits
 abbrev pub Fits : Instr → Type 0

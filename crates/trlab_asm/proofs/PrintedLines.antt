@@ -1,22 +1,23 @@
 -- A printed line is read back.
-use Rattle.std.proofs.Common.{◌≡◌, ◌==◌, ℕ, ◌<◌, ◌≤◌, ◌^◌, List, [], ◌∷◌, ◌++◌, get_or, refl, sym, ◌∙◌, arith, Bool, true, false, cond, not}
-use Rattle.std.specs.Prelude.{Option, None, Some, Ok, decimal}
-use Rattle.std.proofs.lemmas.Bool.{eq-eqb}
+use Rattle.std.proofs.Common.{◌≡◌, ◌==◌, ℕ, ◌<◌, ◌≤◌, ◌^◌, List, [], ◌∷◌, ◌++◌, get_or, refl, sym, ◌∙◌, arith}
+use Rattle.std.proofs.Common.{Bool, true, false, cond, not, Option, None, Some, Ok, decimal, eq-eqb}
 use Rattle.std.proofs.lemmas.List.Elements.{All-cons}
-use Rattle.trlab_code.specs.declared.instruction.Register.{Register}
-use Rattle.trlab_code.specs.declared.instruction.Instr.{Instr}
-use Rattle.trlab_code.specs.declared.instruction.Instr.TheVariants.{Num, Get, Side, Draw, Copy, Add, Sub, Mul, Div, Min, Max, Not, And, Or, Jump, JumpLess, JumpAtMost, JumpTrue, JumpFalse, Go, Cross, Stay}
+use Rattle.trlab_code.specs.declared.instruction.{Register.Register, Instr.Instr}
+use Rattle.trlab_code.specs.declared.instruction.Instr.TheVariants.{Num, Get, Side, Draw, Copy, Add, Sub, Mul}
+use Rattle.trlab_code.specs.declared.instruction.Instr.TheVariants.{Div, Min, Max, Not, And, Or, Jump}
+use Rattle.trlab_code.specs.declared.instruction.Instr.TheVariants.{JumpLess, JumpAtMost, JumpTrue, JumpFalse}
+use Rattle.trlab_code.specs.declared.instruction.Instr.TheVariants.{Go, Cross, Stay}
 use Rattle.trlab_bounds.specs.declared.programs.TheConstants.{MAX_INSTRUCTIONS, WORDS, CERTAIN}
-use Rattle.trlab_lines.specs.Lines.{HasNoLineFeed}
-use Rattle.trlab_lines.specs.Cutting.{without_indent}
-use Rattle.trlab_asm.specs.Names.{register_text, input_text, mnemonic_text}
-use Rattle.trlab_asm.specs.Reading.{Labels, line_content}
+use Rattle.trlab_lines.specs.Lines.{HasNoLineFeed, without_indent}
+use Rattle.trlab_asm.specs.{Names.{register_text, input_text, mnemonic_text}, Reading.{Labels, line_content}}
 use Rattle.trlab_asm.specs.Canonical.{label_text, target_text, ◌comma◌, with_operands, instr_text, instr_line}
 use Rattle.trlab_asm.specs.declared.names.Mnemonic.{Mnemonic}
+use Rattle.trlab_asm.proofs.UncutWords.{is_plain, plain_word, and_parts, and_both, not_true, none_of}
+use Rattle.trlab_asm.proofs.UncutWords.{none_in_plain, alone_at_front, without_blank, behind_blank, cut_here}
+use Rattle.trlab_asm.proofs.UncutWords.{cut_nowhere, no_colon, no_semicolon, no_line_end}
+use Rattle.trlab_asm.proofs.Printed.{name_again, register_plain, input_plain, decimal_plain, target_plain}
+use Rattle.trlab_asm.proofs.{Printed.label_again, PrintedInstrs.{Fits, draft_again, instr_again}}
 use Rattle.trlab_asm.specs.declared.names.Mnemonic.TheVariants as name
-use Rattle.trlab_asm.proofs.UncutWords.{is_plain, plain_word, and_parts, and_both, not_true, none_of, none_in_plain, alone_at_front, without_blank, behind_blank, cut_here, cut_nowhere, no_colon, no_semicolon, no_line_end}
-use Rattle.trlab_asm.proofs.Printed.{name_again, register_plain, input_plain, decimal_plain, target_plain, label_again}
-use Rattle.trlab_asm.proofs.PrintedInstrs.{Fits, draft_again, instr_again}
 
 -- a test that passes none of the bytes of words, no space and no comma
 record IsAside (p : ℕ → Bool) : Type 0 where

@@ -1,29 +1,23 @@
 -- The canonical text of a program is read back as the program.
-use Rattle.std.proofs.Common.{◌≡◌, ◌≢◌, ◌==◌, ◌||◌, ℕ, zero, suc, ◌+◌, ◌<◌, ◌≤◌, ◌^◌, List, [], ◌∷◌, ◌++◌, length, take, All, refl, sym, ◌∙◌, ap, arith, Bool, true, false, cond, append_assoc, append-nil, length-append, add-one, subst}
-use Rattle.std.specs.Prelude.{None, Some, Ok, nat_lt, nat_eq, decimal, bytes_eq}
-use Rattle.std.specs.List.{AllByRecursion}
-use Rattle.std.proofs.lemmas.Bool.{ltb-true, ne_eqb, eq-eqb, eqb-true}
-use Rattle.std.proofs.lemmas.Slice.Eq.{bytes_eq-Decides}
-use Rattle.std.proofs.lemmas.Fmt.{decimal_injective}
-use Rattle.std.proofs.lemmas.List.Elements.{All-head, All-tail}
-use Rattle.std.proofs.lemmas.List.{take_all}
-use Rattle.trlab_code.specs.Flow.{target}
-use Rattle.trlab_code.specs.Program.{Program, IsInRange, IsValidProgram}
-use Rattle.trlab_code.specs.declared.instruction.Instr.{Instr}
-use Rattle.trlab_code.specs.declared.instruction.Instr.TheVariants.{Num, Get, Side, Draw, Copy, Add, Sub, Mul, Div, Min, Max, Not, And, Or, Jump, JumpLess, JumpAtMost, JumpTrue, JumpFalse, Go, Cross, Stay}
+use Rattle.std.proofs.Common.{◌≡◌, ◌≢◌, ◌==◌, ◌||◌, ℕ, zero, suc, ◌+◌, ◌<◌, ◌≤◌, ◌^◌, List, [], ◌∷◌, ◌++◌}
+use Rattle.std.proofs.Common.{length, take, All, refl, sym, ◌∙◌, ap, arith, Bool, true, false, cond}
+use Rattle.std.proofs.Common.{append_assoc, append-nil, length-append, add-one, subst, None, Some, Ok, nat_lt}
+use Rattle.std.proofs.Common.{nat_eq, decimal, bytes_eq, ltb-true, ne_eqb, eq-eqb, eqb-true, take_all}
+use Rattle.std.proofs.lemmas.{Slice.Eq.bytes_eq-Decides, Fmt.decimal_injective}
+use Rattle.std.{proofs.lemmas.List.Elements.{All-head, All-tail}, specs.List.AllByRecursion}
+use Rattle.trlab_code.specs.{Flow.target, declared.instruction.Instr.{Instr, TheVariants.{Go, Cross, Stay}}}
+use Rattle.trlab_code.specs.{Program.{Program, IsInRange, IsValidProgram}, Laws.FitsIn32Bits}
+use Rattle.trlab_code.specs.declared.instruction.Instr.TheVariants.{Num, Get, Side, Draw, Copy, Add, Sub, Mul}
+use Rattle.trlab_code.specs.declared.instruction.Instr.TheVariants.{Div, Min, Max, Not, And, Or, Jump}
+use Rattle.trlab_code.specs.declared.instruction.Instr.TheVariants.{JumpLess, JumpAtMost, JumpTrue, JumpFalse}
 use Rattle.trlab_bounds.specs.declared.programs.TheConstants.{MAX_INSTRUCTIONS}
-use Rattle.trlab_lines.specs.Lines.{lines_of}
-use Rattle.trlab_asm.specs.Operands.{WrittenTarget}
-use Rattle.trlab_asm.specs.Reading.{Labels, line_content}
-use Rattle.trlab_asm.specs.Assembly.{LineDraft, with_label, first_pass, with_target, resolve_label, resolve, second_pass, code_of}
+use Rattle.trlab_lines.{specs.Lines.lines_of, proofs.Cuts.line_and_rest}
+use Rattle.trlab_asm.specs.{Operands.WrittenTarget, Laws.{CanonicalTextGivesProgram, TextDeterminesProgram}}
+use Rattle.trlab_asm.{specs.Reading.{Labels, line_content}, proofs.Printed.goal_of}
+use Rattle.trlab_asm.specs.Assembly.{LineDraft, with_label, first_pass, with_target, resolve_label, resolve}
+use Rattle.trlab_asm.{specs.Assembly.{second_pass, code_of}, proofs.PrintedInstrs.{Fits, draft_again}}
 use Rattle.trlab_asm.specs.Canonical.{label_text, instr_line, is_pc, is_jumped_to, text_from, canonical_text}
-use Rattle.trlab_code.specs.Laws.{FitsIn32Bits}
-use Rattle.trlab_asm.specs.Laws.{CanonicalTextGivesProgram, TextDeterminesProgram}
-use Rattle.trlab_lines.proofs.Cuts.{line_and_rest}
-use Rattle.trlab_asm.proofs.Passes.{first_next}
-use Rattle.trlab_asm.proofs.Printed.{goal_of}
-use Rattle.trlab_asm.proofs.PrintedInstrs.{Fits, draft_again}
-use Rattle.trlab_asm.proofs.PrintedLines.{mark, line_has_no_end, line_again}
+use Rattle.trlab_asm.proofs.{Passes.first_next, PrintedLines.{mark, line_has_no_end, line_again}}
 
 -- the labels of the pcs below one
 abbrev labels_below : List Instr → ℕ → Labels

@@ -1,29 +1,31 @@
 -- Every text is a program or has a first fault, and this fault is never a failed allocation.
-use Rattle.std.proofs.Common.{◌≡◌, ◌≢◌, ℕ, suc, ◌+◌, ◌-◌, ◌<◌, ◌≤◌, Bool, true, false, ◌&&◌, ◌==◌, if◌then◌else◌, nat_le, nat_lt, List, [], ◌∷◌, length, All, Option, Some, None, Result, Ok, Err, MatchResult, refl, arith, length-append, leb-true, ltb-true, codes}
-use Rattle.std.specs.Prelude.{ok_or}
-use Rattle.std.specs.Str.Parse.{digits_value}
-use Rattle.std.proofs.lemmas.Bool.{eqb-false}
-use Rattle.std.proofs.lemmas.List.Elements.{All-cons, All-head, All-push, All-tail}
-use Rattle.trlab_code.specs.declared.program.Kind.{Kind}
-use Rattle.trlab_code.specs.declared.instruction.Instr.{Instr}
-use Rattle.trlab_code.specs.declared.instruction.Instr.TheVariants.{Num, Get, Side, Draw, Copy, Add, Sub, Mul, Div, Min, Max, Not, And, Or, Jump, JumpLess, JumpAtMost, JumpTrue, JumpFalse, Go, Cross, Stay}
-use Rattle.trlab_bounds.specs.declared.programs.TheConstants.{MAX_INSTRUCTIONS, WORDS, CERTAIN}
-use Rattle.trlab_code.specs.Program.{IsInRange, IsValidProgram}
-use Rattle.trlab_lines.specs.Cutting.{without_prefix, cut, label_and_rest, only_word, without_comment, without_indent, up_to_blank}
-use Rattle.trlab_asm.specs.Names.{register_named, input_named, mnemonic_named}
-use Rattle.trlab_lines.specs.Numbers.{is_numeral}
-use Rattle.trlab_asm.specs.Operands.{◌then◌, digits_of, input, is_label, no_operand, number, numeral, pc_named, value_within, register, register_input, register_and_number, register_target, register_word_chance, jump_target, target_named, three_registers, two_registers, two_registers_number, two_registers_target, word, word_chance}
-use Rattle.trlab_asm.specs.Results.{◌>>=◌}
-use Rattle.trlab_asm.specs.Reading.{InstrDraft, Labels, Line, body, draft_of, if_free, instruction, label_of, line_content, new_label}
-use Rattle.trlab_asm.specs.Assembly.{Parts, LineDraft, with_target, jump_to, code_of, resolve, first_pass, in_line, instrs_of, no_parts, resolve_label, second_pass, with_line, with_draft}
-use Rattle.trlab_asm.specs.Laws.{TextsHaveMeaning}
-use Rattle.trlab_lines.specs.Lines.{lines_of}
-use Rattle.trlab_bounds.specs.declared.programs.TheConstants.{MAX_NUMBER, MAX_DIGITS}
-use Rattle.trlab_asm.specs.declared.names.Mnemonic.{Mnemonic}
-use Rattle.trlab_asm.specs.declared.names.Mnemonic.TheVariants as name
-use Rattle.trlab_asm.specs.declared.fault.Why.{Why}
+use Rattle.std.proofs.Common.{◌≡◌, ◌≢◌, ℕ, suc, ◌+◌, ◌-◌, ◌<◌, ◌≤◌, Bool, true, false, ◌&&◌, ◌==◌}
+use Rattle.std.proofs.Common.{if◌then◌else◌, nat_le, nat_lt, List, [], ◌∷◌, length, All, Option, Some, None}
+use Rattle.std.proofs.Common.{Result, Ok, Err, MatchResult, refl, arith, length-append, leb-true, ltb-true}
+use Rattle.std.proofs.{Common.{codes, ok_or}, lemmas.{Bool.eqb-false, List.Elements.{All-cons, All-head}}}
+use Rattle.std.{proofs.lemmas.List.Elements.{All-push, All-tail}, specs.Str.Parse.digits_value}
+use Rattle.trlab_code.specs.{declared.program.Kind.Kind, Program.{IsInRange, IsValidProgram}}
+use Rattle.trlab_code.specs.declared.instruction.Instr.{Instr, TheVariants.{Go, Cross, Stay}}
+use Rattle.trlab_code.specs.declared.instruction.Instr.TheVariants.{Num, Get, Side, Draw, Copy, Add, Sub, Mul}
+use Rattle.trlab_code.specs.declared.instruction.Instr.TheVariants.{Div, Min, Max, Not, And, Or, Jump}
+use Rattle.trlab_code.specs.declared.instruction.Instr.TheVariants.{JumpLess, JumpAtMost, JumpTrue, JumpFalse}
+use Rattle.trlab_bounds.specs.declared.programs.TheConstants.{MAX_INSTRUCTIONS, WORDS, CERTAIN, MAX_NUMBER}
+use Rattle.trlab_bounds.specs.declared.programs.TheConstants.{MAX_DIGITS}
+use Rattle.trlab_lines.specs.Lines.{without_prefix, cut, label_and_rest, only_word, without_comment}
+use Rattle.trlab_lines.specs.Lines.{without_indent, up_to_blank, is_numeral, lines_of}
+use Rattle.trlab_asm.specs.{Names.{register_named, input_named, mnemonic_named}, Operands.{◌then◌, digits_of}}
+use Rattle.trlab_asm.specs.Operands.{input, is_label, no_operand, number, numeral, pc_named, value_within}
+use Rattle.trlab_asm.specs.Operands.{register, register_input, register_and_number, register_target}
+use Rattle.trlab_asm.specs.Operands.{register_word_chance, jump_target, target_named, three_registers}
+use Rattle.trlab_asm.specs.Operands.{two_registers, two_registers_number, two_registers_target, word}
+use Rattle.trlab_asm.specs.{Operands.{word_chance, ◌>>=◌}, Reading.{InstrDraft, Labels, Line, body, draft_of}}
+use Rattle.trlab_asm.specs.{Reading.{if_free, instruction, label_of, line_content, new_label}, Assembly.Parts}
+use Rattle.trlab_asm.specs.Assembly.{LineDraft, with_target, jump_to, code_of, resolve, first_pass, in_line}
+use Rattle.trlab_asm.specs.Assembly.{instrs_of, no_parts, resolve_label, second_pass, with_line, with_draft}
+use Rattle.trlab_asm.specs.{Laws.TextsHaveMeaning, declared.{names.Mnemonic.Mnemonic, fault.Why.Why}}
 use Rattle.trlab_asm.specs.declared.fault.Why.TheVariants.{Memory, Number, Operand, TooLong, Word}
 use Rattle.trlab_asm.specs.declared.fault.AsmFault.{AsmFault}
+use Rattle.trlab_asm.specs.declared.names.Mnemonic.TheVariants as name
 
 -- a result has a property, or is a fault other than a failed allocation
 abbrev Gives : {A : Type 0} → (A → Type 0) → Result A Why → Type 0

@@ -1,10 +1,7 @@
 -- Operands on both sides of a comma.
-use Rattle.std.proofs.Common.{◌≡◌, ℕ, List, Bor, refl}
-use Rattle.std.specs.Prelude.{Some, Result, Ok, Err, IfOk}
-use Rattle.trlab_lines.specs.Cutting.{cut}
-use Rattle.trlab_asm.specs.Results.{◌>>=◌, map_ok}
-use Rattle.trlab_asm.specs.Operands.{◌then◌, numeral, two_numerals}
-use Rattle.trlab_asm.specs.declared.fault.Why.{Why}
+use Rattle.std.proofs.Common.{◌≡◌, ℕ, List, Bor, refl, Some, Result, Ok, Err, IfOk}
+use Rattle.trlab_lines.specs.Lines.{cut}
+use Rattle.trlab_asm.specs.{Operands.{◌>>=◌, map_ok, ◌then◌, numeral, two_numerals}, declared.fault.Why.Why}
 
 -- one operand, and then the rest
 pub both_said : {A B : Type 0} (first : List ℕ → Result A Why) (rest : List ℕ → Result B Why) (text x y : List ℕ) (a : Result A Why) (b : Result B Why) (r : Result (A × B) Why)

@@ -1,14 +1,11 @@
 -- Words without any byte at which a line is cut.
-use Rattle.std.proofs.Common.{◌≡◌, ◌==◌, ◌||◌, ◌&&◌, ℕ, ◌+◌, ◌<◌, List, [], ◌∷◌, ◌++◌, length, refl, sym, ◌∙◌, ap, arith, Bool, true, false, not, append-nil, length-append}
-use Rattle.std.specs.Prelude.{None, Some, Result, Ok, nat_lt}
-use Rattle.std.specs.List.{position, position_or_len, list_all}
+use Rattle.std.proofs.Common.{◌≡◌, ◌==◌, ◌||◌, ◌&&◌, ℕ, ◌+◌, ◌<◌, List, [], ◌∷◌, ◌++◌, length, refl, sym, ◌∙◌}
+use Rattle.std.proofs.Common.{ap, arith, Bool, true, false, not, append-nil, length-append, None, Some}
+use Rattle.std.proofs.Common.{Result, Ok, nat_lt, position, lt-ltb, ltb-true, ne_eqb}
 use Rattle.std.proofs.Math.Seq.{take-append_seam, drop-append_seam, drop-append-add}
-use Rattle.std.proofs.lemmas.Bool.{lt-ltb, ltb-true, ne_eqb}
-use Rattle.std.proofs.lemmas.Bool.Decides.{nat_tests}
-use Rattle.trlab_lines.specs.Cutting.{cut, is_blank, without_indent, up_to_blank, only_word}
-use Rattle.trlab_asm.specs.Operands.{◌then◌}
-use Rattle.trlab_asm.specs.Canonical.{◌comma◌}
-use Rattle.trlab_asm.specs.declared.fault.Why.{Why}
+use Rattle.std.{proofs.lemmas.Bool.Decides.nat_tests, specs.List.{position_or_len, list_all}}
+use Rattle.trlab_lines.specs.Lines.{cut, is_blank, without_indent, up_to_blank, only_word}
+use Rattle.trlab_asm.specs.{Operands.{◌then◌}, Canonical.{◌comma◌}, declared.fault.Why.Why}
 
 -- no blank, comma, colon, semicolon or LF
 abbrev pub is_plain : ℕ → Bool

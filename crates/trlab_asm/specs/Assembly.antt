@@ -1,16 +1,12 @@
 -- Assembly: from the lines of a text to a program. The first pass reads the lines in order, the second gives
 -- jumps the pcs of their labels.
-use Rattle.std.specs.Prelude.{◌≡◌, ℕ, ◌+◌, ◌==◌, List, [], ◌∷◌, ◌++◌, length, map, bytes_eq, Option, None, Some, Result, Ok, Err, if◌then◌else◌}
-use Rattle.std.specs.Map.{update}
-use Rattle.trlab_code.specs.Program.{Program}
-use Rattle.trlab_code.specs.declared.program.Kind.{Kind}
-use Rattle.trlab_code.specs.declared.instruction.Instr.{Instr}
-use Rattle.trlab_code.specs.declared.instruction.Instr.TheVariants.{Jump, JumpLess, JumpAtMost, JumpTrue, JumpFalse}
-use Rattle.trlab_asm.specs.Results.{◌>>=◌}
-use Rattle.trlab_asm.specs.Reading.{InstrDraft, Labels, Line, line_content}
-use Rattle.trlab_asm.specs.declared.fault.Why.{Why}
-use Rattle.trlab_asm.specs.declared.fault.Why.TheVariants.{Empty, NoLabel, Memory}
-use Rattle.trlab_asm.specs.declared.fault.AsmFault.{AsmFault}
+use Rattle.std.specs.Prelude.{◌≡◌, ℕ, ◌+◌, ◌==◌, List, [], ◌∷◌, ◌++◌, length, bytes_eq, Option, None, Some}
+use Rattle.std.specs.{Prelude.{Result, Ok, Err, if◌then◌else◌}, Map.update}
+use Rattle.trlab_code.specs.{Program.Program, declared.{program.Kind.Kind, instruction.Instr.Instr}}
+use Rattle.trlab_code.specs.declared.instruction.Instr.TheVariants.{Jump, JumpLess, JumpAtMost, JumpTrue}
+use Rattle.trlab_code.specs.declared.instruction.Instr.TheVariants.{JumpFalse}
+use Rattle.trlab_asm.specs.{Operands.{◌>>=◌}, Reading.{InstrDraft, Labels, Line, line_content}}
+use Rattle.trlab_asm.specs.declared.fault.{Why.{Why, TheVariants.{Empty, NoLabel, Memory}}, AsmFault.AsmFault}
 
 -- the result of reading a line; a fault gets the line's number
 abbrev pub in_line : {A : Type 0} → ℕ → Result A Why → Result A AsmFault
@@ -26,10 +22,6 @@ pub record LineDraft : Type 0 where
 pub record Parts : Type 0 where
   pub labels : Labels
   pub drafts : List LineDraft
-
--- the line number of each instruction of a text, in order
-abbrev pub line_numbers : Parts → List ℕ
-line_numbers parts = map (λ read. read.line) parts.drafts
 
 -- the parts of an empty text: no label and no instruction
 abbrev pub no_parts : Parts

@@ -1,16 +1,15 @@
 -- Canonical texts: the one text that is printed for a program.
-use Rattle.std.specs.Prelude.{ℕ, ◌+◌, Bool, false, List, [], ◌∷◌, ◌++◌, length, codes, decimal, nat_lt, nat_eq, Option, None, Some, if◌then◌else◌}
-use Rattle.std.specs.List.{list_any}
-use Rattle.trlab_code.specs.Flow.{target}
-use Rattle.trlab_code.specs.declared.instruction.Instr.{Instr}
-use Rattle.trlab_code.specs.declared.instruction.Instr.TheVariants.{Num, Get, Side, Draw, Copy, Add, Sub, Mul, Div, Min, Max, Not, And, Or, Jump, JumpLess, JumpAtMost, JumpTrue, JumpFalse, Go, Cross, Stay}
+use Rattle.std.specs.Prelude.{ℕ, ◌+◌, Bool, false, List, [], ◌∷◌, ◌++◌, length, codes, decimal, nat_lt}
+use Rattle.std.specs.{Prelude.{nat_eq, Option, None, Some, if◌then◌else◌}, List.list_any}
+use Rattle.trlab_code.specs.{Flow.target, declared.instruction.Instr.{Instr, TheVariants.{Num, Get, Side}}}
+use Rattle.trlab_code.specs.declared.instruction.Instr.TheVariants.{Draw, Copy, Add, Sub, Mul, Div, Min, Max}
+use Rattle.trlab_code.specs.declared.instruction.Instr.TheVariants.{Not, And, Or, Jump, JumpLess, JumpAtMost}
+use Rattle.trlab_code.specs.declared.instruction.Instr.TheVariants.{JumpTrue, JumpFalse, Go, Cross, Stay}
 use Rattle.trlab_asm.specs.Names.{register_text, input_text, mnemonic_text}
-use Rattle.trlab_asm.specs.declared.names.Mnemonic.{Mnemonic}
-use Rattle.trlab_asm.specs.declared.names.Mnemonic.TheVariants as name
-use Rattle.trlab_asm.specs.declared.printing.Operand.{Operand}
+use Rattle.trlab_asm.specs.declared.{names.Mnemonic.Mnemonic, printing.Operand.Operand}
 use Rattle.trlab_asm.specs.declared.printing.Operand.TheVariants.{Register, Input, Number, Label, Beyond}
-use Rattle.trlab_asm.specs.declared.printing.Operation.{Operation}
-use Rattle.trlab_asm.specs.declared.printing.Operation.TheVariants.{Bare, One, Two, Three}
+use Rattle.trlab_asm.specs.declared.printing.Operation.{Operation, TheVariants.{Bare, One, Two, Three}}
+use Rattle.trlab_asm.specs.declared.names.Mnemonic.TheVariants as name
 
 -- the label that is printed for the instruction at pc: `L` and the digits of pc, for example `L12`
 abbrev pub label_text : ℕ → List ℕ

@@ -1,16 +1,11 @@
 -- Laws of program texts.
 use Rattle.std.specs.Prelude.{◌≡◌, ◌≢◌, ◌↔◌, ℕ, List, Some, Ok, MatchResult}
-use Rattle.trlab_code.specs.declared.program.Kind.{Kind}
-use Rattle.trlab_code.specs.declared.instruction.Register.{Register}
-use Rattle.trlab_code.specs.declared.instruction.Input.{Input}
-use Rattle.trlab_code.specs.Program.{Program, IsValidProgram}
-use Rattle.trlab_code.specs.Laws.{IsRepresentable}
+use Rattle.trlab_code.specs.declared.{program.Kind.Kind, instruction.{Register.Register, Input.Input}}
+use Rattle.trlab_code.specs.{Program.{Program, IsValidProgram}, Laws.IsRepresentable}
 use Rattle.trlab_lines.specs.Lines.{lines_of}
-use Rattle.trlab_asm.specs.Names.{register_text, input_text, mnemonic_text, register_named, input_named, mnemonic_named}
-use Rattle.trlab_asm.specs.Assembly.{code_of}
-use Rattle.trlab_asm.specs.Canonical.{canonical_text}
-use Rattle.trlab_asm.specs.declared.names.Mnemonic.{Mnemonic}
-use Rattle.trlab_asm.specs.declared.fault.Why.TheVariants.{Memory}
+use Rattle.trlab_asm.specs.Names.{register_text, input_text, mnemonic_text, register_named, input_named}
+use Rattle.trlab_asm.specs.{Names.mnemonic_named, Assembly.code_of, Canonical.canonical_text}
+use Rattle.trlab_asm.specs.declared.{names.Mnemonic.Mnemonic, fault.Why.TheVariants.Memory}
 
 -- the lines of any text, read as a program of any kind, give a valid program or a first fault, which is never
 -- `Memory`

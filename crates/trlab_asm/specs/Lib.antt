@@ -1,4 +1,3 @@
-pub mod Results
 pub mod Names
 pub mod Operands
 pub mod OperandKinds

@@ -1,13 +1,14 @@
 -- The names of registers, inputs and instructions: one table each, for reading and for printing.
-use Rattle.std.specs.Prelude.{ℕ, List, codes, bytes_eq, Option}
-use Rattle.std.specs.List.{find}
-use Rattle.trlab_code.specs.declared.instruction.Register.{Register}
-use Rattle.trlab_code.specs.declared.instruction.Register.TheVariants.{R0, R1, R2, R3, R4, R5, R6, R7}
-use Rattle.trlab_code.specs.declared.instruction.Input.{Input}
-use Rattle.trlab_code.specs.declared.instruction.Input.TheVariants.{Speed, Limit, Gap, SideGap, SideBack, Lane, Headspeed}
-use Rattle.trlab_asm.specs.declared.names.Mnemonic.{Mnemonic}
-use Rattle.trlab_asm.specs.declared.names.Mnemonic.TheVariants.{Num, Get, Side, Draw, Copy, Add, Sub, Mul, Div, Min, Max, Not, And, Or, Jump, JumpLess, JumpAtMost, JumpTrue, JumpFalse, Go, Cross, Stay}
-use Rattle.trlab_asm.specs.declared.names.TheConstants.{REGISTERS, INPUTS, MNEMONICS}
+use Rattle.std.specs.Prelude.{ℕ, List, codes, bytes_eq, Option, find}
+use Rattle.trlab_code.specs.declared.instruction.Register.{Register, TheVariants.{R0, R1, R2, R3, R4, R5, R6}}
+use Rattle.trlab_code.specs.declared.instruction.{Register.TheVariants.R7, Input.{Input, TheVariants.Speed}}
+use Rattle.trlab_code.specs.declared.instruction.Input.TheVariants.{Limit, Gap, SideGap, SideBack, Lane}
+use Rattle.trlab_code.specs.declared.instruction.Input.TheVariants.{Headspeed}
+use Rattle.trlab_asm.specs.declared.names.Mnemonic.{Mnemonic, TheVariants.{Num, Get, Side, Draw, Copy, Add}}
+use Rattle.trlab_asm.specs.declared.names.Mnemonic.TheVariants.{Sub, Mul, Div, Min, Max, Not, And, Or, Jump}
+use Rattle.trlab_asm.specs.declared.names.Mnemonic.TheVariants.{JumpLess, JumpAtMost, JumpTrue, JumpFalse, Go}
+use Rattle.trlab_asm.specs.declared.names.{Mnemonic.TheVariants.{Cross, Stay}, TheConstants.REGISTERS}
+use Rattle.trlab_asm.specs.declared.names.TheConstants.{INPUTS, MNEMONICS}
 
 -- the name of a register: `r0` to `r7`
 abbrev pub register_text : Register → List ℕ

@@ -1,14 +1,12 @@
 -- The kinds of operands of each instruction, and the ranges and the forms of these kinds.
 use Rattle.std.specs.Prelude.{ℕ, ◌-◌, Bool, List, [], ◌∷◌, codes, Option, None, Some, is_some}
 use Rattle.trlab_bounds.specs.declared.programs.TheConstants.{CERTAIN, MAX_NUMBER, WORDS}
-use Rattle.trlab_lines.specs.Cutting.{without_prefix}
-use Rattle.trlab_lines.specs.Numbers.{is_numeral}
-use Rattle.trlab_asm.specs.Names.{register_named, input_named}
-use Rattle.trlab_asm.specs.Operands.{is_label}
-use Rattle.trlab_asm.specs.declared.names.Mnemonic.{Mnemonic}
+use Rattle.trlab_lines.specs.Lines.{without_prefix, is_numeral}
+use Rattle.trlab_asm.specs.{Names.{register_named, input_named}, Operands.is_label}
+use Rattle.trlab_asm.specs.declared.{names.Mnemonic.Mnemonic, operands.OperandKind.OperandKind}
+use Rattle.trlab_asm.specs.declared.operands.OperandKind.TheVariants.{Register, Result, Number, Divisor, Word}
+use Rattle.trlab_asm.specs.declared.operands.OperandKind.TheVariants.{Chance, Input, Target}
 use Rattle.trlab_asm.specs.declared.names.Mnemonic.TheVariants as name
-use Rattle.trlab_asm.specs.declared.operands.OperandKind.{OperandKind}
-use Rattle.trlab_asm.specs.declared.operands.OperandKind.TheVariants.{Register, Result, Number, Divisor, Word, Chance, Input, Target}
 
 -- the kinds of an instruction's operands, from left to right
 abbrev pub kinds_of : Mnemonic → List OperandKind

@@ -1,19 +1,29 @@
--- The operands of an instruction as they are read. Commas separate them, and each may have blanks around it.
-use Rattle.std.specs.Prelude.{ℕ, ◌-◌, ◌==◌, ◌&&◌, ◌||◌, not, Bool, List, length, codes, nat_le, nat_lt, Option, None, Some, ok_or, Result, Ok, Err, slice_index, if◌then◌else◌}
-use Rattle.std.specs.List.{list_all}
-use Rattle.std.specs.Char.{is_ascii_digit, is_ascii_alphanumeric}
-use Rattle.std.specs.Str.Parse.{digits_value}
-use Rattle.trlab_code.specs.declared.instruction.Register.{Register}
-use Rattle.trlab_code.specs.declared.instruction.Input.{Input}
-use Rattle.trlab_bounds.specs.declared.programs.TheConstants.{WORDS, CERTAIN}
-use Rattle.trlab_lines.specs.Cutting.{without_prefix, cut, only_word}
-use Rattle.trlab_lines.specs.Numbers.{is_numeral}
-use Rattle.trlab_asm.specs.Results.{◌>>=◌}
-use Rattle.trlab_asm.specs.Names.{register_named, input_named}
-use Rattle.trlab_asm.specs.declared.fault.Why.{Why}
-use Rattle.trlab_asm.specs.declared.fault.Why.TheVariants.{Operand, Number}
-use Rattle.trlab_bounds.specs.declared.programs.TheConstants.{MAX_NUMBER, MAX_DIGITS}
+-- The operands of an instruction as they are read, and results in sequence.
+use Rattle.std.specs.Prelude.{Result, Ok, Err, ℕ, ◌-◌, ◌==◌, ◌&&◌, ◌||◌, not, Bool, List, length, codes}
+use Rattle.std.specs.Prelude.{nat_le, nat_lt, Option, None, Some, ok_or, slice_index, if◌then◌else◌}
+use Rattle.std.specs.{List.list_all, Char.{is_ascii_digit, is_ascii_alphanumeric}, Str.Parse.digits_value}
+use Rattle.trlab_code.specs.declared.instruction.{Register.Register, Input.Input}
+use Rattle.trlab_bounds.specs.declared.programs.TheConstants.{WORDS, CERTAIN, MAX_NUMBER, MAX_DIGITS}
 use Rattle.trlab_bounds.specs.declared.programs.TheConstants.{LONGEST_LABEL}
+use Rattle.trlab_lines.specs.Lines.{without_prefix, cut, only_word, is_numeral}
+use Rattle.trlab_asm.specs.{Names.{register_named, input_named}, declared.fault.Why.Why}
+use Rattle.trlab_asm.specs.declared.fault.Why.TheVariants.{Operand, Number}
+
+-- Results in sequence: the first fault is the result.
+
+infixl 10 ◌>>=◌
+-- the function f applied to the value of a result, which gives a new result; a fault stays (Rust's
+-- `and_then`)
+abbrev pub ◌>>=◌ : {A B E : Type 0} → Result A E → (A → Result B E) → Result B E
+(Ok x) >>= f = f x
+(Err e) >>= f = Err e
+
+-- a result with `convert` applied to its value; a fault stays (Rust's `map`)
+abbrev pub map_ok : {A B E : Type 0} → (A → B) → Result A E → Result B E
+map_ok convert (Ok x) = Ok (convert x)
+map_ok convert (Err e) = Err e
+
+-- The operands of an instruction as they are read. Commas separate them, and each may have blanks around it.
 
 -- the only word of an operand, empty if the operand is blank; the fault `Operand` if it has two words or more
 abbrev pub word : List ℕ → Result (List ℕ) Why

@@ -1,14 +1,17 @@
 -- Reading a line of a program's text: its label and its instruction.
-use Rattle.std.specs.Prelude.{ℕ, ◌==◌, List, length, nat_lt, Option, None, Some, ok_or, Result, Ok, Err, if◌then◌else◌}
-use Rattle.trlab_code.specs.declared.instruction.Instr.{Instr}
-use Rattle.trlab_code.specs.declared.instruction.Instr.TheVariants.{Num, Get, Side, Draw, Copy, Add, Sub, Mul, Div, Min, Max, Not, And, Or, Jump, JumpLess, JumpAtMost, JumpTrue, JumpFalse, Go, Cross, Stay}
+use Rattle.std.specs.Prelude.{ℕ, ◌==◌, List, length, nat_lt, Option, None, Some, ok_or, Result, Ok, Err}
+use Rattle.std.specs.Prelude.{if◌then◌else◌}
+use Rattle.trlab_code.specs.declared.instruction.Instr.{Instr, TheVariants.{Num, Get, Side, Draw, Copy, Add}}
+use Rattle.trlab_code.specs.declared.instruction.Instr.TheVariants.{Sub, Mul, Div, Min, Max, Not, And, Or}
+use Rattle.trlab_code.specs.declared.instruction.Instr.TheVariants.{Jump, JumpLess, JumpAtMost, JumpTrue}
+use Rattle.trlab_code.specs.declared.instruction.Instr.TheVariants.{JumpFalse, Go, Cross, Stay}
 use Rattle.trlab_bounds.specs.declared.programs.TheConstants.{MAX_INSTRUCTIONS}
-use Rattle.trlab_lines.specs.Cutting.{without_comment, label_and_rest, without_indent, up_to_blank, only_word}
-use Rattle.trlab_asm.specs.Names.{mnemonic_named}
-use Rattle.trlab_asm.specs.Results.{◌>>=◌}
-use Rattle.trlab_asm.specs.Operands.{WrittenTarget, is_label, no_operand, register, two_registers, three_registers, register_input, register_and_number, two_registers_number, register_word_chance, jump_target, register_target, two_registers_target}
-use Rattle.trlab_asm.specs.declared.fault.Why.{Why}
-use Rattle.trlab_asm.specs.declared.fault.Why.TheVariants.{Word, LabelTwice, TooLong}
+use Rattle.trlab_lines.specs.Lines.{without_comment, label_and_rest, without_indent, up_to_blank, only_word}
+use Rattle.trlab_asm.specs.{Names.mnemonic_named, Operands.{◌>>=◌, WrittenTarget, is_label, no_operand}}
+use Rattle.trlab_asm.specs.Operands.{register, two_registers, three_registers, register_input}
+use Rattle.trlab_asm.specs.Operands.{register_and_number, two_registers_number, register_word_chance}
+use Rattle.trlab_asm.specs.Operands.{jump_target, register_target, two_registers_target}
+use Rattle.trlab_asm.specs.declared.fault.Why.{Why, TheVariants.{Word, LabelTwice, TooLong}}
 use Rattle.trlab_asm.specs.declared.names.Mnemonic.{Mnemonic}
 use Rattle.trlab_asm.specs.declared.names.Mnemonic.TheVariants as name
 

@@ -1,10 +1,7 @@
 -- How the code keeps the results of the first pass: labels in a map, instructions in a vector.
-use Rattle.std.specs.Ordering.{nat_cmp}
-use Rattle.std.specs.Cmp.Lexicographic.{slice_cmp}
+use Rattle.std.specs.{Ordering.nat_cmp, Cmp.Lexicographic.slice_cmp}
 use Rattle.std.specs.BTreeMap as tree
-use Rattle.trlab_asm.specs.Reading.{Labels}
-use Rattle.trlab_asm.specs.Assembly.{Parts}
-use Rattle.trlab_asm.specs.declared.reading.Labels.{Labels as Map}
+use Rattle.trlab_asm.specs.{Reading.Labels, Assembly.Parts, declared.reading.Labels.Labels as Map}
 use Rattle.trlab_asm.specs.declared.parts.Parts.{Parts as Lists}
 
 -- the labels that a map keeps: the pc of each name that is one of its keys; `None` for other names

@@ -1,11 +1,11 @@
 //! The assembler: the first pass collects labels and instructions, the second one resolves the labels.
 
-ghost use Rattle.std.specs.Prelude.{◌≡◌, ◌≤◌, ◌⊎◌, Ok, length, vec_len, All, map, MatchResult, IfOk};
+ghost use Rattle.std.specs.Prelude.{◌≡◌, ◌≤◌, ◌⊎◌, Ok, length, vec_len, All, MatchResult, IfOk};
 ghost use Rattle.trlab_code.specs.Program.{IsInRange};
 ghost use Rattle.trlab_bounds.specs.declared.programs.TheConstants.{MAX_INSTRUCTIONS};
 ghost use Rattle.trlab_lines.specs.Lines.{lines_of};
 ghost use Rattle.trlab_asm.specs.Stored.{pcs, stored_parts};
-ghost use Rattle.trlab_asm.specs.Assembly.{Parts as Found, no_parts, first_pass, with_target, resolve, second_pass, instrs_of, code_of, line_numbers, IsOutOfMemory};
+ghost use Rattle.trlab_asm.specs.Assembly.{no_parts, first_pass, with_target, resolve, second_pass, instrs_of, code_of, IsOutOfMemory};
 
 use crate::fault::{AsmFault, Why};
 use crate::parts::{LineDraft, Parts};
@@ -71,7 +71,7 @@ fn resolve_all<'a>(
     labels: &Labels<'a>,
     drafts: &[LineDraft<'a>],
 ) -> Result<Vec<Instr>, AsmFault>
-    ensures told { MatchResult result
+    ensures reported { MatchResult result
         (λ instrs. second_pass (pcs labels.now) drafts.now ≡ Ok instrs.items)
         (λ fault. (second_pass (pcs labels.now) drafts.now ≡ Err fault) ⊎ IsOutOfMemory fault) }
     ensures count { IfOk result (λ instrs. vec_len instrs ≡ length drafts.now) }
@@ -89,11 +89,11 @@ fn resolve_all<'a>(
 
 /// All instructions with their targets, or the first fault; a text without instructions has the fault `Empty`.
 fn instrs_of(alloc: Global, parts: &Parts<'_>) -> Result<Vec<Instr>, AsmFault>
-    ensures told { MatchResult result
+    ensures reported { MatchResult result
         (λ instrs. instrs_of (stored_parts parts.now) ≡ Ok instrs.items)
         (λ fault. (instrs_of (stored_parts parts.now) ≡ Err fault) ⊎ IsOutOfMemory fault) }
-    ensures some { IfOk result (λ instrs. 1 ≤ vec_len instrs) }
-    ensures few { IfOk result (λ instrs. vec_len instrs ≤ MAX_INSTRUCTIONS) }
+    ensures at_least_one_instruction { IfOk result (λ instrs. 1 ≤ vec_len instrs) }
+    ensures at_most_max_instructions { IfOk result (λ instrs. vec_len instrs ≤ MAX_INSTRUCTIONS) }
     ensures in_range { IfOk result (λ instrs. All IsInRange instrs.items) }
 {
     let drafts = parts.drafts();
@@ -116,7 +116,7 @@ fn instrs_of(alloc: Global, parts: &Parts<'_>) -> Result<Vec<Instr>, AsmFault>
 ///
 /// The first fault of the text, in the order of `Why`, or `Why::Memory` if an allocation fails.
 pub fn assemble(alloc: Global, kind: Kind, text: &[u8]) -> Result<Code, AsmFault>
-    ensures told { MatchResult result
+    ensures reported { MatchResult result
         (λ code. code_of kind (lines_of text.now) ≡ Ok code)
         (λ fault. (code_of kind (lines_of text.now) ≡ Err fault) ⊎ IsOutOfMemory fault) }
 {
@@ -126,27 +126,4 @@ pub fn assemble(alloc: Global, kind: Kind, text: &[u8]) -> Result<Code, AsmFault
         unreachable!()
     };
     Ok(code)
-}
-
-/// The line numbers of these instructions.
-fn numbers_of(alloc: Global, drafts: &[LineDraft<'_>]) -> Result<Vec<usize>, AllocError>
-    ensures { IfOk result (λ numbers. numbers.items ≡ map (λ read. read.line) drafts.now) }
-{
-    drafts.iter().map(LineDraft::line).collect(alloc)
-}
-
-/// The line number of each instruction of a text, counted from 1.
-///
-/// # Errors
-///
-/// The first fault of the lines, or `Why::Memory` if an allocation fails. `Empty` and `NoLabel` are not faults
-/// here: a text without instructions has no line numbers, and jumps may name missing labels.
-pub fn instruction_lines(alloc: Global, text: &[u8]) -> Result<Vec<usize>, AsmFault>
-    ensures { MatchResult result
-        (λ numbers. (parts : Found)
-        × (first_pass no_parts 1 (lines_of text.now) ≡ Ok parts) × (numbers.items ≡ line_numbers parts))
-        (λ fault. (first_pass no_parts 1 (lines_of text.now) ≡ Err fault) ⊎ IsOutOfMemory fault) }
-{
-    let parts = read_parts(alloc, text)?;
-    numbers_of(alloc, parts.drafts()).map_err(AsmFault::from)
 }

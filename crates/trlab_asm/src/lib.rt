@@ -15,7 +15,7 @@ mod parts;
 mod printing;
 mod reading;
 
-pub use assembly::{assemble, instruction_lines};
+pub use assembly::assemble;
 pub use fault::{AsmFault, Why};
 pub use names::{
     HasText, INPUTS, MNEMONICS, Mnemonic, REGISTERS, input_text, mnemonic_named, mnemonic_text,

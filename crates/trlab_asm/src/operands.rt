@@ -3,10 +3,9 @@
 ghost use Rattle.std.specs.Prelude.{◌≡◌, ◌≤◌, true, IfOk, option_map, Ok, ◌<◌, ok_or};
 ghost use Rattle.trlab_asm.specs.OperandKinds.{kinds_of, range_of, has_form};
 ghost use Rattle.trlab_asm.specs.Operands.{digits_of, value_within, WrittenTarget as Written, is_label, all_label_bytes, pc_named, target_named, word, register, input, numeral, two_numerals, number, jump_target, no_operand, two_registers, three_registers, register_input, register_and_number, two_registers_number, word_chance, register_word_chance, register_target, two_registers_target};
-ghost use Rattle.trlab_asm.specs.Results.{map_ok, ◌>>=◌ as ◌followed◌};
-ghost use Rattle.trlab_lines.specs.Numbers.{all_digits};
+ghost use Rattle.trlab_asm.specs.Operands.{map_ok, ◌>>=◌ as ◌followed◌};
+ghost use Rattle.trlab_lines.specs.Lines.{all_digits, cut};
 ghost use Rattle.trlab_bounds.specs.declared.programs.TheConstants.{WORDS, CERTAIN};
-ghost use Rattle.trlab_lines.specs.Cutting.{cut};
 
 use crate::fault::Why;
 use crate::names::{Mnemonic, input_named, register_named};

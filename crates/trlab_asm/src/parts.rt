@@ -42,7 +42,7 @@ impl<'a> LineDraft<'a> {
 pub(crate) struct Parts<'a> {
     labels: Labels<'a>,
     drafts: Vec<LineDraft<'a>>,
-    ghost few: { length drafts.items ≤ MAX_INSTRUCTIONS },
+    ghost at_most_max_instructions: { length drafts.items ≤ MAX_INSTRUCTIONS },
 }
 
 impl<'a> Parts<'a> {
@@ -69,7 +69,7 @@ impl<'a> Parts<'a> {
 
     pub(crate) fn drafts(&self) -> &[LineDraft<'a>]
         ensures value { result.now ≡ (stored_parts self.now).drafts }
-        ensures few { length result.now ≤ MAX_INSTRUCTIONS }
+        ensures at_most_max_instructions { length result.now ≤ MAX_INSTRUCTIONS }
     {
         &self.drafts
     }

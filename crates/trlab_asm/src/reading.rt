@@ -4,7 +4,7 @@ ghost use Rattle.std.specs.Map.{update};
 ghost use Rattle.std.specs.Prelude.{◌≡◌, ◌<◌, None, Some, bytes_eq, option_map, IfOk, OnOk, OnSome};
 ghost use Rattle.trlab_code.specs.Program.{IsInRange};
 ghost use Rattle.trlab_asm.specs.Reading.{InstrDraft as ReadDraft, draft_without_label, jump_draft, draft_of, Line as AbstractLine, instruction, body, new_label, label_of, line_content};
-ghost use Rattle.trlab_asm.specs.Results.{map_ok};
+ghost use Rattle.trlab_asm.specs.Operands.{map_ok};
 ghost use Rattle.trlab_bounds.specs.declared.programs.TheConstants.{MAX_INSTRUCTIONS};
 ghost use Rattle.trlab_asm.specs.Stored.{pcs};
 

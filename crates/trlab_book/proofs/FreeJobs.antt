@@ -1,18 +1,16 @@
 -- A call of `lease` that finds no free job.
-use Rattle.std.proofs.Common.{◌≡◌, ◌≤◌, ℕ, Bool, true, false, List, [], ◌∷◌, ◌++◌, Option, Some, None, cond, length, map, nat_lt, refl, sym, subst, arith, slice_get, slice_set, All}
-use Rattle.std.specs.Prelude.{if◌then◌else◌}
-use Rattle.std.specs.List.{position, position_or_len}
-use Rattle.std.proofs.lemmas.Bool.{ltb-false}
-use Rattle.std.proofs.lemmas.List.Elements.{All-nil, All-from_get_or}
-use Rattle.std.proofs.lemmas.List.Sums.{fails_before_first}
-use Rattle.trlab_sequential_book.specs.declared.event.Call.TheVariants as call
-use Rattle.trlab_sequential_book.specs.declared.event.Event.{Event}
-use Rattle.trlab_sequential_book.specs.declared.event.Reply.{Reply}
-use Rattle.trlab_sequential_book.specs.declared.event.Reply.TheVariants.{NoLease, Refused}
+use Rattle.std.proofs.Common.{◌≡◌, ◌≤◌, ℕ, Bool, true, false, List, [], ◌∷◌, ◌++◌, Option, Some, None, cond}
+use Rattle.std.proofs.Common.{length, map, nat_lt, refl, sym, subst, arith, slice_get, slice_set, All}
+use Rattle.std.{proofs.Common.{if◌then◌else◌, position, ltb-false}, specs.List.position_or_len}
+use Rattle.std.proofs.lemmas.List.{Elements.{All-nil, All-from_get_or}, Sums.fails_before_first}
+use Rattle.trlab_sequential_book.specs.declared.event.{Event.Event, Reply.TheVariants.{NoLease, Refused}}
+use Rattle.trlab_sequential_book.specs.{declared.event.Reply.Reply, Machine.{outcome_of_call, reply_of}}
 use Rattle.trlab_sequential_book.specs.declared.fault.BookFault.TheVariants.{HistoryFull, NoSuchJob}
-use Rattle.trlab_sequential_book.specs.Machine.{BookState, JobState, JobsOutcome, after, empty_book, has_full_history, is_free, lease_outcome, on_free, outcome_of_call, reply_of}
-use Rattle.trlab_sequential_book.specs.Replay.{call_of, event, replies_from, reply_of_event, state_from}
-use Rattle.trlab_book.specs.FreeJobs.{NoJobIsFree}
+use Rattle.trlab_sequential_book.specs.Machine.{BookState, JobState, JobsOutcome, after, empty_book}
+use Rattle.trlab_sequential_book.specs.Machine.{has_full_history, is_free, lease_outcome, on_free}
+use Rattle.trlab_sequential_book.specs.Histories.{call_of, event, replies_from, reply_of_event, state_from}
+use Rattle.trlab_sequential_book.specs.declared.event.Call.TheVariants as call
+use Rattle.trlab_book.specs.Turns.{NoJobIsFree}
 
 -- none of these jobs is free
 abbrev NoneFree : List JobState → Type 0

@@ -1,31 +1,26 @@
 -- The calls of runners at a desk, one after another.
-use Rattle.std.specs.Prelude.{Result, Ok, Err, OnOk, IsOk, ◌↔◌, ◌⊎◌, MatchOption, ◌==◌}
-use Rattle.std.proofs.Common.{◌≡◌, cond, subst, inl, inr, ℕ, zero, suc, ◌+◌, ◌<◌, ◌≤◌, max, Option, None, Some, slice_get, Bool, true, false, List, [], ◌∷◌, ◌++◌, refl, sym, ap, ◌∙◌, arith, append_assoc, append-nil, All, MatchBool}
-use Rattle.std.proofs.lemmas.List.Sums.{sum_by-append, fold-append}
-use Rattle.std.proofs.lemmas.Bool.{MatchBool-at_true, eq-eqb, lt-ltb}
-use Rattle.std.proofs.lemmas.List.Elements.{All-nil, All-push, All-append, All-weaker, All-head, All-tail}
-use Rattle.trlab_sequential_book.specs.declared.event.Call.{Call}
-use Rattle.trlab_sequential_book.specs.declared.event.Call.TheVariants.{GiveBack}
-use Rattle.trlab_sequential_book.specs.declared.order.Order.{Order}
-use Rattle.trlab_sequential_book.specs.declared.event.Event.{Event}
-use Rattle.trlab_sequential_book.specs.declared.event.Reply.{Reply}
-use Rattle.trlab_sequential_book.specs.declared.event.Reply.TheVariants.{Refused, Done, NoLease}
-use Rattle.trlab_sequential_book.specs.declared.fault.BookFault.{BookFault}
-use Rattle.trlab_book.specs.declared.running.RunFault.{RunFault}
-use Rattle.trlab_book.specs.declared.running.RunFault.TheVariants as run
-use Rattle.trlab_sequential_book.specs.Answers.{is_event, is_history_full, lease_reply, order_reply}
-use Rattle.trlab_sequential_book.specs.Comparison.{IsFresh, LeaseCall, OrderCall, offered}
-use Rattle.trlab_sequential_book.specs.Leases.{LeaseState, HasRun}
-use Rattle.trlab_sequential_book.specs.Machine.{BookState, JobState}
-use Rattle.trlab_sequential_book.specs.Replay.{event}
-use Rattle.trlab_strands.specs.declared.knowledge.Ledger.{Ghosts}
-use Rattle.trlab_strands.specs.declared.knowledge.Noted.{Noted}
-use Rattle.trlab_strands.specs.Knowledge.{noted, event_number}
-use Rattle.trlab_strands.specs.Tokens.{IsSameStrand}
-use Rattle.trlab_book.specs.declared.desk.Desk.{Desk}
-use Rattle.trlab_book.specs.Turns.{Stage, Free, Has, Through, turn_of, Rise, is_of_turn, stage_after, last_stage, AreLogs}
-use Rattle.trlab_book.specs.Desks.{AreRunnerCalls, AddsRunnerCalls, EndsAt, Goes, HasEnded, LeaseIsFresh, HasSeen, MakesNoEvent, MakesEvent, MakesCallOn, subhistory_of, is_runner_call, finds_no_job, clock_of, no_job_count, part_count}
+use Rattle.std.proofs.Common.{Result, Ok, Err, OnOk, IsOk, ◌↔◌, ◌⊎◌, MatchOption, ◌==◌, ◌≡◌, cond, subst, inl}
+use Rattle.std.proofs.Common.{inr, ℕ, zero, suc, ◌+◌, ◌<◌, ◌≤◌, max, Option, None, Some, slice_get, Bool}
+use Rattle.std.proofs.Common.{true, false, List, [], ◌∷◌, ◌++◌, refl, sym, ap, ◌∙◌, arith, append_assoc}
+use Rattle.std.proofs.{Common.{append-nil, All, MatchBool, eq-eqb, lt-ltb}, lemmas.List.Sums.sum_by-append}
+use Rattle.std.proofs.lemmas.List.{Sums.fold-append, Elements.{All-nil, All-push, All-append, All-weaker}}
+use Rattle.std.proofs.lemmas.{List.Elements.{All-head, All-tail}, Bool.MatchBool-at_true}
+use Rattle.trlab_sequential_book.specs.declared.event.{Call.{Call, TheVariants.GiveBack}, Event.Event}
+use Rattle.trlab_sequential_book.specs.declared.event.Reply.{Reply, TheVariants.{Refused, Done, NoLease}}
+use Rattle.trlab_sequential_book.specs.declared.{order.Order.Order, fault.BookFault.BookFault}
 use Rattle.trlab_sequential_book.specs.declared.book.TheConstants.{MAX_EVENTS}
+use Rattle.trlab_sequential_book.specs.Histories.{is_event, is_history_full, lease_reply, order_reply, event}
+use Rattle.trlab_sequential_book.specs.Comparison.{IsFresh, LeaseCall, OrderCall, offered}
+use Rattle.trlab_sequential_book.specs.{Leases.{LeaseState, HasRun}, Machine.{BookState, JobState}}
+use Rattle.trlab_book.specs.declared.{running.RunFault.RunFault, desk.Desk.Desk}
+use Rattle.trlab_book.specs.Turns.{Stage, Free, InTurn, Finished, turn_of, AreInOrderFrom, is_of_turn}
+use Rattle.trlab_book.specs.Turns.{stage_after, last_stage, AreLogs}
+use Rattle.trlab_book.specs.Desks.{AreRunnerCalls, AddsRunnerCalls, EndsAt, Goes, HasEnded, LeaseIsFresh}
+use Rattle.trlab_book.specs.Desks.{HasSeen, MakesNoEvent, MakesEvent, MakesCallOn, subhistory_of}
+use Rattle.trlab_book.specs.Desks.{is_runner_call, finds_no_job, clock_of, no_job_count, part_count}
+use Rattle.trlab_book.specs.declared.running.RunFault.TheVariants as run
+use Rattle.trlab_strands.specs.declared.knowledge.{Ledger.Ghosts, Noted.Noted}
+use Rattle.trlab_strands.specs.{Knowledge.{noted, event_number}, Tokens.IsSameStrand}
 
 -- calls within a span are within a wider one
 pub wider : (from to below above : ℕ) (numbered : List (Noted Event)) → below ≤ from → to ≤ above → AreRunnerCalls from to numbered → AreRunnerCalls below above numbered
@@ -59,12 +54,12 @@ same_number : (n : ℕ) → (n == n) ≡ true
 same_number n = eq-eqb n n refl
 
 -- events that come late enough
-lower : (from below : ℕ) (events : List (Noted Event)) → below ≤ from → Rise from events → Rise below events
+lower : (from below : ℕ) (events : List (Noted Event)) → below ≤ from → AreInOrderFrom from events → AreInOrderFrom below events
 lower from below [] low rise = tt
 lower from below (made ∷ more) low rise = (omega (arith, low, rise.0), rise.1)
 
 -- events that come after others
-rise_append : (from to : ℕ) (xs ys : List (Noted Event)) → from ≤ to → All (λ (x : Noted Event). event_number x < to) xs → Rise from xs → Rise to ys → Rise from (xs ++ ys)
+rise_append : (from to : ℕ) (xs ys : List (Noted Event)) → from ≤ to → All (λ (x : Noted Event). event_number x < to) xs → AreInOrderFrom from xs → AreInOrderFrom to ys → AreInOrderFrom from (xs ++ ys)
 rise_append from to [] ys low all first second = lower to from ys low second
 rise_append from to (x ∷ xs) ys low all first second =
     let here : event_number x < to = All-head (λ (z : Noted Event). event_number z < to) x xs all in
@@ -195,9 +190,9 @@ module _ {L : Type 0} {ledger : Ghosts L} where
   rests s a = record { on = stays a a refl (refl, omega arith); stage = record { rise = tt; stage = refl } }
 
   -- a lease goes out
-  pub leased_goes : (a b : Desk L ledger) (lease : LeaseState) → MakesCallOn (LeaseIsFresh (Ok (Some lease))) a LeaseCall (lease_reply (Ok (Some lease))) b → Goes Free (Has (turn_of lease)) a b
-  leased_goes a b lease made = goes_one Free (Has (turn_of lease)) a b LeaseCall (lease_reply (Ok (Some lease))) made.1.0 made.0 made.1.1 refl
-      (ap (λ (base : ℕ). Has (record { job = lease.job; number = lease.number; base = base; step = lease.step; steps = lease.steps })) (sym (base_is (slice_get made.1.0.jobs lease.job) made.1.2)))
+  pub leased_goes : (a b : Desk L ledger) (lease : LeaseState) → MakesCallOn (LeaseIsFresh (Ok (Some lease))) a LeaseCall (lease_reply (Ok (Some lease))) b → Goes Free (InTurn (turn_of lease)) a b
+  leased_goes a b lease made = goes_one Free (InTurn (turn_of lease)) a b LeaseCall (lease_reply (Ok (Some lease))) made.1.0 made.0 made.1.1 refl
+      (ap (λ (base : ℕ). InTurn (record { job = lease.job; number = lease.number; base = base; step = lease.step; steps = lease.steps })) (sym (base_is (slice_get made.1.0.jobs lease.job) made.1.2)))
     where
       base_is : (found : Option JobState) → MatchOption found ⊥ (λ job. IsFresh job made.1.0.next lease) → lease.base.step ≡ lease.step
       base_is None none = absurd none
@@ -205,10 +200,10 @@ module _ {L : Type 0} {ledger : Ghosts L} where
 
   -- the next step of a lease is ordered, and run
   pub ordered_goes : (a b : Desk L ledger) (lease next : LeaseState) (order : Order) (Holds : Bool → BookState → Type 0) → lease.step < lease.steps
-      → (same : Bool) × MakesCallOn (Holds same) a (OrderCall (offered lease same)) (order_reply (Ok order)) b → HasRun lease order next → Goes (Has (turn_of lease)) (Has (turn_of next)) a b
+      → (same : Bool) × MakesCallOn (Holds same) a (OrderCall (offered lease same)) (order_reply (Ok order)) b → HasRun lease order next → Goes (InTurn (turn_of lease)) (InTurn (turn_of next)) a b
   ordered_goes a b lease next order Holds left made ran =
-      goes_one (Has (turn_of lease)) (Has (turn_of next)) a b (OrderCall (offered lease made.0)) (order_reply (Ok order)) made.1.1.0 made.1.0 made.1.1.1 refl
-      (rw (offers_own lease made.0, lt-ltb lease.step lease.steps left) (ap (λ (now : LeaseState). Has (turn_of now)) (sym ran.grown)))
+      goes_one (InTurn (turn_of lease)) (InTurn (turn_of next)) a b (OrderCall (offered lease made.0)) (order_reply (Ok order)) made.1.1.0 made.1.0 made.1.1.1 refl
+      (rw (offers_own lease made.0, lt-ltb lease.step lease.steps left) (ap (λ (now : LeaseState). InTurn (turn_of now)) (sym ran.grown)))
 
   -- an order or the return of a lease is refused: if the call is an event, the lease has ended
   refused_goes : (Holds : BookState → Type 0) (s t : Stage) (a b c : Desk L ledger) (call : Call) (fault : BookFault) → Goes s t a b → MakesCallOn Holds b call (Refused fault) c
@@ -220,24 +215,24 @@ module _ {L : Type 0} {ledger : Ghosts L} where
       by_event true one = goes_both s t Free a b c before (goes_one t Free b c call (Refused fault) one.0 made.0 one.1 of_runner next)
       by_event false none = goes_on a b c before.on (stays b c made.0 (is_none b c (Refused fault) none))
 
-  pub refused_order : (Holds : Bool → BookState → Type 0) (s : Stage) (a b c : Desk L ledger) (lease : LeaseState) (fault : BookFault) → lease.step < lease.steps → Goes s (Has (turn_of lease)) a b
+  pub refused_order : (Holds : Bool → BookState → Type 0) (s : Stage) (a b c : Desk L ledger) (lease : LeaseState) (fault : BookFault) → lease.step < lease.steps → Goes s (InTurn (turn_of lease)) a b
       → (same : Bool) × MakesCallOn (Holds same) b (OrderCall (offered lease same)) (Refused fault) c → MatchBool (is_event (Refused fault)) (Goes s Free a c) (AddsRunnerCalls a c)
   refused_order Holds s a b c lease fault left before made =
-      refused_goes (Holds made.0) s (Has (turn_of lease)) a b c (OrderCall (offered lease made.0)) fault before made.1 refl (rw (offers_own lease made.0, lt-ltb lease.step lease.steps left) refl)
+      refused_goes (Holds made.0) s (InTurn (turn_of lease)) a b c (OrderCall (offered lease made.0)) fault before made.1 refl (rw (offers_own lease made.0, lt-ltb lease.step lease.steps left) refl)
 
-  pub refused_back : (Holds : Bool → BookState → Type 0) (s : Stage) (a b c : Desk L ledger) (lease : LeaseState) (fault : BookFault) → Goes s (Has (turn_of lease)) a b
+  pub refused_back : (Holds : Bool → BookState → Type 0) (s : Stage) (a b c : Desk L ledger) (lease : LeaseState) (fault : BookFault) → Goes s (InTurn (turn_of lease)) a b
       → (same : Bool) × MakesCallOn (Holds same) b (GiveBack (offered lease same)) (Refused fault) c → MatchBool (is_event (Refused fault)) (Goes s Free a c) (AddsRunnerCalls a c)
   refused_back Holds s a b c lease fault before made =
-      refused_goes (Holds made.0) s (Has (turn_of lease)) a b c (GiveBack (offered lease made.0)) fault before made.1 refl (rw (offers_own lease made.0) refl)
+      refused_goes (Holds made.0) s (InTurn (turn_of lease)) a b c (GiveBack (offered lease made.0)) fault before made.1 refl (rw (offers_own lease made.0) refl)
 
   -- a lease is returned
   pub back_goes : (Holds : Bool → BookState → Type 0) (a b : Desk L ledger) (lease : LeaseState)
-      → (same : Bool) × MakesCallOn (Holds same) a (GiveBack (offered lease same)) Done b → Goes (Has (turn_of lease)) Free a b
+      → (same : Bool) × MakesCallOn (Holds same) a (GiveBack (offered lease same)) Done b → Goes (InTurn (turn_of lease)) Free a b
   back_goes Holds a b lease made =
-      goes_one (Has (turn_of lease)) Free a b (GiveBack (offered lease made.0)) Done made.1.1.0 made.1.0 made.1.1.1 refl (rw (offers_own lease made.0) refl)
+      goes_one (InTurn (turn_of lease)) Free a b (GiveBack (offered lease made.0)) Done made.1.1.0 made.1.0 made.1.1.1 refl (rw (offers_own lease made.0) refl)
 
   -- no job is free, and the runner has ended
-  pub none_left : (a b : Desk L ledger) → MakesCallOn (LeaseIsFresh (Ok None)) a LeaseCall NoLease b → EndsAt Free Through 1 (Ok tt) a b
+  pub none_left : (a b : Desk L ledger) → MakesCallOn (LeaseIsFresh (Ok None)) a LeaseCall NoLease b → EndsAt Free Finished 1 (Ok tt) a b
   none_left a b made =
       let one = one_more a b LeaseCall NoLease made.1.0 made.0 made.1.1 refl in
       let all = ap no_job_count one.subhistory ∙ none_append (subhistory_of a) one.more in
@@ -274,7 +269,7 @@ module _ {L : Type 0} {ledger : Ghosts L} where
       known false go = go
 
   -- one runner has ended
-  pub one_ended : (ended : Result (Unit {0}) RunFault) (a b : Desk L ledger) → EndsAt Free Through 1 ended a b → HasEnded 1 ended a b
+  pub one_ended : (ended : Result (Unit {0}) RunFault) (a b : Desk L ledger) → EndsAt Free Finished 1 ended a b → HasEnded 1 ended a b
   one_ended (Ok done) a b end = record { on = end.on; logs = (end.on.more, [], sym (append-nil end.on.more), record { rise = lower (clock_of a) 0 end.on.more (omega arith) end.stage.rise; stage = end.stage.stage }, refl); no_job = end.no_job; full = end.full }
   one_ended (Err fault) a b end = record { on = end.on; logs = tt; no_job = tt; full = end.full }
 

@@ -1,21 +1,16 @@
 -- A desk notes the last event of the history.
 use denote.Struct.Props.{props}
-use Rattle.std.proofs.Math.Logic.{∥∥₁_elim}
-use Rattle.std.proofs.lemmas.Bool.{MatchBool-at_false, false≢true, ltb-false, not-true}
-use Rattle.std.proofs.Common.{◌≡◌, ◌≤◌, length, arith, Bool, true, false, List, [], ◌∷◌, ◌++◌, refl, sym, ap, ◌∙◌, subst, MatchBool}
-use Rattle.trlab_sequential_book.specs.declared.event.Call.{Call}
-use Rattle.trlab_sequential_book.specs.declared.event.Event.{Event}
-use Rattle.trlab_sequential_book.specs.declared.event.Reply.{Reply}
-use Rattle.trlab_sequential_book.specs.Answers.{is_event, is_history_full}
-use Rattle.trlab_sequential_book.specs.Machine.{BookState, has_full_history}
-use Rattle.trlab_sequential_book.specs.declared.fault.BookFault.TheVariants.{HistoryFull}
-use Rattle.trlab_sequential_book.specs.declared.event.Reply.TheVariants.{Refused}
+use Rattle.std.proofs.{Math.Logic.{∥∥₁_elim}, lemmas.Bool.{MatchBool-at_false, false≢true, not-true}}
+use Rattle.std.proofs.Common.{ltb-false, ◌≡◌, ◌≤◌, length, arith, Bool, true, false, List, [], ◌∷◌, ◌++◌}
+use Rattle.std.proofs.Common.{refl, sym, ap, ◌∙◌, subst, MatchBool}
+use Rattle.trlab_sequential_book.specs.declared.event.{Call.Call, Reply.{Reply, TheVariants.Refused}}
+use Rattle.trlab_sequential_book.specs.declared.{event.Event.Event, fault.BookFault.TheVariants.HistoryFull}
 use Rattle.trlab_sequential_book.specs.declared.book.TheConstants.{MAX_EVENTS}
-use Rattle.trlab_sequential_book.specs.Replay.{Replays, event}
+use Rattle.trlab_sequential_book.specs.Histories.{is_event, is_history_full, Replays, event}
+use Rattle.trlab_sequential_book.specs.Machine.{BookState, has_full_history}
 use Rattle.trlab_strands.specs.declared.knowledge.Ledger.{Ghosts}
 use Rattle.trlab_strands.specs.Tokens.{AddsEvent, CatchesUp, IsSameStrand, strand_events}
-use Rattle.trlab_book.specs.declared.desk.Desk.{Desk}
-use Rattle.trlab_book.specs.declared.kept.Kept.{Kept}
+use Rattle.trlab_book.specs.declared.{desk.Desk.Desk, kept.Kept.Kept}
 use Rattle.trlab_book.specs.Desks.{MakesNoEvent, MakesEvent, MakesCallOn, NotesCall, clock_of, part_count}
 use Rattle.trlab_book.specs.Events.{Appends, WasMadeAfter, IsUnchanged, Records, RefusesIfFull}
 

@@ -1,31 +1,32 @@
 -- One more event is one more call to replay.
-use Rattle.std.specs.List.{position}
-use Rattle.std.proofs.Common.{◌≡◌, ℕ, ◌+◌, ◌==◌, ◌||◌, inl, inr, max, ◌↔◌, IsTrue, Bool, List, [], ◌∷◌, ◌++◌, true, false, map, refl, sym, ap, subst, ◌∙◌, arith, length-append, MatchBool, Option, Some, None, slice_get, slice_set}
-use Rattle.std.specs.Prelude.{Result, Ok, Err, ◌⊎◌, is_some, not, ltb, length, if◌then◌else◌}
-use Rattle.std.proofs.lemmas.Bool.{MatchBool-at_false, MatchBool-at_true, cond-false, cond-true, cond_both, false≢true}
-use Rattle.std.proofs.lemmas.List.{map-append}
-use Rattle.std.proofs.Math.Logic.{∥∥₁_map}
-use Rattle.trlab_sequential_book.specs.declared.book.TheConstants.{MAX_JOBS}
-use Rattle.trlab_sequential_book.specs.declared.sheet.TheConstants.{MAX_ENTRIES}
-use Rattle.trlab_sequential_book.specs.declared.event.Call.{Call}
-use Rattle.trlab_sequential_book.specs.declared.event.Event.{Event}
-use Rattle.trlab_sequential_book.specs.declared.event.Call.TheVariants.{Cancel, GiveBack, Read, Replace, Revoke, Submit}
-use Rattle.trlab_sequential_book.specs.declared.event.Call.TheVariants as call
-use Rattle.trlab_sequential_book.specs.declared.event.Offered.{Offered}
-use Rattle.trlab_sequential_book.specs.declared.event.Reply.{Reply}
+use Rattle.std.proofs.Common.{position, ◌≡◌, ℕ, ◌+◌, ◌==◌, ◌||◌, inl, inr, max, ◌↔◌, IsTrue, Bool, List, []}
+use Rattle.std.proofs.Common.{◌∷◌, ◌++◌, true, false, map, refl, sym, ap, subst, ◌∙◌, arith, length-append}
+use Rattle.std.proofs.Common.{MatchBool, Option, Some, None, slice_get, slice_set, Result, Ok, Err, ◌⊎◌}
+use Rattle.std.proofs.Common.{is_some, not, ltb, length, if◌then◌else◌}
+use Rattle.std.proofs.lemmas.Bool.{MatchBool-at_false, MatchBool-at_true, cond-false, cond-true, cond_both}
+use Rattle.std.proofs.{lemmas.{Bool.{false≢true}, List.map-append}, Math.Logic.{∥∥₁_map}}
+use Rattle.trlab_sequential_book.specs.declared.{book.TheConstants.MAX_JOBS, sheet.TheConstants.MAX_ENTRIES}
+use Rattle.trlab_sequential_book.specs.declared.{event.{Call.Call, Reply.Reply}, fault.BookFault.BookFault}
+use Rattle.trlab_sequential_book.specs.declared.event.Call.TheVariants.{Cancel, GiveBack, Read, Replace}
+use Rattle.trlab_sequential_book.specs.declared.event.{Call.TheVariants.{Revoke, Submit}, Offered.Offered}
+use Rattle.trlab_sequential_book.specs.{declared.event.Event.Event, Sheets.{begin_in_force, with_rule_from}}
 use Rattle.trlab_sequential_book.specs.declared.event.Reply.TheVariants.{Done, Number, Ordered, Refused}
-use Rattle.trlab_sequential_book.specs.declared.fault.BookFault.{BookFault}
-use Rattle.trlab_sequential_book.specs.declared.fault.BookFault.TheVariants.{Ended, Full, HistoryFull, LanesMismatch, Memory, NoSuchJob, SheetFull, StrangerLease}
-use Rattle.trlab_sequential_book.specs.Answers.{LeadsAs, RepliesAs, is_event, is_memory}
+use Rattle.trlab_sequential_book.specs.declared.fault.BookFault.TheVariants.{Ended, Full, HistoryFull}
+use Rattle.trlab_sequential_book.specs.declared.fault.BookFault.TheVariants.{LanesMismatch, Memory, NoSuchJob}
+use Rattle.trlab_sequential_book.specs.declared.fault.BookFault.TheVariants.{SheetFull, StrangerLease}
+use Rattle.trlab_sequential_book.specs.{declared.seed.Seed.Seed, Leases.LeaseState, Machine.submit_outcome}
+use Rattle.trlab_sequential_book.specs.Histories.{LeadsAs, RepliesAs, is_event, is_memory, Replays, call_of}
+use Rattle.trlab_sequential_book.specs.Histories.{event, replies_from, state_from, reply_of_event}
 use Rattle.trlab_sequential_book.specs.Comparison.{RunsRoadOfItsJob, LeaseCall, OrderCall, offered}
-use Rattle.trlab_sequential_book.specs.Leases.{LeaseState, suits}
-use Rattle.trlab_sequential_book.specs.Machine.{JobState, JobOutcome, JobsOutcome, BookState, after, cancel_outcome, give_back_outcome, is_free, has_full_history, accepts_lease, lease_outcome, new_job, next_after, on_free, on_job, order_outcome, read_outcome, refusal, replace_outcome, reply_of, revoke_outcome, outcome_of_call, empty_book, submit_outcome}
-use Rattle.trlab_sequential_book.specs.Sheets.{begin_in_force, with_rule_from}
-use Rattle.trlab_sequential_book.specs.declared.seed.Seed.{Seed}
+use Rattle.trlab_sequential_book.specs.Machine.{JobState, JobOutcome, JobsOutcome, BookState, after}
+use Rattle.trlab_sequential_book.specs.Machine.{cancel_outcome, give_back_outcome, is_free, has_full_history}
+use Rattle.trlab_sequential_book.specs.Machine.{accepts_lease, lease_outcome, new_job, next_after, on_free}
+use Rattle.trlab_sequential_book.specs.Machine.{on_job, order_outcome, read_outcome, refusal, replace_outcome}
+use Rattle.trlab_sequential_book.specs.Machine.{reply_of, revoke_outcome, outcome_of_call, empty_book}
+use Rattle.trlab_sequential_book.specs.declared.event.Call.TheVariants as call
+use Rattle.trlab_step.specs.Run.{suits}
 use Rattle.trlab_rules.specs.Rules.{Programs}
-use Rattle.trlab_sequential_book.specs.Replay.{Replays, call_of, event, replies_from, state_from, reply_of_event}
-use Rattle.trlab_book.specs.declared.kept.Kept.{Kept}
-use Rattle.trlab_book.specs.Events.{Appends, IsUnchanged, Records, RefusesIfFull}
+use Rattle.trlab_book.specs.{declared.kept.Kept.Kept, Events.{Appends, IsUnchanged, Records, RefusesIfFull}}
 
 replies_more : (s : BookState) (cs : List Call) (c : Call)
     → replies_from s (cs ++ c ∷ []) ≡ replies_from s cs ++ reply_of (state_from s cs) c ∷ []

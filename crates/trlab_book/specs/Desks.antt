@@ -1,28 +1,19 @@
 -- Desks as callers see them: the calls made through a desk, each with its predecessors in the history.
-use Rattle.std.specs.Prelude.{◌≡◌, ◌↔◌, ℕ, ◌+◌, ◌<◌, ◌≤◌, Bool, true, false, ◌&&◌, IsTrue, Result, Ok, Err, Option, IfOk, OnOk, count_by, List, length, ◌++◌, All, MatchBool}
+use Rattle.std.specs.Prelude.{◌≡◌, ◌↔◌, ℕ, ◌+◌, ◌<◌, ◌≤◌, Bool, true, false, ◌&&◌, IsTrue, Result, Ok, Err}
+use Rattle.std.specs.Prelude.{Option, IfOk, OnOk, count_by, List, length, ◌++◌, All, MatchBool}
 use Rattle.trlab_step.specs.Run.{Progress}
-use Rattle.trlab_sequential_book.specs.declared.fault.BookFault.{BookFault}
-use Rattle.trlab_sequential_book.specs.declared.book.TheConstants.{MAX_EVENTS}
-use Rattle.trlab_sequential_book.specs.declared.order.Order.{Order}
-use Rattle.trlab_sequential_book.specs.Leases.{LeaseState}
-use Rattle.trlab_sequential_book.specs.Comparison.{IsFreshIfLent, HasRuleInForce, ShowsJob}
+use Rattle.trlab_sequential_book.specs.declared.{fault.BookFault.BookFault, book.TheConstants.MAX_EVENTS}
+use Rattle.trlab_sequential_book.specs.declared.{order.Order.Order, event.{Call.Call, Event.Event}}
+use Rattle.trlab_sequential_book.specs.declared.event.Reply.{Reply, TheVariants.{NoLease, Refused}}
+use Rattle.trlab_sequential_book.specs.{Leases.LeaseState, Comparison.{IsFreshIfLent, HasRuleInForce}}
+use Rattle.trlab_sequential_book.specs.{Comparison.ShowsJob, Machine.{BookState, reply_of}}
+use Rattle.trlab_sequential_book.specs.Histories.{is_event, is_history_full, Replays, event}
 use Rattle.trlab_sequential_book.specs.Comparison as comparison
-use Rattle.trlab_sequential_book.specs.declared.event.Call.{Call}
 use Rattle.trlab_sequential_book.specs.declared.event.Call.TheVariants as call
-use Rattle.trlab_sequential_book.specs.declared.event.Event.{Event}
-use Rattle.trlab_sequential_book.specs.declared.event.Reply.{Reply}
-use Rattle.trlab_sequential_book.specs.declared.event.Reply.TheVariants.{NoLease, Refused}
-use Rattle.trlab_sequential_book.specs.Machine.{BookState, reply_of}
-use Rattle.trlab_sequential_book.specs.Answers.{is_event, is_history_full}
-use Rattle.trlab_sequential_book.specs.Replay.{Replays, event}
-use Rattle.trlab_strands.specs.declared.knowledge.Noted.{Noted}
-use Rattle.trlab_strands.specs.Knowledge.{event_number}
-use Rattle.trlab_strands.specs.declared.knowledge.Ledger.{Ghosts}
+use Rattle.trlab_strands.specs.{declared.knowledge.{Noted.Noted, Ledger.Ghosts}, Knowledge.event_number}
 use Rattle.trlab_strands.specs.Tokens.{AddsEvent, CatchesUp, IsSameStrand, strand_clock, strand_events}
-use Rattle.trlab_book.specs.Turns.{Stage, Free, Has, turn_of, Leads, AreLogs}
-use Rattle.trlab_book.specs.declared.desk.Desk.{Desk}
-use Rattle.trlab_book.specs.declared.desk.SharedBook.{SharedBook}
-use Rattle.trlab_book.specs.declared.running.RunFault.{RunFault}
+use Rattle.trlab_book.specs.Turns.{Stage, Free, InTurn, turn_of, AreNextCalls, AreLogs}
+use Rattle.trlab_book.specs.declared.{desk.{Desk.Desk, SharedBook.SharedBook}, running.RunFault.RunFault}
 use Rattle.trlab_book.specs.declared.running.RunFault.TheVariants as run
 
 -- both are the same shared book: their events are in one list, which no other book has
@@ -172,7 +163,7 @@ pub record HasEnded {L : Type 0} {ledger : Ghosts L} (runners : ℕ) (ended : Re
 -- the desk `old` is `new` after calls of a runner that lead from the stage `from` to the stage `to`
 pub record Goes {L : Type 0} {ledger : Ghosts L} (from to : Stage) (old new : Desk L ledger) : Type 0 where
   pub on : AddsRunnerCalls old new
-  pub stage : Leads (clock_of old) from to on.more
+  pub stage : AreNextCalls (clock_of old) from to on.more
 
 -- the desk `old` is `new` after calls of a runner, with this result. If it succeeded, they lead from the
 -- stage `from` to the stage `to`, and `count` of them or more found no free job; if it ended because the
@@ -180,20 +171,21 @@ pub record Goes {L : Type 0} {ledger : Ghosts L} (from to : Stage) (old new : De
 pub record EndsAt {L : Type 0} {ledger : Ghosts L} (from to : Stage) (count : ℕ)
     (ended : Result (Unit {0}) RunFault) (old new : Desk L ledger) : Type 0 where
   pub on : AddsRunnerCalls old new
-  pub stage : OnOk ended (Leads (clock_of old) from to on.more)
+  pub stage : OnOk ended (AreNextCalls (clock_of old) from to on.more)
   pub no_job : OnOk ended (no_job_count (subhistory_of old) + count ≤ no_job_count (subhistory_of new))
   pub full : ended ≡ Err run.HistoryFull → MAX_EVENTS ≤ clock_of new
 
 -- the desk `old` is `new` after a runner's turn with one lease. If it succeeded, the lease has ended
 abbrev pub EndsTurn : {L : Type 0} {ledger : Ghosts L}
     → LeaseState → Result (Unit {0}) RunFault → Desk L ledger → Desk L ledger → Type 0
-EndsTurn lease result old new = EndsAt (Has (turn_of lease)) Free 0 result old new
+EndsTurn lease result old new = EndsAt (InTurn (turn_of lease)) Free 0 result old new
 
 -- the desk `old` is `new` after a runner has ordered and run steps of a lease, which was `before` and is
 -- `after`. If the book refused an order, the lease has ended; if an allocation failed or the history was
 -- full, only the kinds of the calls are known
 abbrev pub RunsSteps : {L : Type 0} {ledger : Ghosts L}
     → LeaseState → LeaseState → Result (Unit {0}) BookFault → Desk L ledger → Desk L ledger → Type 0
-RunsSteps before after (Ok done) old new = Goes (Has (turn_of before)) (Has (turn_of after)) old new
+RunsSteps before after (Ok done) old new = Goes (InTurn (turn_of before)) (InTurn (turn_of after)) old new
 RunsSteps before after (Err fault) old new =
-    MatchBool (is_event (Refused fault)) (Goes (Has (turn_of before)) Free old new) (AddsRunnerCalls old new)
+    MatchBool (is_event (Refused fault))
+    (Goes (InTurn (turn_of before)) Free old new) (AddsRunnerCalls old new)

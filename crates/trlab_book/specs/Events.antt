@@ -1,14 +1,10 @@
 -- The effect of a call on a book with its history. `reply` is always the reply to the caller.
 use Rattle.std.specs.Prelude.{◌≡◌, ◌↔◌, true, List, ◌++◌, ◌∷◌, [], MatchBool}
-use Rattle.trlab_sequential_book.specs.declared.fault.BookFault.TheVariants.{HistoryFull}
-use Rattle.trlab_sequential_book.specs.declared.event.Call.{Call}
-use Rattle.trlab_sequential_book.specs.declared.event.Event.{Event}
-use Rattle.trlab_sequential_book.specs.declared.event.Reply.{Reply}
-use Rattle.trlab_sequential_book.specs.declared.event.Reply.TheVariants.{Refused}
-use Rattle.trlab_book.specs.declared.kept.Kept.{Kept}
+use Rattle.trlab_sequential_book.specs.declared.{fault.BookFault.TheVariants.HistoryFull, event.Call.Call}
+use Rattle.trlab_sequential_book.specs.declared.event.{Event.Event, Reply.{Reply, TheVariants.Refused}}
 use Rattle.trlab_sequential_book.specs.Machine.{after, has_full_history, reply_of}
-use Rattle.trlab_sequential_book.specs.Answers.{is_event}
-use Rattle.trlab_sequential_book.specs.Replay.{event}
+use Rattle.trlab_sequential_book.specs.Histories.{is_event, event}
+use Rattle.trlab_book.specs.declared.kept.Kept.{Kept}
 
 -- the call is appended to the history as one event, with the reply of the machine, which is also the reply to
 -- the caller; and the book is the machine's after the call

@@ -1,16 +1,26 @@
+-- The turns of runners, and what the logs of these turns say of leases and of free jobs.
+use Rattle.std.specs.Prelude.{◌≡◌, false, List, ◌∷◌, ◌++◌, map, All, ℕ, zero, suc, ◌+◌, ◌==◌, ◌≤◌, ltb, Bool}
+use Rattle.std.specs.Prelude.{◌&&◌, [], if◌then◌else◌, fold, true}
+use Rattle.trlab_sequential_book.specs.declared.event.{Event.Event, Reply.{Reply, TheVariants.NoLease}}
+use Rattle.trlab_sequential_book.specs.declared.event.{Call.Call, Offered.Offered}
+use Rattle.trlab_sequential_book.specs.Machine.{BookState, JobState, empty_book, is_free}
+use Rattle.trlab_sequential_book.specs.{Histories.{Replays, call_of, event, state_from}, Leases.LeaseState}
+use Rattle.trlab_sequential_book.specs.declared.event.Call.TheVariants as call
+use Rattle.trlab_sequential_book.specs.declared.event.Reply.TheVariants as reply
+use Rattle.trlab_strands.specs.{declared.knowledge.Noted.Noted, Knowledge.event_number}
+
+-- What a call of `lease` that finds no free job says of the book.
+
+-- in a history that replays, no job was free when a call of `lease` found none: each job of the book was out,
+-- cancelled, or had no step left to do
+abbrev pub NoJobIsFree : Type 0
+NoJobIsFree =
+    (history before later : List Event) (book : BookState) → Replays history book
+    → history ≡ before ++ event call.Lease NoLease ∷ later
+    → All (λ (job : JobState). is_free job ≡ false) (state_from empty_book (map call_of before)).jobs
+
 -- The logs of runners. A runner runs jobs in turns: it takes a lease, orders the lease's steps one after
 -- another, and ends the lease, before it takes another one. Its last call finds no free job.
-use Rattle.std.specs.Prelude.{◌≡◌, ℕ, zero, suc, ◌+◌, ◌==◌, ◌≤◌, ltb, Bool, ◌&&◌, List, [], ◌∷◌, ◌++◌, if◌then◌else◌}
-use Rattle.std.specs.List.{fold}
-use Rattle.trlab_sequential_book.specs.Leases.{LeaseState}
-use Rattle.trlab_sequential_book.specs.declared.event.Call.{Call}
-use Rattle.trlab_sequential_book.specs.declared.event.Call.TheVariants as call
-use Rattle.trlab_sequential_book.specs.declared.event.Event.{Event}
-use Rattle.trlab_sequential_book.specs.declared.event.Offered.{Offered}
-use Rattle.trlab_sequential_book.specs.declared.event.Reply.{Reply}
-use Rattle.trlab_sequential_book.specs.declared.event.Reply.TheVariants as reply
-use Rattle.trlab_strands.specs.declared.knowledge.Noted.{Noted}
-use Rattle.trlab_strands.specs.Knowledge.{event_number}
 
 -- a turn with one lease: the number of its job, its own number, the step at which it went out, its next step,
 -- and the number of steps of the job
@@ -32,11 +42,11 @@ turn_of lease = record {
 }
 
 -- what a runner has after its calls so far: no lease, but it goes on (`Free`); the lease of this turn
--- (`Has`); no lease, and it has ended (`Through`); or its calls were not those of a runner (`Astray`)
+-- (`InTurn`); no lease, and it has ended (`Finished`); or its calls were not those of a runner (`Astray`)
 pub data Stage : Type 0 where
   Free : Stage
-  Has : (turn : Turn) → Stage
-  Through : Stage
+  InTurn : (turn : Turn) → Stage
+  Finished : Stage
   Astray : Stage
 
 -- does a call offer the lease of this turn, with its next step?
@@ -48,8 +58,8 @@ is_of_turn turn lease =
 -- runner has ended
 abbrev pub after_leasing : Reply → Stage
 after_leasing (reply.Leased job number step steps) =
-    Has (record { job = job; number = number; base = step; step = step; steps = steps })
-after_leasing reply.NoLease = Through
+    InTurn (record { job = job; number = number; base = step; step = step; steps = steps })
+after_leasing reply.NoLease = Finished
 after_leasing _ = Astray
 
 -- the stage after a call of a runner that has no lease, which can only be `lease`
@@ -59,7 +69,7 @@ without_lease _ told = Astray
 
 -- the stage after the next step of the lease was ordered: if the book refuses it, the runner drops the lease
 abbrev pub after_ordering : Turn → Reply → Stage
-after_ordering turn (reply.Ordered job number step from) = Has (record turn { step = turn.step + 1 })
+after_ordering turn (reply.Ordered job number step from) = InTurn (record turn { step = turn.step + 1 })
 after_ordering turn (reply.Refused fault) = Free
 after_ordering turn _ = Astray
 
@@ -80,7 +90,7 @@ with_lease turn _ told = Astray
 -- the stage after one more event; a runner that has ended makes no more calls
 abbrev pub stage_after : Stage → Event → Stage
 stage_after Free made = without_lease made.call made.reply
-stage_after (Has turn) made = with_lease turn made.call made.reply
+stage_after (InTurn turn) made = with_lease turn made.call made.reply
 stage_after _ made = Astray
 
 -- the stage after these events
@@ -88,13 +98,13 @@ abbrev pub last_stage : Stage → List (Noted Event) → Stage
 last_stage from events = fold (λ stage made. stage_after stage made.event) from events
 
 -- these events come in the history in the order of this list, the first of them after `from` events or more
-abbrev pub Rise : ℕ → List (Noted Event) → Type 0
-Rise from [] = Unit {0}
-Rise from (made ∷ more) = (from ≤ event_number made) × Rise (event_number made + 1) more
+abbrev pub AreInOrderFrom : ℕ → List (Noted Event) → Type 0
+AreInOrderFrom from [] = Unit {0}
+AreInOrderFrom from (made ∷ more) = (from ≤ event_number made) × AreInOrderFrom (event_number made + 1) more
 
 -- these events are a runner's next calls, in their order, and lead it from one stage to another
-pub record Leads (clock : ℕ) (from to : Stage) (events : List (Noted Event)) : Type 0 where
-  pub rise : Rise clock events
+pub record AreNextCalls (clock : ℕ) (from to : Stage) (events : List (Noted Event)) : Type 0 where
+  pub rise : AreInOrderFrom clock events
   pub stage : last_stage from events ≡ to
 
 -- these events are the log of one runner, from its first call to its last: each lease that went out ends
@@ -102,7 +112,7 @@ pub record Leads (clock : ℕ) (from to : Stage) (events : List (Noted Event)) :
 -- `order`, `give_back` and a `lease` that finds no free job are a log; without the `give_back` they are
 -- none
 abbrev pub IsLog : List (Noted Event) → Type 0
-IsLog events = Leads 0 Free Through events
+IsLog events = AreNextCalls 0 Free Finished events
 
 -- these events are the logs of this number of runners, one log after the other
 abbrev pub AreLogs : ℕ → List (Noted Event) → Type 0
@@ -110,3 +120,39 @@ AreLogs zero events = events ≡ []
 AreLogs (suc runners) events =
     (log : List (Noted Event)) × (more : List (Noted Event))
     × (events ≡ log ++ more) × IsLog log × AreLogs runners more
+
+-- What the log of a runner says of each of its leases.
+
+-- is it the lease of this job with this number that a call offers?
+abbrev pub is_lease_of : ℕ → ℕ → Offered → Bool
+is_lease_of job number lease = (job == lease.job) && (number == lease.number)
+
+-- is this an order of this lease that the book accepted?
+abbrev pub is_order_of : ℕ → ℕ → Call → Reply → Bool
+is_order_of job number (call.Order lease) (reply.Ordered of_job of_lease step from) = is_lease_of job number lease
+is_order_of job number _ _ = false
+
+-- does this event end this lease? It does if the lease is given back, or if the book refuses it, in an
+-- order or when it is given back
+abbrev pub ends_lease : ℕ → ℕ → Call → Reply → Bool
+ends_lease job number (call.GiveBack lease) reply.Done = is_lease_of job number lease
+ends_lease job number (call.GiveBack lease) (reply.Refused fault) = is_lease_of job number lease
+ends_lease job number (call.Order lease) (reply.Refused fault) = is_lease_of job number lease
+ends_lease job number _ _ = false
+
+-- one of these events ends the lease, and the ones before it are accepted orders of this lease
+pub record IsEndedIn (job number : ℕ) (events : List (Noted Event)) : Type 0 where
+  pub orders : List (Noted Event)
+  pub last : Noted Event
+  pub later : List (Noted Event)
+  pub events_are : events ≡ orders ++ last ∷ later
+  pub ordered : All (λ made. is_order_of job number made.event.call made.event.reply ≡ true) orders
+  pub ends : ends_lease job number last.event.call last.event.reply ≡ true
+
+-- in the log of a runner, after each lease that went out come accepted orders of this lease, and then an
+-- event that ends it
+abbrev pub LeasesEnd : Type 0
+LeasesEnd =
+    (log before after : List (Noted Event)) (made : Noted Event) (job number step steps : ℕ) → IsLog log
+    → log ≡ before ++ made ∷ after → made.event.reply ≡ reply.Leased job number step steps
+    → IsEndedIn job number after

@@ -6,11 +6,13 @@ ghost use Rattle.trlab_strands.specs.Tokens.{keeper_list, name_of, strand_events
 ghost use Rattle.trlab_strands.specs.declared.knowledge.TheConstants.{ALL_PARTS};
 ghost use Rattle.trlab_sequential_book.specs.declared.event.Reply.TheVariants.{Refused};
 
-use crate::kept::{Kept, replace_call, submit_call};
+use crate::kept::{Kept, boxed, replace_call, submit_call};
 use std::alloc::Global;
 use std::sync::{Mutex, Wait};
 use trlab_rules::Rule;
-use trlab_sequential_book::{Book, BookFault, Event, Lease, Order, Seed, Snapshot};
+use trlab_sequential_book::{
+    Book, BookFault, Event, Lease, Order, Seed, SharedRule, SharedSeed, Snapshot,
+};
 use trlab_strands::{ALL_PARTS, Blank, Keeper, Ledger, Strand, Strands};
 
 /// The value under the lock of a shared book: the book with its history, and the keeper of the desks' strands, which
@@ -54,7 +56,7 @@ pub struct Desk<L: Ledger> {
 impl<L: Ledger> Desk<L> {
     ghost use Rattle.trlab_sequential_book.specs.declared.event.Call.{Call};
     ghost use Rattle.trlab_sequential_book.specs.declared.event.Reply.{Reply};
-    ghost use Rattle.trlab_sequential_book.specs.Answers.{is_event, is_history_full};
+    ghost use Rattle.trlab_sequential_book.specs.Histories.{is_event, is_history_full};
     ghost use Rattle.trlab_sequential_book.specs.Machine.{has_full_history};
     ghost use Rattle.trlab_book.specs.Events.{WasMadeAfter};
     ghost use Rattle.trlab_book.specs.Desks.{NotesCall, part_count};
@@ -94,11 +96,11 @@ impl<L: Ledger> Desk<L> {
 }
 
 impl<L: Ledger> SharedBook<L> {
-    ghost use Rattle.trlab_sequential_book.specs.Answers.{give_back_reply, done_reply, is_event, lease_reply};
-    ghost use Rattle.trlab_sequential_book.specs.Answers.{number_reply, order_reply, read_reply};
+    ghost use Rattle.trlab_sequential_book.specs.Histories.{give_back_reply, done_reply, is_event, lease_reply};
+    ghost use Rattle.trlab_sequential_book.specs.Histories.{number_reply, order_reply, read_reply};
     ghost use Rattle.trlab_sequential_book.specs.Comparison.{LeaseCall, OrderCall, offered};
     ghost use Rattle.trlab_sequential_book.specs.Leases.{FitsOrder};
-    ghost use Rattle.trlab_sequential_book.specs.Replay.{Replays};
+    ghost use Rattle.trlab_sequential_book.specs.Histories.{Replays};
     ghost use Rattle.trlab_sequential_book.specs.declared.event.Call.TheVariants.{Cancel, GiveBack, Read};
     ghost use Rattle.trlab_sequential_book.specs.declared.event.Call.TheVariants.{Replace, Revoke, Submit};
     ghost use Rattle.trlab_book.specs.Desks.{MakesNoEvent, LeaseIsFresh, OrderHasRuleInForce, ReadShowsJob, IsSameBook, LacksEvents};
@@ -206,7 +208,29 @@ impl<L: Ledger> SharedBook<L> {
     ) -> Result<u32, BookFault>
         ensures { MakesCall desk.old (Submit seed rule steps) (number_reply result) desk.new }
     {
-        let Ok((seed, rule, call)) = submit_call(alloc, seed, rule, steps) else {
+        let Ok((seed, rule)) = boxed(alloc, seed, rule) else {
+            return Err(self.refuse_without_memory(rt, desk));
+        };
+        self.submit_shared(rt, alloc, desk, seed, rule, steps)
+    }
+
+    /// `submit`, for a seed and a rule that have other owners, such as other jobs or the caller. No road is copied.
+    ///
+    /// # Errors
+    ///
+    /// Those of `submit`.
+    pub fn submit_shared<R: Wait>(
+        &self,
+        rt: &R,
+        alloc: Global,
+        desk: &mut Desk<L>,
+        seed: SharedSeed,
+        rule: SharedRule,
+        steps: u32,
+    ) -> Result<u32, BookFault>
+        ensures { MakesCall desk.old (Submit seed rule steps) (number_reply result) desk.new }
+    {
+        let Ok(call) = submit_call(&seed, &rule, steps) else {
             return Err(self.refuse_without_memory(rt, desk));
         };
         let mut guard = self.lock.lock(rt);

@@ -4,13 +4,13 @@ ghost use Rattle.std.specs.Prelude.{◌≡◌, ◌↔◌, ◌<◌, ◌++◌, ◌
 ghost use Rattle.std.specs.Prelude.{IfOk, IfErr, OnOk, vec_len};
 ghost use Rattle.std.specs.Bool.{OnTrue};
 ghost use Rattle.std.specs.Vec.{vec_capacity};
-ghost use Rattle.trlab_sequential_book.specs.Answers.{give_back_reply, done_reply, is_event, lease_reply};
-ghost use Rattle.trlab_sequential_book.specs.Answers.{number_reply, order_reply, read_reply};
+ghost use Rattle.trlab_sequential_book.specs.Histories.{give_back_reply, done_reply, is_event, lease_reply};
+ghost use Rattle.trlab_sequential_book.specs.Histories.{number_reply, order_reply, read_reply};
 ghost use Rattle.trlab_sequential_book.specs.Comparison.{IsFreshIfLent, HasRuleInForce, RunsRoadOfItsJob, ShowsJob};
 ghost use Rattle.trlab_sequential_book.specs.Comparison.{LeaseCall, OrderCall, offered};
 ghost use Rattle.trlab_sequential_book.specs.Leases.{FitsOrder};
 ghost use Rattle.trlab_sequential_book.specs.Machine.{has_full_history, empty_book};
-ghost use Rattle.trlab_sequential_book.specs.Replay.{Replays, event};
+ghost use Rattle.trlab_sequential_book.specs.Histories.{Replays, event};
 ghost use Rattle.trlab_sequential_book.specs.declared.event.Call.TheVariants.{Cancel, GiveBack, Read};
 ghost use Rattle.trlab_sequential_book.specs.declared.event.Call.TheVariants.{Replace, Revoke, Submit};
 ghost use Rattle.trlab_sequential_book.specs.declared.event.Reply.TheVariants.{Refused};
@@ -19,7 +19,7 @@ ghost use Rattle.trlab_sequential_book.specs.declared.fault.BookFault.TheVariant
 use std::alloc::{AllocError, Global};
 use trlab_rules::Rule;
 use trlab_sequential_book::{
-    Book, BookFault, BoxedRule, BoxedSeed, Call, Event, Lease, Offered, Order, Reply, Seed,
+    Book, BookFault, Call, Event, Lease, Offered, Order, Reply, Seed, SharedRule, SharedSeed,
     Snapshot,
 };
 
@@ -51,7 +51,7 @@ impl Kept {
         ensures unchanged { IsUnchanged self.old self.new }
         ensures room { OnOk result (vec_len self.new.history < vec_capacity self.new.history) }
         ensures none { IfErr result (λ f. is_event (Refused f) ≡ false) }
-        ensures full { IfErr result (λ f.
+        ensures full_history { IfErr result (λ f.
             (Refused f ≡ Refused HistoryFull) ↔ (has_full_history self.old.book ≡ true)) }
     {
         if self.history.reserve(1).is_err() {
@@ -64,7 +64,7 @@ impl Kept {
     /// `Memory` otherwise.
     pub(crate) fn fault_without_memory(&self) -> BookFault
         ensures none { is_event (Refused result) ≡ false }
-        ensures full { (Refused result ≡ Refused HistoryFull) ↔ (has_full_history self.now.book ≡ true) }
+        ensures full_history { (Refused result ≡ Refused HistoryFull) ↔ (has_full_history self.now.book ≡ true) }
     {
         if self.book.has_full_history() {
             BookFault::HistoryFull
@@ -77,17 +77,17 @@ impl Kept {
     pub(crate) fn submit(
         &mut self,
         alloc: Global,
-        seed: BoxedSeed,
-        rule: BoxedRule,
+        seed: SharedSeed,
+        rule: SharedRule,
         steps: u32,
         call: Call,
     ) -> Result<u32, BookFault>
         requires { call ≡ Submit seed rule steps }
         ensures made { Records self.old (Submit seed rule steps) (number_reply result) self.new }
-        ensures full { RefusesIfFull self.old (number_reply result) }
+        ensures full_history { RefusesIfFull self.old (number_reply result) }
     {
         self.make_room()?;
-        let answer = self.book.submit_boxed(alloc, seed, rule, steps);
+        let answer = self.book.submit_shared(alloc, seed, rule, steps);
         let reply = reply_to_number(&answer);
         put_event(&mut self.history, call, reply);
         answer
@@ -97,7 +97,7 @@ impl Kept {
     pub(crate) fn replace(&mut self, job: u32, rule: Rule, call: Call) -> Result<u32, BookFault>
         requires { call ≡ Replace job rule }
         ensures made { Records self.old (Replace job rule) (number_reply result) self.new }
-        ensures full { RefusesIfFull self.old (number_reply result) }
+        ensures full_history { RefusesIfFull self.old (number_reply result) }
     {
         self.make_room()?;
         let answer = self.book.replace(job, rule);
@@ -114,7 +114,7 @@ impl Kept {
     pub fn lease(&mut self, alloc: Global) -> Result<Option<Lease>, BookFault>
         ensures made { Records self.old LeaseCall (lease_reply result) self.new }
         ensures lent { IfOk result (λ o. IsFreshIfLent self.old.book.jobs self.old.book.next o) }
-        ensures full { RefusesIfFull self.old (lease_reply result) }
+        ensures full_history { RefusesIfFull self.old (lease_reply result) }
     {
         self.make_room()?;
         let answer = self.book.lease(alloc);
@@ -133,7 +133,7 @@ impl Kept {
             → Records self.old (OrderCall (offered lease.now runs_its_road)) (order_reply result) self.new }
         ensures rule { IfOk result (λ o. HasRuleInForce self.old.book.jobs o) }
         ensures fits { IfOk result (λ o. FitsOrder lease.now o) }
-        ensures full { RefusesIfFull self.old (order_reply result) }
+        ensures full_history { RefusesIfFull self.old (order_reply result) }
         ensures noted { (runs_its_road : Bool)
             × OnTrue (is_event (order_reply result))
             (IsTrue runs_its_road ↔ RunsRoadOfItsJob self.old.book.jobs lease.now)
@@ -157,7 +157,7 @@ impl Kept {
         ensures made { (runs_its_road : Bool) → (IsTrue runs_its_road ↔ RunsRoadOfItsJob self.old.book.jobs lease)
             → Records self.old (GiveBack (offered lease runs_its_road)) (give_back_reply result) self.new }
         ensures returned { IfErr result (λ returned. returned.0 ≡ lease) }
-        ensures full { RefusesIfFull self.old (give_back_reply result) }
+        ensures full_history { RefusesIfFull self.old (give_back_reply result) }
         ensures noted { (runs_its_road : Bool)
             × OnTrue (is_event (give_back_reply result))
             (IsTrue runs_its_road ↔ RunsRoadOfItsJob self.old.book.jobs lease)
@@ -181,7 +181,7 @@ impl Kept {
     /// Those of `Book::revoke`, or `Memory` if the history cannot grow.
     pub fn revoke(&mut self, job: u32) -> Result<(), BookFault>
         ensures made { Records self.old (Revoke job) (done_reply result) self.new }
-        ensures full { RefusesIfFull self.old (done_reply result) }
+        ensures full_history { RefusesIfFull self.old (done_reply result) }
     {
         self.make_room()?;
         let answer = self.book.revoke(job);
@@ -197,7 +197,7 @@ impl Kept {
     /// Those of `Book::cancel`, or `Memory` if the history cannot grow.
     pub fn cancel(&mut self, job: u32) -> Result<(), BookFault>
         ensures made { Records self.old (Cancel job) (done_reply result) self.new }
-        ensures full { RefusesIfFull self.old (done_reply result) }
+        ensures full_history { RefusesIfFull self.old (done_reply result) }
     {
         self.make_room()?;
         let answer = self.book.cancel(job);
@@ -214,7 +214,7 @@ impl Kept {
     pub fn read(&mut self, alloc: Global, job: u32) -> Result<Snapshot, BookFault>
         ensures made { Records self.old (Read job) (read_reply result) self.new }
         ensures seen { IfOk result (λ s. ShowsJob self.old.book.jobs job s) }
-        ensures full { RefusesIfFull self.old (read_reply result) }
+        ensures full_history { RefusesIfFull self.old (read_reply result) }
     {
         self.make_room()?;
         let answer = self.book.read(alloc, job);
@@ -236,28 +236,38 @@ fn put_event(history: &mut Vec<Event>, call: Call, reply: Reply)
     }
 }
 
-/// Returns the seed and the rule for the job, in shared memory, and the call for the history, which shares both.
-pub(crate) fn submit_call(
+/// Moves a seed and a rule into memory that can be shared.
+pub(crate) fn boxed(
     alloc: Global,
     seed: Seed,
     rule: Rule,
-    steps: u32,
-) -> Result<(BoxedSeed, BoxedRule, Call), AllocError>
-    ensures seed { IfOk result (λ made. made.0 ≡ seed) }
-    ensures rule { IfOk result (λ made. made.1 ≡ rule) }
-    ensures call { IfOk result (λ made. made.2 ≡ Submit made.0 made.1 steps) }
+) -> Result<(SharedSeed, SharedRule), AllocError>
+    ensures seed { IfOk result (λ boxed. boxed.0 ≡ seed) }
+    ensures rule { IfOk result (λ boxed. boxed.1 ≡ rule) }
 {
-    let seed = BoxedSeed::new(alloc, seed)?;
-    let rule = BoxedRule::new(alloc, rule)?;
-    let call = Call::Submit(seed.share()?, rule.share()?, steps);
-    Ok((seed, rule, call))
+    let seed = SharedSeed::new(alloc, seed)?;
+    let rule = SharedRule::new(alloc, rule)?;
+    Ok((seed, rule))
+}
+
+/// The `Submit` call for the history, which shares the seed and the rule with the job.
+pub(crate) fn submit_call(
+    seed: &SharedSeed,
+    rule: &SharedRule,
+    steps: u32,
+) -> Result<Call, AllocError>
+    ensures { IfOk result (λ call. call ≡ Submit seed.now rule.now steps) }
+{
+    let seed = seed.share()?;
+    let rule = rule.share()?;
+    Ok(Call::Submit(seed, rule, steps))
 }
 
 /// The `Replace` call for the history, with a copy of the rule.
 pub(crate) fn replace_call(alloc: Global, job: u32, rule: &Rule) -> Result<Call, AllocError>
     ensures { IfOk result (λ call. call ≡ Replace job rule.now) }
 {
-    let copy = BoxedRule::copy_of(alloc, rule)?;
+    let copy = SharedRule::copy_of(alloc, rule)?;
     Ok(Call::Replace(job, copy))
 }
 

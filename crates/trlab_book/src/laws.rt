@@ -1,7 +1,6 @@
 //! Laws of a book with its history, of runners' leases, of free jobs, and of the joined results of two runners.
 
-ghost use Rattle.trlab_book.specs.FreeJobs.{NoJobIsFree};
-ghost use Rattle.trlab_book.specs.LeasesEnd.{LeasesEnd};
+ghost use Rattle.trlab_book.specs.Turns.{NoJobIsFree, LeasesEnd};
 
 pub use crate::kept::Kept;
 pub use crate::running::first_fault;

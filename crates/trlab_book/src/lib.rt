@@ -24,7 +24,7 @@ pub use for_embedders::advance;
 pub use running::{RunFault, run_jobs};
 pub use trlab_bounds::runs::MAX_RUNNERS;
 pub use trlab_sequential_book::{
-    Book, BookFault, BoxedRule, BoxedSeed, Call, Event, Lease, LeaseFault, Offered, Order, Reply,
-    Seed, Sheet, Snapshot,
+    Book, BookFault, Call, Event, Lease, LeaseFault, Offered, Order, Reply, Seed, SharedRule,
+    SharedSeed, Sheet, Snapshot,
 };
 pub use trlab_strands::ALL_PARTS;

@@ -6,9 +6,9 @@ ghost use Rattle.trlab_bounds.specs.declared.runs.TheConstants.{MAX_RUNNERS, MAX
 ghost use Rattle.trlab_sequential_book.specs.declared.book.TheConstants.{MAX_EVENTS};
 ghost use Rattle.trlab_sequential_book.specs.declared.fault.BookFault.TheVariants.{HistoryFull};
 ghost use Rattle.trlab_sequential_book.specs.declared.event.Reply.TheVariants.{Refused};
-ghost use Rattle.trlab_sequential_book.specs.Answers.{is_event};
+ghost use Rattle.trlab_sequential_book.specs.Histories.{is_event};
 ghost use Rattle.trlab_book.specs.Desks.{AddsRunnerCalls, EndsAt, EndsTurn, Goes, HasEnded, RunsSteps, clock_of, part_count};
-ghost use Rattle.trlab_book.specs.Turns.{Free, Through};
+ghost use Rattle.trlab_book.specs.Turns.{Free, Finished};
 ghost use Rattle.trlab_book.specs.declared.running.RunFault.TheVariants as run;
 
 use crate::desk::{Desk, SharedBook};
@@ -111,7 +111,7 @@ fn run_all<L: Ledger + Send + Sync, R: Threads + Wait + Sync, G: Gate + Sync>(
 /// Joins the results of two runners: `HistoryFull` if either has it, otherwise `Memory` if either has it.
 pub fn first_fault(one: Result<(), RunFault>, other: Result<(), RunFault>) -> Result<(), RunFault>
     ensures fine { IsOk result ↔ (IsOk one × IsOk other) }
-    ensures full { (result ≡ Err run.HistoryFull) ↔ ((one ≡ Err run.HistoryFull) ⊎ (other ≡ Err run.HistoryFull)) }
+    ensures full_history { (result ≡ Err run.HistoryFull) ↔ ((one ≡ Err run.HistoryFull) ⊎ (other ≡ Err run.HistoryFull)) }
 {
     match (one, other) {
         (Err(RunFault::HistoryFull), _) | (_, Err(RunFault::HistoryFull)) => {
@@ -177,7 +177,7 @@ impl<'a, L: Ledger, R: Threads + Wait + Sync, G: Gate + Sync> Runner<'a, L, R, G
     /// fault; otherwise `None`.
     fn take_free(&self, desk: &mut Desk<L>) -> Option<Result<(), RunFault>>
         ensures { MatchOption result (Goes Free Free desk.old desk.new)
-            (λ ended. EndsAt Free Through 1 ended desk.old desk.new) }
+            (λ ended. EndsAt Free Finished 1 ended desk.old desk.new) }
     {
         match self.book.lease(self.rt, self.alloc, desk) {
             Ok(Some(lease)) => match self.take_turn(desk, lease) {
@@ -208,7 +208,7 @@ impl<'a, L: Ledger, R: Threads + Wait + Sync, G: Gate + Sync> Runner<'a, L, R, G
     /// while a step runs.
     fn run_steps(&self, desk: &mut Desk<L>, lease: &mut Lease) -> Result<(), BookFault>
         ensures ran { RunsSteps lease.old lease.new result desk.old desk.new }
-        ensures full { result ≡ Err HistoryFull → MAX_EVENTS ≤ clock_of desk.new }
+        ensures full_history { result ≡ Err HistoryFull → MAX_EVENTS ≤ clock_of desk.new }
     {
         for _ in 0..STEPS_PER_TURN {
             if lease.step() >= lease.steps() {
@@ -237,7 +237,7 @@ impl<'a, L: Ledger, R: Threads + Wait + Sync, G: Gate + Sync> Runner<'a, L, R, G
         requires seen { fault ≡ HistoryFull → MAX_EVENTS ≤ clock_of desk.old }
         ensures on { AddsRunnerCalls desk.old desk.new }
         ensures over { IsOk result → (is_event (Refused fault) ≡ true) × (desk.new ≡ desk.old) }
-        ensures full { result ≡ Err run.HistoryFull → MAX_EVENTS ≤ clock_of desk.new }
+        ensures full_history { result ≡ Err run.HistoryFull → MAX_EVENTS ≤ clock_of desk.new }
     {
         let job = lease.job();
         drop(lease);

@@ -10,7 +10,7 @@ use std::sync::Wait;
 use std::thread::Threads;
 use trlab_machine::Dice;
 use trlab_road::Road;
-use trlab_segments::{Asked, Gate, Pool, segment_count};
+use trlab_segments::{CHANGE_PHASE, Gate, MOTION_PHASE, Pool, segment_count};
 use trlab_sequential_book::{Lease, LeaseFault, Order};
 use trlab_step::{Caller, Executor, StepObserver};
 use trlab_verify::{Change, Motion};
@@ -48,7 +48,7 @@ impl<'a, G: Gate> Executor for OneWorker<'a, G> {
         dice: &Dice,
         observer: &mut O,
     ) -> Result<(), AllocError> {
-        self.pass(road, dice, <Motion as Asked<u8>>::PHASE);
+        self.pass(road, dice, MOTION_PHASE);
         Caller.speeds(alloc, answers, road, motion, dice, observer)
     }
 
@@ -61,7 +61,7 @@ impl<'a, G: Gate> Executor for OneWorker<'a, G> {
         dice: &Dice,
         observer: &mut O,
     ) -> Result<(), AllocError> {
-        self.pass(road, dice, <Change as Asked<bool>>::PHASE);
+        self.pass(road, dice, CHANGE_PHASE);
         Caller.crossings(alloc, answers, road, change, dice, observer)
     }
 }

@@ -1,27 +1,23 @@
 -- The points of a sweep are under the triangle of their roads.
-use Rattle.std.proofs.Common.{◌≡◌, ℕ, suc, ◌+◌, ◌-◌, ◌*◌, ◌/◌, ◌<◌, ◌≤◌, min, List, [], ◌∷◌, length, get_or, sym, ◌∙◌, ap, subst, arith, mul_comm, mul_assoc, mul_right_comm, le_of_mul-le-mul_right, div-mul-le_self, mul-le-mul_right, le-div_iff_mul-le, le_trans}
-use Rattle.std.specs.Prelude.{All, IfOk, Ok, Result, sum_by}
-use Rattle.std.proofs.Math.Nat.{mul-div-mul_right}
+use Rattle.std.proofs.Common.{◌≡◌, ℕ, suc, ◌+◌, ◌-◌, ◌*◌, ◌/◌, ◌<◌, ◌≤◌, min, List, [], ◌∷◌, length, get_or}
+use Rattle.std.proofs.Common.{sym, ◌∙◌, ap, subst, arith, mul_comm, mul_assoc, mul_right_comm}
+use Rattle.std.proofs.Common.{le_of_mul-le-mul_right, div-mul-le_self, mul-le-mul_right, le-div_iff_mul-le}
+use Rattle.std.proofs.{Common.{le_trans, All, IfOk, Ok, Result, sum_by}, Math.Nat.mul-div-mul_right}
 use Rattle.std.proofs.lemmas.List.Sums.{sum_by-cons}
 use Rattle.trlab_diagram.specs.declared.point.Point.{Point}
-use Rattle.trlab_road.specs.Cells.{Cells, Lane, cars}
-use Rattle.trlab_road.specs.Spreading.{CanSpread, IsEvenlySpaced}
+use Rattle.trlab_road.specs.{Cells.{Cells, Lane, cars}, Spreading.{CanSpread, IsEvenlySpaced}}
 use Rattle.trlab_road.proofs.EvenRoads.{even_count, even_legal}
-use Rattle.trlab_texts.specs.Reading.{Fault}
-use Rattle.trlab_jobs.specs.declared.sweep.Shape.{Shape}
-use Rattle.trlab_jobs.specs.Shapes.{all_steps}
-use Rattle.trlab_jobs.specs.Stored.{IsStoredSweep, CanSpreadOn}
-use Rattle.trlab_jobs.specs.Sweep.{Setup, Sweep, ParsesAsSweep}
-use Rattle.trlab_jobs.proofs.OneSweep.{one_thing, says_stored}
+use Rattle.trlab_texts.specs.Reading.{LocatedFault}
+use Rattle.trlab_jobs.specs.{declared.sweep.Shape.Shape, Sweep.{all_steps, Setup, Sweep, ParsesAsSweep}}
+use Rattle.trlab_jobs.{specs.Stored.{IsStoredSweep, CanSpreadOn}, proofs.OneSweep.{one_thing, says_stored}}
 use Rattle.trlab_traffic.specs.Terms.{all_cells as cells_of_road, max_distance, empty_cells, lane_cells}
-use Rattle.trlab_traffic.proofs.RoomAhead.{taken_or_empty}
-use Rattle.trlab_traffic.proofs.Capacities.{run_stays_under_triangle}
+use Rattle.trlab_traffic.proofs.{RoomAhead.taken_or_empty, Capacities.run_stays_under_triangle}
 use Rattle.trlab_traffic.proofs.Moving.{run_goes_by_moving_cars, run_keeps_below_peak}
 use Rattle.trlab_traffic.proofs.EvenCars.{even_cars_flow_on_triangle}
-use Rattle.trlab_campaign.specs.Triangle.{DiagramIsTriangle, IsAtMostPeak, IsOnTriangle, IsUnderTriangle, AsksForTriangle}
-use Rattle.trlab_campaign.specs.Triangle.{HasBoundedMovingSpeed, SweepsBoundMovingSpeed, SweepsDoNotExceedPeak, SweepsStayUnderTriangle}
-use Rattle.trlab_campaign.specs.SweepOutput.{ArePoints, IsPoint, point_seed, sweep_sheet}
-use Rattle.trlab_campaign.proofs.Points.{some_cells}
+use Rattle.trlab_campaign.specs.SweepOutput.{DiagramIsTriangle, IsAtMostPeak, IsOnTriangle, IsUnderTriangle}
+use Rattle.trlab_campaign.specs.SweepOutput.{AsksForTriangle, HasBoundedMovingSpeed, SweepsBoundMovingSpeed}
+use Rattle.trlab_campaign.specs.SweepOutput.{SweepsDoNotExceedPeak, SweepsStayUnderTriangle, ArePoints}
+use Rattle.trlab_campaign.{specs.SweepOutput.{IsPoint, point_seed, sweep_sheet}, proofs.Points.some_cells}
 use Rattle.trlab_campaign.proofs.StatedRules.{stated_nasch}
 use Rattle.trlab_rules.specs.Rules.{IsNasch}
 
@@ -137,7 +133,7 @@ module _ (IsSo : ℕ → Point → Type 0) (told : (common : Setup) → 1 ≤ co
   each_point text sweep points says are =
       let found = says_stored text in
       let same = one_thing text found.0 (Ok sweep) found.1.0 says in
-      let stored : IsStoredSweep sweep = subst (λ (said : Result Sweep Fault). IfOk said IsStoredSweep) same found.1.1 in
+      let stored : IsStoredSweep sweep = subst (λ (said : Result Sweep LocatedFault). IfOk said IsStoredSweep) same found.1.1 in
       λ i d inside.
       let on : i < length sweep.cars = (let size = are.one_each in omega (arith, size, inside)) in
       told sweep.setup stored.counted i (get_or sweep.cars i 0) (get_or points i d) (stored.spreads i 0 on) (are.each i 0 d on)
@@ -182,7 +178,7 @@ pub diagram_is_triangle : DiagramIsTriangle
 diagram_is_triangle text sweep points says are without =
     let found = says_stored text in
     let same = one_thing text found.0 (Ok sweep) found.1.0 says in
-    let stored : IsStoredSweep sweep = subst (λ (said : Result Sweep Fault). IfOk said IsStoredSweep) same found.1.1 in
+    let stored : IsStoredSweep sweep = subst (λ (said : Result Sweep LocatedFault). IfOk said IsStoredSweep) same found.1.1 in
     λ i d inside.
     let on : i < length sweep.cars = (let size = are.one_each in omega (arith, size, inside)) in
     on_triangle text sweep.setup stored.counted (stated_nasch 0 text sweep without.rule says) without i (get_or sweep.cars i 0) (get_or points i d) (stored.spreads i 0 on) (are.each i 0 d on)

@@ -1,22 +1,17 @@
 -- The course of a run, and the sums that are counted along it.
-use Rattle.std.proofs.Common.{◌≡◌, ℕ, zero, suc, ◌+◌, ◌-◌, ◌*◌, ◌/◌, ◌<◌, ◌≤◌, ◌↔◌, true, List, length, refl, sym, ◌∙◌, ap, subst, arith, add-one}
-use Rattle.std.proofs.lemmas.Bool.{le-leb}
-use Rattle.std.proofs.lemmas.Nat.{div-add-mod', le-div, mul-le}
-use Rattle.std.proofs.lemmas.List.FromFn.{sum_by-map-range_with_len_more}
-use Rattle.std.specs.Prelude.{Some, sum_by, nat_le}
-use Rattle.trlab_diagram.specs.declared.point.Point.{Point}
-use Rattle.trlab_diagram.specs.declared.point.LaneCount.{LaneCount}
-use Rattle.trlab_diagram.specs.declared.point.Window.{Window}
-use Rattle.trlab_road.specs.Cells.{Cells, cars, lane_of}
-use Rattle.trlab_road.specs.Legal.{IsLegal}
+use Rattle.std.proofs.Common.{◌≡◌, ℕ, zero, suc, ◌+◌, ◌-◌, ◌*◌, ◌/◌, ◌<◌, ◌≤◌, ◌↔◌, true, List, length, refl}
+use Rattle.std.proofs.Common.{sym, ◌∙◌, ap, subst, arith, add-one, le-leb, div-add-mod', Some, sum_by, nat_le}
+use Rattle.std.proofs.lemmas.{Nat.{le-div, mul-le}, List.FromFn.sum_by-map-range_with_len_more}
+use Rattle.trlab_diagram.specs.declared.point.{Point.Point, LaneCount.LaneCount, Window.Window}
+use Rattle.trlab_road.specs.Cells.{Cells, cars, lane_of, IsLegal}
 use Rattle.trlab_rules.specs.Rules.{Programs}
-use Rattle.trlab_step.specs.declared.tally.StepTally.{StepTally}
-use Rattle.trlab_step.specs.Run.{IsSheetFor, Seed, Sheet, ComesTo, IsRoadAt, IsTallyAt, dice_at, tally_sum, Progress, IsReachedByRun}
-use Rattle.trlab_step.specs.Next.{IsNext}
-use Rattle.trlab_step.proofs.NextLaws.{next_road_is_one}
-use Rattle.trlab_step.proofs.RunLaws.{run_comes_to_road, road_is_one, road_at_is_one}
-use Rattle.trlab_campaign.specs.Counting.{IsBoundedCount, IsLaterBy}
-use Rattle.trlab_campaign.specs.SeriesOutput.{AreRoads, IsCourse, IsStepAt, cars_on, lane_count, roads_after, total_speed_on, stopped_on, tallies_from, window_of}
+use Rattle.trlab_step.specs.{declared.tally.StepTally.StepTally, Run.{IsSheetFor, Seed, Sheet, ComesTo}}
+use Rattle.trlab_step.specs.Run.{IsRoadAt, IsTallyAt, dice_at, tally_sum, Progress, IsReachedByRun}
+use Rattle.trlab_step.{specs.Next.IsNext, proofs.{NextLaws.next_road_is_unique, RunLaws.run_comes_to_road}}
+use Rattle.trlab_step.proofs.RunLaws.{road_is_unique, road_at_is_one}
+use Rattle.trlab_campaign.specs.SeriesOutput.{IsBoundedCount, IsLaterBy, AreRoads, IsCourse, IsStepAt}
+use Rattle.trlab_campaign.specs.SeriesOutput.{cars_on, lane_count, roads_after, total_speed_on, stopped_on}
+use Rattle.trlab_campaign.specs.SeriesOutput.{tallies_from, window_of}
 
 -- a run that has come to a step took one more step to come there
 last_step : (seed : Seed) (sheet : Sheet) (step : ℕ) (before after : Cells) (sum : StepTally) (comes : ComesTo seed sheet (suc step) after sum) → comes.0 ≡ before
@@ -50,7 +45,7 @@ pub one_tally : (seed : Seed) (sheet : Sheet) (step : ℕ) (before after other :
 one_tally seed sheet step before after other tally count a b =
     let rule : a.rule ≡ b.rule = one_rule (sym a.under ∙ b.under) in
     let ruled = subst (λ (r : Programs). IsNext r (dice_at seed step) before after tally) rule a.next in
-    (next_road_is_one b.rule (dice_at seed step) before after other tally count ruled b.next).1
+    (next_road_is_unique b.rule (dice_at seed step) before after other tally count ruled b.next).1
 
 -- the tallies of these steps, added to the sum that was counted before
 pub record IsSumSince (tallies : List StepTally) (old new : StepTally) : Type 0 where
@@ -84,7 +79,7 @@ module _ (seed : Seed) (sheet : Sheet) (roads : ℕ → Cells) (tallies : ℕ �
       → IsSumSince (tallies_from tallies first count) old new
   sum_since first zero last before road old new is start end =
       let same : last ≡ first = omega (arith, is) in
-      let sum = (road_is_one seed sheet first road before new old (subst (λ (n : ℕ). ComesTo seed sheet n road new) same end) start).1 in
+      let sum = (road_is_unique seed sheet first road before new old (subst (λ (n : ℕ). ComesTo seed sheet n road new) same end) start).1 in
       rw sum (record { distance = omega arith; stopped = omega arith; changes = omega arith })
   sum_since first (suc count) last before road old new is start end =
       let same : last ≡ suc (first + count) = omega (arith, is) in

@@ -1,8 +1,6 @@
 -- The possible causes if an output was not written completely.
-use Rattle.std.proofs.Common.{◌≡◌, ◌↔◌, Bool, true, false, sym, ◌∙◌}
-use Rattle.std.proofs.lemmas.Bool.{false≢true}
-use Rattle.trlab_campaign.specs.declared.end.Failure.{Failure}
-use Rattle.trlab_campaign.specs.declared.end.Failure.TheVariants.{Memory, Device}
+use Rattle.std.proofs.{Common.{◌≡◌, ◌↔◌, Bool, true, false, sym, ◌∙◌}, lemmas.Bool.{false≢true}}
+use Rattle.trlab_campaign.specs.declared.end.Failure.{Failure, TheVariants.{Memory, Device}}
 
 memory≢device : Memory ≡ Device → ⊥
 memory≢device e = cc e

@@ -1,35 +1,23 @@
 -- One worker drives the roads of each text that is not rejected.
-use Rattle.std.proofs.Common.{◌∙◌, ℕ, Bool, List, ap, false, true≢false, sym, subst, length}
-use Rattle.std.specs.Prelude.{Result, Ok, Err, IfOk}
-use Rattle.trlab_diagram.specs.declared.point.Point.{Point}
-use Rattle.trlab_diagram.specs.Series.{series_text}
-use Rattle.trlab_road.specs.Cells.{Cells}
-use Rattle.trlab_road.specs.Legal.{IsLegal}
-use Rattle.trlab_road.specs.Spreading.{IsEvenlySpaced}
-use Rattle.trlab_road.proofs.EvenRoads.{one_even}
-use Rattle.trlab_step.specs.Run.{IsRuleFor}
-use Rattle.trlab_step.proofs.Driving.{runs_are_driven}
-use Rattle.trlab_step.proofs.RunLaws.{run_comes_to_road}
-use Rattle.trlab_texts.specs.Reading.{Fault}
-use Rattle.trlab_jobs.specs.Job.{Job, ParsesAsJob, seed_of, sheet_of}
-use Rattle.trlab_jobs.specs.Shapes.{all_steps}
-use Rattle.trlab_jobs.specs.Stored.{IsStoredJob, IsStoredSweep, CanSpreadOn}
-use Rattle.trlab_jobs.specs.Sweep.{Setup, Sweep, ParsesAsSweep}
+use Rattle.std.proofs.Common.{◌∙◌, ℕ, Bool, List, ap, false, true≢false, sym, subst, length, Result, Ok, Err}
+use Rattle.std.proofs.Common.{IfOk}
+use Rattle.trlab_diagram.specs.{declared.point.Point.Point, Tables.series_text}
+use Rattle.trlab_road.{specs.{Cells.{Cells, IsLegal}, Spreading.IsEvenlySpaced}, proofs.EvenRoads.one_even}
+use Rattle.trlab_step.{specs.Run.IsRuleFor, proofs.{Driving.runs_are_driven, RunLaws.run_comes_to_road}}
+use Rattle.trlab_texts.specs.Reading.{LocatedFault}
+use Rattle.trlab_jobs.specs.{Job.{Job, ParsesAsJob, seed_of, sheet_of}, Sweep.{all_steps, Setup, Sweep}}
+use Rattle.trlab_jobs.specs.{Sweep.ParsesAsSweep, Stored.{IsStoredJob, IsStoredSweep, CanSpreadOn}}
+use Rattle.trlab_jobs.proofs.{OneSweep.says_stored, OneText.says_plain}
 use Rattle.trlab_jobs.proofs.OneText as jobs
 use Rattle.trlab_jobs.proofs.OneSweep as sweeps
-use Rattle.trlab_jobs.proofs.OneSweep.{says_stored}
-use Rattle.trlab_jobs.proofs.OneText.{says_plain}
-use Rattle.trlab_campaign.specs.Headline.{IsDrivenJob, IsDrivenPoint, IsDrivenSeries, IsDrivenSweep, JobTextsAreDriven, SeriesTextsAreDriven, SweepTextsAreDriven}
-use Rattle.trlab_campaign.specs.Output.{IsOutputForJob}
-use Rattle.trlab_campaign.specs.Refusal.{IsOutputForResult}
-use Rattle.trlab_campaign.specs.SeriesOutput.{IsSeriesOutputForJob}
-use Rattle.trlab_campaign.specs.SweepOutput.{IsPoint, IsOutputForSweep}
+use Rattle.trlab_campaign.specs.Headline.{IsDrivenJob, IsDrivenPoint, IsDrivenSeries, IsDrivenSweep}
+use Rattle.trlab_campaign.specs.Headline.{JobTextsAreDriven, SeriesTextsAreDriven, SweepTextsAreDriven}
+use Rattle.trlab_campaign.specs.Output.{IsOutputForJob, IsOutputForResult}
+use Rattle.trlab_campaign.specs.{SeriesOutput.IsSeriesOutputForJob, SweepOutput.{IsPoint, IsOutputForSweep}}
+use Rattle.trlab_campaign.proofs.{Points.suits, Sheets.plain_sheet, SomePoints.even_some}
 use Rattle.trlab_campaign.specs.SweepOutput as sweep
-use Rattle.trlab_campaign.proofs.Points.{suits}
-use Rattle.trlab_campaign.proofs.Sheets.{plain_sheet}
-use Rattle.trlab_campaign.proofs.SomePoints.{even_some}
 
-drives_job : (shown : ℕ → Bool) (text out : List ℕ) (parsed_as : Result Job Fault) → ParsesAsJob text parsed_as → IfOk parsed_as IsStoredJob → IsOutputForResult (IsOutputForJob shown) parsed_as false out → IsDrivenJob shown text out
+drives_job : (shown : ℕ → Bool) (text out : List ℕ) (parsed_as : Result Job LocatedFault) → ParsesAsJob text parsed_as → IfOk parsed_as IsStoredJob → IsOutputForResult (IsOutputForJob shown) parsed_as false out → IsDrivenJob shown text out
 drives_job shown text out (Ok job) parsed_as stored output =
     let roads = output.1.0 in
     let is = output.1.1 in
@@ -46,9 +34,9 @@ pub job_texts_are_driven : JobTextsAreDriven
 job_texts_are_driven shown text out is =
     let found = says_plain text in
     let same = jobs.one_thing text is.0 found.0 is.1.0 found.1.0 in
-    drives_job shown text out found.0 found.1.0 found.1.1 (subst (λ (parsed_as : Result Job Fault). IsOutputForResult (IsOutputForJob shown) parsed_as false out) same is.1.1)
+    drives_job shown text out found.0 found.1.0 found.1.1 (subst (λ (parsed_as : Result Job LocatedFault). IsOutputForResult (IsOutputForJob shown) parsed_as false out) same is.1.1)
 
-drives_series : (every from : ℕ) (text out : List ℕ) (parsed_as : Result Job Fault) → ParsesAsJob text parsed_as → IfOk parsed_as IsStoredJob → IsOutputForResult (IsSeriesOutputForJob every from) parsed_as false out → IsDrivenSeries every from text out
+drives_series : (every from : ℕ) (text out : List ℕ) (parsed_as : Result Job LocatedFault) → ParsesAsJob text parsed_as → IfOk parsed_as IsStoredJob → IsOutputForResult (IsSeriesOutputForJob every from) parsed_as false out → IsDrivenSeries every from text out
 drives_series every from text out (Ok job) parsed_as stored output =
     let windows = output.1.0 in
     let series = output.1.1.0 in
@@ -69,7 +57,7 @@ pub series_texts_are_driven : SeriesTextsAreDriven
 series_texts_are_driven every from text out is =
     let found = says_plain text in
     let same = jobs.one_thing text is.0 found.0 is.1.0 found.1.0 in
-    drives_series every from text out found.0 found.1.0 found.1.1 (subst (λ (parsed_as : Result Job Fault). IsOutputForResult (IsSeriesOutputForJob every from) parsed_as false out) same is.1.1)
+    drives_series every from text out found.0 found.1.0 found.1.1 (subst (λ (parsed_as : Result Job LocatedFault). IsOutputForResult (IsSeriesOutputForJob every from) parsed_as false out) same is.1.1)
 
 -- the road on which cars are evenly spread is legal
 even_is_legal : (setup : Setup) (cars : ℕ) (road : Cells) → CanSpreadOn setup.shape cars → IsEvenlySpaced setup.shape.lanes setup.shape.length setup.shape.limit cars road → IsLegal road
@@ -95,7 +83,7 @@ drives_point setup number cars point rule fits is =
       told = is.told;
     }
 
-drives_sweep : (text out : List ℕ) (parsed_as : Result Sweep Fault) → ParsesAsSweep text parsed_as → IfOk parsed_as IsStoredSweep → IsOutputForResult IsOutputForSweep parsed_as false out → IsDrivenSweep text out
+drives_sweep : (text out : List ℕ) (parsed_as : Result Sweep LocatedFault) → ParsesAsSweep text parsed_as → IfOk parsed_as IsStoredSweep → IsOutputForResult IsOutputForSweep parsed_as false out → IsDrivenSweep text out
 drives_sweep text out (Ok parsed_sweep) parsed_as stored output =
     let points = output.1.0 in
     let are = output.1.1.0 in
@@ -113,4 +101,4 @@ pub sweep_texts_are_driven : SweepTextsAreDriven
 sweep_texts_are_driven text out is =
     let found = says_stored text in
     let same = sweeps.one_thing text is.0 found.0 is.1.0 found.1.0 in
-    drives_sweep text out found.0 found.1.0 found.1.1 (subst (λ (parsed_as : Result Sweep Fault). IsOutputForResult IsOutputForSweep parsed_as false out) same is.1.1)
+    drives_sweep text out found.0 found.1.0 found.1.1 (subst (λ (parsed_as : Result Sweep LocatedFault). IsOutputForResult IsOutputForSweep parsed_as false out) same is.1.1)

@@ -1,6 +1,6 @@
 -- The bytes of a reader, over several calls. First: the bytes that a reader reports.
-use Rattle.std.proofs.Common.{◌≡◌, ℕ, ◌<◌, List, [], ◌++◌, length, take, refl, arith, append_assoc, sym, ◌∙◌, ap, length-append, append-nil, subst, inl, inr}
-use Rattle.std.specs.Prelude.{Option, None, Some, IfSome}
+use Rattle.std.proofs.Common.{◌≡◌, ℕ, ◌<◌, List, [], ◌++◌, length, take, refl, arith, append_assoc, sym, ◌∙◌}
+use Rattle.std.proofs.Common.{ap, length-append, append-nil, subst, inl, inr, Option, None, Some, IfSome}
 use Rattle.std.specs.Io.KnownBytes.{Consumes, IsAtEnd, Keeps}
 use Rattle.trlab_bounds.specs.declared.texts.TheConstants.{TEXT_LIMIT}
 use Rattle.trlab_campaign.specs.Device.{IsInputOrTooLong}

@@ -1,14 +1,10 @@
 -- The counts of a lane among all cars of a road are the counts of the lane's line of cars.
-use Rattle.std.proofs.Common.{◌≡◌, ◌≢◌, ℕ, zero, suc, ◌+◌, ◌<◌, ◌≤◌, ◌&&◌, Bool, true, false, cond, eqb, Some, None, List, [], ◌∷◌, length, get_or, map, refl, sym, ◌∙◌, ap, subst, arith, nat_eq}
-use Rattle.std.proofs.lemmas.Bool.{cond-true, cond-false, eq-eqb, ne_eqb}
+use Rattle.std.proofs.Common.{◌≡◌, ◌≢◌, ℕ, zero, suc, ◌+◌, ◌<◌, ◌≤◌, ◌&&◌, Bool, true, false, cond, eqb, Some}
+use Rattle.std.proofs.Common.{None, List, [], ◌∷◌, length, get_or, map, refl, sym, ◌∙◌, ap, subst, arith}
+use Rattle.std.proofs.{Common.{nat_eq, eq-eqb, ne_eqb, count_by, sum_by}, lemmas.Bool.{cond-true, cond-false}}
 use Rattle.std.proofs.lemmas.List.Sums.{sum_by-append, sum_by-cons}
-use Rattle.std.specs.Prelude.{count_by, sum_by}
-use Rattle.trlab_road.specs.declared.car.Car.{Car}
-use Rattle.trlab_road.specs.LaneCars.{LaneCar}
-use Rattle.trlab_road.specs.Cells.{Lane, Cells}
-use Rattle.trlab_road.specs.InLine.{IsLineOf}
-use Rattle.trlab_road.specs.Standing.{standing, standing_from, standing_from_lane}
-use Rattle.trlab_road.specs.Stored.{car_on}
+use Rattle.trlab_road.specs.{declared.car.Car.Car, Stored.{LaneCar, IsLineOf, car_on}}
+use Rattle.trlab_road.specs.Cells.{Lane, Cells, standing, standing_from, standing_from_lane}
 use Rattle.trlab_campaign.specs.SeriesOutput.{cars_on, is_on, total_speed_on, stopped_on}
 
 -- a number of each car on a lane, 0 for the others

@@ -1,27 +1,21 @@
 -- The counts of the lanes of a window add up to the counts of the road.
-use Rattle.std.proofs.Common.{◌≡◌, ℕ, zero, suc, ◌+◌, ◌*◌, ◌<◌, ◌&&◌, cond, List, [], ◌∷◌, length, get_or, refl, sym, ◌∙◌, ap, subst, arith, nat_eq}
+use Rattle.std.proofs.Common.{◌≡◌, ℕ, zero, suc, ◌+◌, ◌*◌, ◌<◌, ◌&&◌, cond, List, [], ◌∷◌, length, get_or}
+use Rattle.std.proofs.Common.{refl, sym, ◌∙◌, ap, subst, arith, nat_eq, All, sum_by, Ok}
 use Rattle.std.proofs.lemmas.List.Sums.{sum_by-cons}
 use Rattle.std.proofs.lemmas.List.FromFn.{get_or-map-range_with_len, length-map-range_with_len}
-use Rattle.std.specs.Prelude.{All, sum_by, Ok}
 use Rattle.trlab_diagram.specs.declared.point.Window.{Window}
-use Rattle.trlab_road.specs.declared.car.Car.{Car}
-use Rattle.trlab_road.specs.Cells.{Cells, cars}
-use Rattle.trlab_road.specs.Legal.{IsLegal}
-use Rattle.trlab_road.specs.Standing.{standing}
-use Rattle.trlab_road.proofs.MotionLaws.{on_lane}
-use Rattle.trlab_road.proofs.StandingOrder.{length-standing_from_lane, standing_cell}
-use Rattle.trlab_step.specs.declared.tally.StepTally.{StepTally}
-use Rattle.trlab_step.specs.Laws.{IsLegalLike}
-use Rattle.trlab_step.specs.Next.{stopped_cars, total_speed}
-use Rattle.trlab_step.specs.Run.{Seed, Sheet}
+use Rattle.trlab_road.specs.{declared.car.Car.Car, Cells.{Cells, cars, IsLegal, standing}}
+use Rattle.trlab_road.proofs.{MotionLaws.on_lane, StandingOrder.{length-standing_from_lane, standing_cell}}
+use Rattle.trlab_step.specs.{declared.tally.StepTally.StepTally, Laws.IsLegalLike}
+use Rattle.trlab_step.specs.{Next.{stopped_cars, total_speed}, Run.{Seed, Sheet}}
 use Rattle.trlab_step.proofs.RunLaws.{run_comes_to_road, road_at_is_one}
-use Rattle.trlab_jobs.specs.Job.{Job, seed_of, sheet_of}
-use Rattle.trlab_jobs.specs.Stored.{IsStoredJob}
+use Rattle.trlab_jobs.specs.{Job.{Job, seed_of, sheet_of}, Stored.IsStoredJob}
 use Rattle.trlab_jobs.proofs.OneText.{one_thing, says_plain}
-use Rattle.trlab_campaign.specs.SeriesLaws.{LanesAddUp, LanesOfSeriesAddUp}
-use Rattle.trlab_campaign.specs.SeriesOutput.{AreRoads, IsCourse, IsSeries, cars_on, first_windows, is_on, lane_count, nth_window, roads_after, total_speed_on, stopped_on, tallies_from, window_of}
-use Rattle.trlab_campaign.proofs.LaneCounts.{both_tests, ones, same_sum}
-use Rattle.trlab_campaign.proofs.Sheets.{plain_sheet}
+use Rattle.trlab_campaign.specs.Laws.{LanesAddUp, LanesOfSeriesAddUp}
+use Rattle.trlab_campaign.specs.SeriesOutput.{AreRoads, IsCourse, IsSeries, cars_on, first_windows, is_on}
+use Rattle.trlab_campaign.specs.SeriesOutput.{lane_count, nth_window, roads_after, total_speed_on, stopped_on}
+use Rattle.trlab_campaign.specs.SeriesOutput.{tallies_from, window_of}
+use Rattle.trlab_campaign.proofs.{LaneCounts.{both_tests, ones, same_sum}, Sheets.plain_sheet}
 
 -- a number of a car, on lane 0 or on lane 1
 of_lane : (lane number : ℕ) → lane < 2 → cond (nat_eq lane 0) number 0 + cond (nat_eq lane 1) number 0 ≡ number

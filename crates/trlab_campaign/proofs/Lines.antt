@@ -1,7 +1,7 @@
 -- Lines with a number, and the text after them; texts that are composed of pieces.
-use Rattle.std.proofs.Common.{◌≡◌, ℕ, zero, suc, ◌+◌, ◌-◌, ◌<◌, List, [], ◌∷◌, ◌++◌, ◌∙◌, ap, arith, drop, flat_map, length, get_or, append_assoc, refl}
+use Rattle.std.proofs.Common.{◌≡◌, ℕ, zero, suc, ◌+◌, ◌-◌, ◌<◌, List, [], ◌∷◌, ◌++◌, ◌∙◌, ap, arith, drop}
+use Rattle.std.proofs.{Common.{flat_map, length, get_or, append_assoc, refl}, lemmas.List.drop_more}
 use Rattle.std.specs.List.{range_with_len}
-use Rattle.std.proofs.lemmas.List.{drop_more}
 
 -- a line was appended to a text, and more text follows it
 pub line_then : (front digits line old new rest : List ℕ) → line ≡ front ++ (digits ++ (10 ∷ [])) → new ≡ old ++ line

@@ -1,9 +1,8 @@
 -- Percentages of some work: at most 100, never smaller if more parts are done, and 100 if no part is left.
-use Rattle.std.proofs.Common.{◌≡◌, ℕ, ◌*◌, ◌/◌, ◌<◌, ◌≤◌, refl, sym, ap, arith, inl, inr, Bool, true, false, cond, nat_le}
-use Rattle.std.proofs.lemmas.Bool.{cases_lt, le-leb, leb-false, lt-leb}
-use Rattle.std.proofs.lemmas.Nat.{le-div}
-use Rattle.std.proofs.Math.Nat.{div-le_of_le-mul, div-mul-le_self}
-use Rattle.trlab_campaign.specs.Percent.{percent_done}
+use Rattle.std.proofs.Common.{◌≡◌, ℕ, ◌*◌, ◌/◌, ◌<◌, ◌≤◌, refl, sym, ap, arith, inl, inr, Bool, true, false}
+use Rattle.std.proofs.Common.{cond, nat_le, le-leb, leb-false, div-mul-le_self}
+use Rattle.std.proofs.{lemmas.{Bool.{cases_lt, lt-leb}, Nat.le-div}, Math.Nat.div-le_of_le-mul}
+use Rattle.trlab_campaign.specs.Ending.{percent_done}
 
 at_most_all : (done whole : ℕ) (b : Bool) → nat_le whole done ≡ b → cond b 100 (done * 100 / whole) ≤ 100
 at_most_all done whole true is = omega arith

@@ -1,20 +1,17 @@
 -- The lines of the notes that the verifier returns.
-use Rattle.std.proofs.Common.{◌≡◌, ℕ, ◌+◌, ◌<◌, List, length, flat_map, drop, get_or, refl, sym, ◌∙◌, ap, arith, ◌++◌, ◌∷◌, [], append_assoc}
-use Rattle.std.proofs.lemmas.List.{get_or-map, length-map}
-use Rattle.std.specs.Prelude.{Result, Ok, Err, OnOk, is_ok, if◌then◌else◌, Some, slice_index_or, codes, decimal}
+use Rattle.std.proofs.Common.{◌≡◌, ℕ, ◌+◌, ◌<◌, List, length, flat_map, drop, get_or, refl, sym, ◌∙◌, ap}
+use Rattle.std.proofs.Common.{arith, ◌++◌, ◌∷◌, [], append_assoc, Result, Ok, Err, OnOk, is_ok, if◌then◌else◌}
+use Rattle.std.proofs.{Common.{Some, slice_index_or, codes, decimal}, lemmas.List.{get_or-map, length-map}}
 use Rattle.std.specs.List.{range_with_len}
-use Rattle.trlab_code.specs.declared.program.Kind.{Kind}
-use Rattle.trlab_code.specs.declared.instruction.Register.{Register}
-use Rattle.trlab_code.specs.Machine.{register_number}
-use Rattle.trlab_code.specs.Program.{Program}
+use Rattle.trlab_code.specs.declared.{program.Kind.Kind, instruction.Register.Register}
+use Rattle.trlab_code.specs.{Machine.register_number, Program.Program}
 use Rattle.trlab_notes.specs.Notes.{with_side}
-use Rattle.trlab_verify.specs.declared.note.Mark.TheVariants.{Unset}
-use Rattle.trlab_verify.specs.declared.note.Note.{Note as Form}
-use Rattle.trlab_verify.specs.Tables.{form_without_marks, meaning, meaning_at, mark_value, table_of, AreVerdictNotes, empty_note}
-use Rattle.trlab_verify.specs.Verdict.{note_at}
-use Rattle.trlab_campaign.specs.NoteLines.{maybe_note_line, note_line, notes_text, abstract_value_text}
-use Rattle.trlab_asm.specs.declared.names.TheConstants.{REGISTERS}
+use Rattle.trlab_verify.specs.declared.note.{Mark.TheVariants.Unset, Note.Note as Form}
+use Rattle.trlab_verify.specs.Tables.{form_without_marks, meaning, meaning_at, mark_value, table_of}
+use Rattle.trlab_verify.specs.{Tables.{AreVerdictNotes, empty_note}, Verdict.note_at}
+use Rattle.trlab_campaign.specs.CheckOutput.{maybe_note_line, note_line, notes_text, abstract_value_text}
 use Rattle.trlab_campaign.proofs.Lines.{next_whole, pieces_agree}
+use Rattle.trlab_asm.specs.declared.names.TheConstants.{REGISTERS}
 
 -- the text that a form has for a register
 abbrev pub marked_text : Form → Register → List ℕ

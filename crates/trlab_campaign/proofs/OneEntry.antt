@@ -1,6 +1,5 @@
 -- Sheets of one entry.
-use Rattle.std.proofs.Common.{◌≡◌, ℕ, [], ◌∷◌, length, arith, ap}
-use Rattle.std.specs.Prelude.{slice_get, Some, None}
+use Rattle.std.proofs.Common.{◌≡◌, ℕ, [], ◌∷◌, length, arith, ap, slice_get, Some, None}
 use Rattle.trlab_rules.specs.Rules.{Programs}
 use Rattle.trlab_step.specs.Run.{Sheet}
 

@@ -1,26 +1,22 @@
 -- A job text has only one output, for any choice of the steps that are shown.
-use Rattle.std.proofs.Common.{◌≡◌, ℕ, ◌+◌, List, sym, ◌∙◌, ap, subst, Bool, arith}
-use Rattle.std.specs.Prelude.{Result, Ok, Err}
+use Rattle.std.proofs.Common.{◌≡◌, ℕ, ◌+◌, List, sym, ◌∙◌, ap, subst, Bool, arith, Result, Ok, Err}
 use Rattle.trlab_step.proofs.RunLaws.{road_at_is_one}
-use Rattle.trlab_texts.specs.Reading.{Fault}
-use Rattle.trlab_jobs.specs.Job.{Job, seed_of, sheet_of}
-use Rattle.trlab_jobs.proofs.OneText.{one_thing}
-use Rattle.trlab_campaign.specs.Output.{IsOutputForJob, shown_text}
-use Rattle.trlab_campaign.specs.Refusal.{IsOutputForResult}
-use Rattle.trlab_campaign.specs.ShownLaws.{ShownHasAtMostOneOutput}
-use Rattle.trlab_campaign.proofs.Lines.{pieces_agree}
+use Rattle.trlab_texts.specs.Reading.{LocatedFault}
+use Rattle.trlab_jobs.{specs.Job.{Job, seed_of, sheet_of}, proofs.OneText.one_thing}
+use Rattle.trlab_campaign.specs.Output.{IsOutputForJob, shown_text, IsOutputForResult}
+use Rattle.trlab_campaign.{specs.Laws.ShownHasAtMostOneOutput, proofs.Lines.pieces_agree}
 
-output_one : (shown : ℕ → Bool) (says : Result Job Fault) (refused also : Bool) (out other : List ℕ) → IsOutputForResult (IsOutputForJob shown) says refused out
-    → IsOutputForResult (IsOutputForJob shown) says also other → (refused ≡ also) × (out ≡ other)
-output_one shown (Ok said) refused also out other p q =
+output_one : (shown : ℕ → Bool) (says : Result Job LocatedFault) (rejected also : Bool) (out other : List ℕ) → IsOutputForResult (IsOutputForJob shown) says rejected out
+    → IsOutputForResult (IsOutputForJob shown) says also other → (rejected ≡ also) × (out ≡ other)
+output_one shown (Ok said) rejected also out other p q =
     let a = p.1.1 in
     let b = q.1.1 in
     let agree = pieces_agree (λ s. shown_text shown s (p.1.0 s)) (λ s. shown_text shown s (q.1.0 s)) 0 (said.steps + 1)
     (λ s below. ap (shown_text shown s) (road_at_is_one (seed_of said) (sheet_of said) s (p.1.0 s) (q.1.0 s) (a.road_at s (omega arith)) (b.road_at s (omega arith)))) in
     (p.0 ∙ sym q.0, a.pictures ∙ agree ∙ sym b.pictures)
-output_one shown (Err fault) refused also out other p q = (p.0 ∙ sym q.0, p.1 ∙ sym q.1)
+output_one shown (Err fault) rejected also out other p q = (p.0 ∙ sym q.0, p.1 ∙ sym q.1)
 
 pub one_output : ShownHasAtMostOneOutput
-one_output shown text refused also out other p q =
+one_output shown text rejected also out other p q =
     let same = one_thing text p.0 q.0 p.1.0 q.1.0 in
-    output_one shown q.0 refused also out other (subst (λ (says : Result Job Fault). IsOutputForResult (IsOutputForJob shown) says refused out) same p.1.1) q.1.1
+    output_one shown q.0 rejected also out other (subst (λ (says : Result Job LocatedFault). IsOutputForResult (IsOutputForJob shown) says rejected out) same p.1.1) q.1.1

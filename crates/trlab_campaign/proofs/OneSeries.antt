@@ -1,23 +1,18 @@
 -- A job text has exactly one series.
-use Rattle.std.proofs.Common.{◌≡◌, ◌↔◌, ℕ, ◌+◌, ◌-◌, ◌*◌, ◌/◌, ◌<◌, ◌≤◌, Bool, true, false, List, [], ◌∷◌, map, refl, sym, ◌∙◌, ap, subst, arith, inl, inr}
-use Rattle.std.proofs.lemmas.Bool.{cases_lt}
-use Rattle.std.specs.List.{range_with_len}
-use Rattle.std.specs.Prelude.{Result, Ok, Err, IfOk}
-use Rattle.trlab_diagram.specs.declared.point.Window.{Window}
-use Rattle.trlab_diagram.specs.Series.{series_text}
+use Rattle.std.proofs.Common.{◌≡◌, ◌↔◌, ℕ, ◌+◌, ◌-◌, ◌*◌, ◌/◌, ◌<◌, ◌≤◌, Bool, true, false, List, [], ◌∷◌}
+use Rattle.std.proofs.Common.{map, refl, sym, ◌∙◌, ap, subst, arith, inl, inr, Result, Ok, Err, IfOk}
+use Rattle.std.{proofs.lemmas.Bool.cases_lt, specs.List.range_with_len}
+use Rattle.trlab_diagram.specs.{declared.point.Window.Window, Tables.series_text}
 use Rattle.trlab_road.specs.Cells.{Cells}
-use Rattle.trlab_step.specs.declared.tally.StepTally.{StepTally}
-use Rattle.trlab_step.specs.Run.{Seed, Sheet}
+use Rattle.trlab_step.specs.{declared.tally.StepTally.StepTally, Run.{Seed, Sheet}}
 use Rattle.trlab_step.proofs.RunLaws.{road_at_is_one}
-use Rattle.trlab_texts.specs.Reading.{Fault}
-use Rattle.trlab_jobs.specs.Job.{Job, seed_of, sheet_of}
-use Rattle.trlab_jobs.specs.Stored.{IsStoredJob}
+use Rattle.trlab_texts.specs.Reading.{LocatedFault}
+use Rattle.trlab_jobs.specs.{Job.{Job, seed_of, sheet_of}, Stored.IsStoredJob}
 use Rattle.trlab_jobs.proofs.OneText.{one_thing, says_plain}
-use Rattle.trlab_campaign.specs.Refusal.{IsOutputForResult, fault_line}
-use Rattle.trlab_campaign.specs.SeriesLaws.{SeriesHasAtMostOneOutput, SeriesHasSomeOutput}
-use Rattle.trlab_campaign.specs.SeriesOutput.{IsCourse, IsSeries, IsSeriesOutputForJob, first_windows, nth_window, window_of}
-use Rattle.trlab_campaign.proofs.Courses.{course_of, one_tally, whole_windows}
-use Rattle.trlab_campaign.proofs.Sheets.{plain_sheet}
+use Rattle.trlab_campaign.specs.{Output.{IsOutputForResult, fault_line}, Laws.SeriesHasAtMostOneOutput}
+use Rattle.trlab_campaign.specs.{Laws.SeriesHasSomeOutput, SeriesOutput.{IsCourse, IsSeries}}
+use Rattle.trlab_campaign.specs.SeriesOutput.{IsSeriesOutputForJob, first_windows, nth_window, window_of}
+use Rattle.trlab_campaign.proofs.{Courses.{course_of, one_tally, whole_windows}, Sheets.plain_sheet}
 
 -- lists of the same values
 same_map : {X : Type 0} (f g : ℕ → X) (xs : List ℕ) → ((n : ℕ) → f n ≡ g n) → map f xs ≡ map g xs
@@ -64,18 +59,18 @@ one_series job every from windows others a b =
     a.told ∙ same_windows (seed_of job) (sheet_of job) a.roads b.roads a.tallies b.tallies a.course b.course every from a.count
     ∙ ap (first_windows b.roads b.tallies every from) count ∙ sym b.told
 
-output_one : (every from : ℕ) (says : Result Job Fault) (refused also : Bool) (out other : List ℕ) → IsOutputForResult (IsSeriesOutputForJob every from) says refused out
-    → IsOutputForResult (IsSeriesOutputForJob every from) says also other → (refused ≡ also) × (out ≡ other)
-output_one every from (Ok said) refused also out other p q =
+output_one : (every from : ℕ) (says : Result Job LocatedFault) (rejected also : Bool) (out other : List ℕ) → IsOutputForResult (IsSeriesOutputForJob every from) says rejected out
+    → IsOutputForResult (IsSeriesOutputForJob every from) says also other → (rejected ≡ also) × (out ≡ other)
+output_one every from (Ok said) rejected also out other p q =
     (p.0 ∙ sym q.0, p.1.1.1 ∙ ap series_text (one_series said every from p.1.0 q.1.0 p.1.1.0 q.1.1.0) ∙ sym q.1.1.1)
-output_one every from (Err fault) refused also out other p q = (p.0 ∙ sym q.0, p.1 ∙ sym q.1)
+output_one every from (Err fault) rejected also out other p q = (p.0 ∙ sym q.0, p.1 ∙ sym q.1)
 
 pub one_output : SeriesHasAtMostOneOutput
-one_output every from text refused also out other p q =
+one_output every from text rejected also out other p q =
     let same = one_thing text p.0 q.0 p.1.0 q.1.0 in
-    output_one every from q.0 refused also out other (subst (λ (says : Result Job Fault). IsOutputForResult (IsSeriesOutputForJob every from) says refused out) same p.1.1) q.1.1
+    output_one every from q.0 rejected also out other (subst (λ (says : Result Job LocatedFault). IsOutputForResult (IsSeriesOutputForJob every from) says rejected out) same p.1.1) q.1.1
 
-output_some : (every from : ℕ) → 1 ≤ every → (says : Result Job Fault) → IfOk says IsStoredJob → (refused : Bool) × (out : List ℕ) × IsOutputForResult (IsSeriesOutputForJob every from) says refused out
+output_some : (every from : ℕ) → 1 ≤ every → (says : Result Job LocatedFault) → IfOk says IsStoredJob → (rejected : Bool) × (out : List ℕ) × IsOutputForResult (IsSeriesOutputForJob every from) says rejected out
 output_some every from some (Ok job) stored =
     let course = course_of (seed_of job) (sheet_of job) stored.legal (plain_sheet job stored) in
     let count = (job.steps - from) / every in

@@ -1,7 +1,6 @@
 -- A text that is written piece by piece.
-use Rattle.std.proofs.Common.{◌≡◌, ℕ, List, [], ◌++◌, length, take, drop, refl, append_assoc, append-nil, sym, ◌∙◌, ap, subst}
-use Rattle.std.proofs.Math.Seq.{take-append_seam}
-use Rattle.std.proofs.lemmas.List.{take-append-drop}
+use Rattle.std.proofs.Common.{◌≡◌, ℕ, List, [], ◌++◌, length, take, drop, refl, append_assoc, append-nil, sym}
+use Rattle.std.proofs.{Common.{◌∙◌, ap, subst, take-append-drop}, Math.Seq.take-append_seam}
 use Rattle.trlab_campaign.specs.Writers.{HasWritten, AddsPrefix, SinkBytes}
 use Rattle.trlab_campaign.proofs.WrittenBytes.{adds_none, adds_more}
 

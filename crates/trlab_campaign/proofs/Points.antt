@@ -1,13 +1,13 @@
 -- The points of a sweep, one after another.
-use Rattle.std.proofs.Common.{◌≡◌, ℕ, zero, suc, ◌*◌, ◌<◌, ◌≤◌, List, [], ◌∷◌, ◌++◌, length, length-append, get_or, inl, inr, ◌∙◌, sym, arith}
-use Rattle.std.proofs.lemmas.Bool.{cases_lt}
+use Rattle.std.proofs.Common.{◌≡◌, ℕ, zero, suc, ◌+◌, ◌*◌, ◌<◌, ◌≤◌, List, [], ◌∷◌, ◌++◌, length}
+use Rattle.std.proofs.{Common.{length-append, get_or, inl, inr, ◌∙◌, sym, arith}, lemmas.Bool.cases_lt}
 use Rattle.std.proofs.lemmas.List.{get_or_append_left, get_or_push, get_or_default}
-use Rattle.trlab_diagram.specs.declared.point.Point.{Point}
-use Rattle.trlab_diagram.specs.Flow.{IsMeasured}
-use Rattle.trlab_step.specs.Run.{IsRuleFor, IsSheetFor}
-use Rattle.trlab_step.proofs.Sheets.{with_is_sheet, with_all}
+use Rattle.trlab_diagram.specs.{declared.point.Point.Point, Tables.IsMeasured}
+use Rattle.trlab_step.{specs.Run.{IsRuleFor, IsSheetFor}, proofs.Sheets.{with_is_sheet, with_all}}
 use Rattle.trlab_jobs.specs.Sweep.{Setup, Sweep}
-use Rattle.trlab_campaign.specs.SweepOutput.{AreFirstPoints, ArePoints, IsPoint, sweep_sheet}
+use Rattle.trlab_sequential_book.specs.declared.seed.Seed.{Seed}
+use Rattle.trlab_campaign.specs.SweepOutput.{AreFirstPoints, ArePoints, AreSeeds, IsPoint, IsStart}
+use Rattle.trlab_campaign.specs.SweepOutput.{sweep_sheet}
 
 -- the sheet of a sweep is one for the lanes of its roads
 pub suits : (lanes : ℕ) (common : Setup) → IsRuleFor lanes common.rule → IsSheetFor lanes (sweep_sheet common)
@@ -21,6 +21,25 @@ pub some_cells : (lanes cells : ℕ) → 1 ≤ lanes → 1 ≤ cells → 1 ≤ l
 some_cells (suc lanes) (suc cells) p q = omega arith
 some_cells zero cells p q = absurd (omega arith)
 some_cells (suc lanes) zero p q = absurd (omega arith)
+
+-- no seed is made yet
+pub no_seeds : (sweep : Sweep) (first : ℕ) → AreSeeds sweep first []
+no_seeds sweep first = λ number i seed here inside. absurd (omega arith)
+
+-- one more seed is made
+pub one_more_seed : (sweep : Sweep) (first next : ℕ) (seeds : List Seed) (made : Seed) → AreSeeds sweep first seeds → next ≡ first + length seeds → IsStart sweep next made.road
+    → AreSeeds sweep first (seeds ++ (made ∷ []))
+one_more_seed sweep first next seeds made are at start = each_of
+  where
+    each_of : AreSeeds sweep first (seeds ++ (made ∷ []))
+    each_of number i d here within = elim (cases_lt i (length seeds)) [
+      | inl below ↦ rw (get_or_append_left seeds (made ∷ []) d i below) (are number i d here below)
+      | inr above ↦
+          let more = length-append seeds (made ∷ []) in
+          let last : length seeds ≡ i = omega (arith, more) in
+          let same : number ≡ next = omega (arith, more) in
+          rw (get_or_push seeds made d i last, same) start
+    ]
 
 -- no point is known yet
 pub no_points : (sweep : Sweep) → AreFirstPoints sweep []

@@ -1,17 +1,14 @@
 -- A run whose snapshots are written step by step.
-use Rattle.std.proofs.Common.{◌≡◌, ℕ, zero, suc, ◌+◌, ◌<◌, ◌≤◌, Bool, List, [], ◌++◌, flat_map, refl, ◌∙◌, ap, arith, add-one, inr, false}
-use Rattle.std.specs.Prelude.{Result, Ok, Err}
-use Rattle.std.specs.List.{range_with_len}
+use Rattle.std.proofs.Common.{◌≡◌, ℕ, zero, suc, ◌+◌, ◌<◌, ◌≤◌, Bool, List, [], ◌++◌, flat_map, refl, ◌∙◌, ap}
+use Rattle.std.{proofs.Common.{arith, add-one, inr, false, Result, Ok, Err}, specs.List.range_with_len}
 use Rattle.trlab_road.specs.Cells.{Cells}
 use Rattle.trlab_step.specs.Run.{IsRoadAt, Progress, IsOneStepOn, at_start}
 use Rattle.trlab_step.proofs.RunLaws.{run_comes_to_road, road_at_is_one}
-use Rattle.trlab_jobs.specs.Job.{Job, seed_of, sheet_of}
-use Rattle.trlab_jobs.specs.Stored.{IsStoredJob}
-use Rattle.trlab_campaign.specs.Output.{IsOutputForJob, shown_text, steps_text}
-use Rattle.trlab_campaign.specs.Ending.{WroteAll, WroteByResult, WrotePrefix}
-use Rattle.trlab_campaign.specs.Writers.{HasWritten, AddsByResult, AddsPrefix, SinkBytes}
-use Rattle.trlab_campaign.proofs.Sheets.{plain_sheet}
-use Rattle.trlab_campaign.proofs.Owed.{Owes, owes_all, owes_less, owes_prefix, owes_none}
+use Rattle.trlab_jobs.specs.{Job.{Job, seed_of, sheet_of}, Stored.IsStoredJob}
+use Rattle.trlab_campaign.specs.{Output.{IsOutputForJob, shown_text, steps_text}, Ending.WroteAll}
+use Rattle.trlab_campaign.specs.{Ending.{WroteByResult, WrotePrefix}, Writers.{HasWritten, AddsByResult}}
+use Rattle.trlab_campaign.{specs.Writers.{AddsPrefix, SinkBytes}, proofs.{Sheets.plain_sheet, Owed.Owes}}
+use Rattle.trlab_campaign.proofs.Owed.{owes_all, owes_less, owes_prefix, owes_none}
 
 -- the text of a number of steps, of those that are shown
 abbrev pub text_from : (ℕ → Bool) → (ℕ → Cells) → ℕ → ℕ → List ℕ

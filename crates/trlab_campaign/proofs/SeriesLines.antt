@@ -1,21 +1,16 @@
 -- The lines of a series, written one after another.
-use Rattle.std.proofs.Common.{◌≡◌, ◌↔◌, ℕ, ◌+◌, ◌*◌, ◌<◌, ◌≤◌, List, [], ◌++◌, flat_map, map, refl, sym, ap, subst, arith, add-one, append-nil, inr, false}
+use Rattle.std.proofs.Common.{◌≡◌, ◌↔◌, ℕ, ◌+◌, ◌*◌, ◌<◌, ◌≤◌, List, [], ◌++◌, flat_map, map, refl, sym, ap}
+use Rattle.std.proofs.Common.{subst, arith, add-one, append-nil, inr, false, Result, Ok, Err}
 use Rattle.std.specs.List.{range_with_len}
-use Rattle.std.specs.Prelude.{Result, Ok, Err}
-use Rattle.trlab_diagram.specs.declared.point.Window.{Window}
-use Rattle.trlab_diagram.specs.Series.{series_text, window_text}
+use Rattle.trlab_diagram.specs.{declared.point.Window.Window, Tables.{series_text, window_text}}
 use Rattle.trlab_road.specs.Cells.{Cells}
-use Rattle.trlab_step.specs.declared.tally.StepTally.{StepTally}
-use Rattle.trlab_step.specs.Run.{Progress, at_start}
-use Rattle.trlab_jobs.specs.Job.{Job, seed_of, sheet_of}
-use Rattle.trlab_jobs.specs.Stored.{IsStoredJob}
-use Rattle.trlab_campaign.specs.Ending.{WroteByResult, WrotePrefix}
-use Rattle.trlab_campaign.specs.SeriesOutput.{IsCourse, IsSeries, IsSeriesOutputForJob, first_windows, nth_window, window_of}
+use Rattle.trlab_step.specs.{declared.tally.StepTally.StepTally, Run.{Progress, at_start}}
+use Rattle.trlab_jobs.specs.{Job.{Job, seed_of, sheet_of}, Stored.IsStoredJob}
+use Rattle.trlab_campaign.specs.{Ending.{WroteByResult, WrotePrefix}, SeriesOutput.{IsCourse, IsSeries}}
+use Rattle.trlab_campaign.specs.SeriesOutput.{IsSeriesOutputForJob, first_windows, nth_window, window_of}
 use Rattle.trlab_campaign.specs.Writers.{HasWritten, AddsByResult, AddsPrefix, SinkBytes}
-use Rattle.trlab_campaign.proofs.Courses.{course_of}
-use Rattle.trlab_campaign.proofs.WrittenBytes.{adds_more}
-use Rattle.trlab_campaign.proofs.Sheets.{plain_sheet}
-use Rattle.trlab_campaign.proofs.Owed.{Owes, owes_all, owes_prefix, owes_less}
+use Rattle.trlab_campaign.proofs.{Courses.course_of, WrittenBytes.adds_more, Sheets.plain_sheet, Owed.Owes}
+use Rattle.trlab_campaign.proofs.Owed.{owes_all, owes_prefix, owes_less}
 
 -- the lines of `count` windows from window k on
 abbrev pub lines_from : (ℕ → Cells) → (ℕ → StepTally) → ℕ → ℕ → ℕ → ℕ → List ℕ

@@ -1,11 +1,9 @@
 -- The sheet of a job.
-use Rattle.std.proofs.Common.{ℕ, zero, suc, ◌+◌, ◌∷◌, [], arith}
-use Rattle.std.specs.Prelude.{All, length}
+use Rattle.std.proofs.Common.{ℕ, zero, suc, ◌+◌, ◌∷◌, [], arith, All, length}
 use Rattle.trlab_rules.specs.Rules.{Programs}
 use Rattle.trlab_step.specs.Run.{IsRuleFor, IsSheetFor, Sheet, StepsIncreaseFrom}
 use Rattle.trlab_step.proofs.Sheets.{with_is_sheet, with_all}
-use Rattle.trlab_jobs.specs.Job.{Job, sheet_of}
-use Rattle.trlab_jobs.specs.Stored.{AreLaterRules, IsStoredJob}
+use Rattle.trlab_jobs.specs.{Job.{Job, sheet_of}, Stored.{AreLaterRules, IsStoredJob}}
 
 -- the steps of later rules rise
 pub later_rise : (lanes steps least : ℕ) (later : Sheet) → AreLaterRules lanes steps least later → StepsIncreaseFrom least later

@@ -1,15 +1,13 @@
 -- Which steps are shown.
-use Rattle.std.proofs.Common.{◌≡◌, ℕ, ◌+◌, ◌-◌, ◌*◌, ◌/◌, ◌%◌, ◌<◌, ◌≤◌, ◌&&◌, Bool, true, false, List, refl, sym, ◌∙◌, ap, subst, arith, inl, inr, nat_eq, nat_le}
-use Rattle.std.specs.Prelude.{Result, Ok, Err}
-use Rattle.std.proofs.lemmas.Bool.{cases_lt, eqb-true, false≢true, le-leb, leb-true}
-use Rattle.std.proofs.lemmas.Nat.{div-add-mod', mul-le}
-use Rattle.std.proofs.Math.Nat.{mod-lt, mul-mod_left}
-use Rattle.trlab_texts.specs.Reading.{Fault}
+use Rattle.std.proofs.Common.{◌≡◌, ℕ, ◌+◌, ◌-◌, ◌*◌, ◌/◌, ◌%◌, ◌<◌, ◌≤◌, ◌&&◌, Bool, true, false, List, refl}
+use Rattle.std.proofs.Common.{sym, ◌∙◌, ap, subst, arith, inl, inr, nat_eq, nat_le, Result, Ok, Err, eqb-true}
+use Rattle.std.proofs.{Common.{le-leb, leb-true, div-add-mod', mod-lt}, lemmas.Bool.{cases_lt, false≢true}}
+use Rattle.std.proofs.{lemmas.Nat.mul-le, Math.Nat.mul-mod_left}
+use Rattle.trlab_texts.specs.Reading.{LocatedFault}
 use Rattle.trlab_jobs.specs.Job.{Job}
-use Rattle.trlab_campaign.specs.Output.{IsOutput, IsShownOutput, IsOutputForJob, each_step, every_from, shown_text}
-use Rattle.trlab_campaign.specs.Refusal.{IsOutputForResult}
-use Rattle.trlab_campaign.specs.ShownLaws.{EveryNthStepIsShown, EveryStepFromStartIsEach}
-use Rattle.trlab_campaign.proofs.Lines.{pieces_agree}
+use Rattle.trlab_campaign.specs.Output.{IsOutput, IsShownOutput, IsOutputForJob, each_step, every_from}
+use Rattle.trlab_campaign.specs.{Output.{shown_text, IsOutputForResult}, Laws.EveryNthStepIsShown}
+use Rattle.trlab_campaign.{specs.Laws.EveryStepFromStartIsEach, proofs.Lines.pieces_agree}
 
 -- both sides of a conjunction
 both : (a b : Bool) → (a && b) ≡ true → (a ≡ true) × (b ≡ true)
@@ -77,18 +75,18 @@ every_one step =
     subst (λ (s : ℕ). every_from 1 0 s ≡ true) (sym one) (at_multiple 1 0 step)
 
 -- if the same steps are shown, the outputs are the same
-shown_alike : (shown other : ℕ → Bool) → ((step : ℕ) → shown step ≡ other step) → (says : Result Job Fault) (refused : Bool) (out : List ℕ)
-    → IsOutputForResult (IsOutputForJob shown) says refused out → IsOutputForResult (IsOutputForJob other) says refused out
-shown_alike shown other same (Ok job) refused out p =
+shown_alike : (shown other : ℕ → Bool) → ((step : ℕ) → shown step ≡ other step) → (says : Result Job LocatedFault) (rejected : Bool) (out : List ℕ)
+    → IsOutputForResult (IsOutputForJob shown) says rejected out → IsOutputForResult (IsOutputForJob other) says rejected out
+shown_alike shown other same (Ok job) rejected out p =
     let roads = p.1.0 in
     let is = p.1.1 in
     let agree = pieces_agree (λ s. shown_text shown s (roads s)) (λ s. shown_text other s (roads s)) 0 (job.steps + 1) (λ s below. rw (same s) refl) in
     (p.0, (roads, record { road_at = is.road_at; pictures = is.pictures ∙ agree }))
-shown_alike shown other same (Err fault) refused out p = p
+shown_alike shown other same (Err fault) rejected out p = p
 
-pub each_of_every_one : (text : List ℕ) (refused : Bool) (out : List ℕ) → IsShownOutput (every_from 1 0) text refused out → IsOutput text refused out
-each_of_every_one text refused out p = (p.0, (p.1.0, shown_alike (every_from 1 0) each_step every_one p.0 refused out p.1.1))
+pub each_of_every_one : (text : List ℕ) (rejected : Bool) (out : List ℕ) → IsShownOutput (every_from 1 0) text rejected out → IsOutput text rejected out
+each_of_every_one text rejected out p = (p.0, (p.1.0, shown_alike (every_from 1 0) each_step every_one p.0 rejected out p.1.1))
 
 pub every_step_from_start_is_each : EveryStepFromStartIsEach
-every_step_from_start_is_each text refused out =
-    (each_of_every_one text refused out, λ p. (p.0, (p.1.0, shown_alike each_step (every_from 1 0) (λ step. sym (every_one step)) p.0 refused out p.1.1)))
+every_step_from_start_is_each text rejected out =
+    (each_of_every_one text rejected out, λ p. (p.0, (p.1.0, shown_alike each_step (every_from 1 0) (λ step. sym (every_one step)) p.0 rejected out p.1.1)))

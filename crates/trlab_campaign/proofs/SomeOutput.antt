@@ -1,16 +1,11 @@
 -- A job text has an output, for any choice of the steps that are shown.
-use Rattle.std.proofs.Common.{ℕ, ◌+◌, List, refl, Bool, true, false}
-use Rattle.std.specs.Prelude.{Result, Ok, Err, IfOk}
-use Rattle.trlab_texts.specs.Reading.{Fault}
-use Rattle.trlab_jobs.specs.Job.{Job}
-use Rattle.trlab_jobs.specs.Stored.{IsStoredJob}
-use Rattle.trlab_jobs.proofs.OneText.{says_plain}
-use Rattle.trlab_campaign.specs.Refusal.{IsOutputForResult, fault_line}
-use Rattle.trlab_campaign.specs.Output.{IsOutputForJob, steps_text}
-use Rattle.trlab_campaign.specs.ShownLaws.{ShownHasSomeOutput}
-use Rattle.trlab_campaign.proofs.Running.{roads_of}
+use Rattle.std.proofs.Common.{ℕ, ◌+◌, List, refl, Bool, true, false, Result, Ok, Err, IfOk}
+use Rattle.trlab_texts.specs.Reading.{LocatedFault}
+use Rattle.trlab_jobs.{specs.{Job.Job, Stored.IsStoredJob}, proofs.OneText.says_plain}
+use Rattle.trlab_campaign.specs.Output.{IsOutputForResult, fault_line, IsOutputForJob, steps_text}
+use Rattle.trlab_campaign.{specs.Laws.ShownHasSomeOutput, proofs.Running.roads_of}
 
-output_some : (shown : ℕ → Bool) (says : Result Job Fault) → IfOk says IsStoredJob → (refused : Bool) × (out : List ℕ) × IsOutputForResult (IsOutputForJob shown) says refused out
+output_some : (shown : ℕ → Bool) (says : Result Job LocatedFault) → IfOk says IsStoredJob → (rejected : Bool) × (out : List ℕ) × IsOutputForResult (IsOutputForJob shown) says rejected out
 output_some shown (Ok job) plain =
     let found = roads_of job plain in
     let out = steps_text shown found.0 (job.steps + 1) in

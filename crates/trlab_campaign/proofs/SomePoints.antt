@@ -1,26 +1,17 @@
 -- A sweep text has an output.
-use Rattle.std.proofs.Common.{◌≡◌, ℕ, zero, suc, ◌+◌, ◌<◌, List, [], ◌∷◌, Bool, true, false, length, get_or, refl, subst, arith}
-use Rattle.std.specs.Prelude.{All, Result, Ok, Err, IfOk}
-use Rattle.trlab_diagram.specs.declared.point.Point.{Point}
-use Rattle.trlab_diagram.specs.Table.{points_text}
-use Rattle.trlab_road.specs.Cells.{Cells}
-use Rattle.trlab_road.specs.Legal.{IsLegal}
-use Rattle.trlab_road.specs.Laws.{EvenCarsMean}
-use Rattle.trlab_road.specs.Spreading.{CanSpread, IsEvenlySpaced}
-use Rattle.trlab_road.specs.declared.fault.RoadFault.{RoadFault}
-use Rattle.trlab_road.proofs.EvenRoads.{no_fault}
+use Rattle.std.proofs.Common.{◌≡◌, ℕ, zero, suc, ◌+◌, ◌<◌, List, [], ◌∷◌, Bool, true, false, length, get_or}
+use Rattle.std.proofs.Common.{refl, subst, arith, All, Result, Ok, Err, IfOk}
+use Rattle.trlab_diagram.specs.{declared.point.Point.Point, Tables.points_text}
+use Rattle.trlab_road.specs.{Cells.{Cells, IsLegal}, Laws.EvenCarsMean, Spreading.{CanSpread, IsEvenlySpaced}}
+use Rattle.trlab_road.{specs.declared.fault.RoadFault.RoadFault, proofs.EvenRoads.no_fault}
 use Rattle.trlab_road.proofs.EvenExists.{something}
-use Rattle.trlab_step.specs.Run.{IsRuleFor}
-use Rattle.trlab_step.proofs.RunLaws.{run_comes_to_road}
-use Rattle.trlab_texts.specs.Reading.{Fault}
-use Rattle.trlab_jobs.specs.Shapes.{all_steps}
-use Rattle.trlab_jobs.specs.Sweep.{Setup, Sweep}
-use Rattle.trlab_jobs.specs.Stored.{CanSpreadOn, IsStoredSweep}
+use Rattle.trlab_step.{specs.Run.IsRuleFor, proofs.RunLaws.run_comes_to_road}
+use Rattle.trlab_texts.specs.Reading.{LocatedFault}
+use Rattle.trlab_jobs.specs.{Sweep.{all_steps, Setup, Sweep}, Stored.{CanSpreadOn, IsStoredSweep}}
 use Rattle.trlab_jobs.proofs.OneSweep.{says_stored}
-use Rattle.trlab_campaign.specs.Refusal.{IsOutputForResult, fault_line}
-use Rattle.trlab_campaign.specs.SweepOutput.{IsPoint, ArePoints, IsOutputForSweep, point_of, point_seed, sweep_sheet, IsSweepOutput}
-use Rattle.trlab_campaign.specs.Laws.{HasSomeOutput}
-use Rattle.trlab_campaign.proofs.Points.{suits}
+use Rattle.trlab_campaign.specs.{Output.{IsOutputForResult, fault_line}, SweepOutput.{IsPoint, ArePoints}}
+use Rattle.trlab_campaign.specs.SweepOutput.{IsOutputForSweep, point_of, point_seed, sweep_sheet}
+use Rattle.trlab_campaign.{specs.{SweepOutput.IsSweepOutput, Laws.HasSomeOutput}, proofs.Points.suits}
 
 -- a road on which cars that fit are evenly spread
 pub even_some : (lanes cells limit n : ℕ) → CanSpread lanes cells limit n → (road : Cells) × (IsEvenlySpaced lanes cells limit n road × IsLegal road)
@@ -67,7 +58,7 @@ from_start sweep points from = record {
       subst (λ (n : ℕ). IsPoint sweep.setup n (get_or sweep.cars i cars) (get_or points i point)) same (from.each i cars point inside);
 }
 
-output_some : (says : Result Sweep Fault) → IfOk says IsStoredSweep → (refused : Bool) × (out : List ℕ) × IsOutputForResult IsOutputForSweep says refused out
+output_some : (says : Result Sweep LocatedFault) → IfOk says IsStoredSweep → (rejected : Bool) × (out : List ℕ) × IsOutputForResult IsOutputForSweep says rejected out
 output_some (Ok sweep) stored =
     let points = points_some sweep.setup 0 sweep.cars stored.rule stored.spreads in
     (false, points_text points.0, (refl, (points.0, (from_start sweep points.0 points.1, refl))))

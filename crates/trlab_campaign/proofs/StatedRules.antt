@@ -1,28 +1,23 @@
 -- A sweep text whose sixth line states the Nagel-Schreckenberg rule has this rule.
-use Rattle.std.proofs.Common.{◌≡◌, ℕ, suc, ◌+◌, Bool, true, false, List, [], ◌∷◌, length, get_or, sym, ◌∙◌, ap, subst, arith}
-use Rattle.std.specs.Prelude.{Result, Ok, Err, nat_lt}
-use Rattle.trlab_rules.specs.Rules.{ComputesSpeed, Programs, IsNasch}
-use Rattle.trlab_rules.specs.Published.{nasch_speed}
-use Rattle.trlab_rules.specs.Standard.{nasch_program}
-use Rattle.trlab_rules.proofs.NaschRuns.{nasch_moves}
+use Rattle.std.proofs.Common.{◌≡◌, ℕ, suc, ◌+◌, Bool, true, false, List, [], ◌∷◌, length, get_or, sym, ◌∙◌}
+use Rattle.std.proofs.Common.{ap, subst, arith, Result, Ok, Err, nat_lt}
+use Rattle.trlab_rules.specs.{Rules.{ComputesSpeed, Programs, IsNasch}, Published.nasch_speed}
+use Rattle.trlab_rules.{specs.Standard.nasch_program, proofs.NaschRuns.nasch_moves}
 use Rattle.trlab_bounds.specs.declared.texts.TheConstants.{TEXT_LIMIT}
-use Rattle.trlab_texts.specs.declared.fault.Cause.{Cause}
-use Rattle.trlab_texts.specs.Lines.{Rest, all_lines}
-use Rattle.trlab_texts.specs.Reading.{Fault, Continues, LineParsesTo, Reading, SizedTextParsesTo, at_line, before, exactly, line_with_rest, line, give, ◌>>=◌}
-use Rattle.trlab_jobs.specs.declared.rule_line.RuleLine.{RuleLine}
-use Rattle.trlab_jobs.specs.declared.rule_line.RuleLine.TheVariants.{Nasch}
-use Rattle.trlab_jobs.specs.Counts.{counts}
-use Rattle.trlab_jobs.specs.Job.{key_line, limit_line}
-use Rattle.trlab_jobs.specs.RuleLines.{rule_line}
-use Rattle.trlab_jobs.specs.RuleParts.{IsMotionRule, rule, rule_from}
-use Rattle.trlab_jobs.specs.Shapes.{cell_count, all_steps, lanes_line, length_line, shape, span}
-use Rattle.trlab_jobs.specs.Sweep.{Setup, Sweep, SweepLinesParseTo, ParsesAsSweep, sweep_heading, setup, sweep_line, with_counts}
-use Rattle.trlab_jobs.proofs.SweepLines.{after_cells, after_key, after_limit, after_rule, after_shape}
-use Rattle.trlab_asm.specs.Results.{map_ok}
-use Rattle.trlab_campaign.specs.Triangle.{stated_rule}
+use Rattle.trlab_texts.specs.{declared.fault.Cause.Cause, Reading.{Rest, all_lines, LocatedFault, Continues}}
+use Rattle.trlab_texts.specs.Reading.{LineParsesTo, Reading, SizedTextParsesTo, at_line, before, exactly}
+use Rattle.trlab_texts.specs.Reading.{line_with_rest, line, give, ◌>>=◌}
+use Rattle.trlab_jobs.specs.{declared.rule_line.RuleLine.{RuleLine, TheVariants.Nasch}, Lines.counts}
+use Rattle.trlab_jobs.specs.{Lines.rule_line, Job.{key_line, limit_line}, RuleParts.{IsMotionRule, rule}}
+use Rattle.trlab_jobs.specs.{RuleParts.rule_from, Sweep.{cell_count, all_steps, lanes_line, length_line}}
+use Rattle.trlab_jobs.specs.Sweep.{shape, span, Setup, Sweep, SweepLinesParseTo, ParsesAsSweep, sweep_heading}
+use Rattle.trlab_jobs.{specs.Sweep.{setup, sweep_line, with_counts}, proofs.SweepLines.after_cells}
+use Rattle.trlab_jobs.proofs.SweepLines.{after_key, after_limit, after_rule, after_shape}
+use Rattle.trlab_asm.specs.Operands.{map_ok}
+use Rattle.trlab_campaign.specs.SweepOutput.{stated_rule}
 
 -- the parts of a result
-ok_parts : {A B : Type 0} (x y : A) (a b : B) → ◌≡◌ {A = Result (A × B) Fault} (Ok (x, a)) (Ok (y, b)) → (x ≡ y) × (a ≡ b)
+ok_parts : {A B : Type 0} (x y : A) (a b : B) → ◌≡◌ {A = Result (A × B) LocatedFault} (Ok (x, a)) (Ok (y, b)) → (x ≡ y) × (a ≡ b)
 ok_parts {A = A} {B = B} x y a b h = let e : ◌≡◌ {A = A × B} (x, a) (y, b) = cc h in (ap (λ (p : A × B). p.0) e, ap (λ (p : A × B). p.1) e)
 
 -- if two readings in a row succeed, each of them succeeds
@@ -32,7 +27,7 @@ record Both {A B : Type 0} (first : Reading A) (next : A → Reading B) (rest : 
   one : first rest (Ok (x, after))
   two : next x after (Ok out)
 
-both : {A B : Type 0} (first : Reading A) (next : A → Reading B) (rest : Rest) (out : B × Rest) (found : Result (A × Rest) Fault) → first rest found → Continues next found (Ok out) → Both first next rest out
+both : {A B : Type 0} (first : Reading A) (next : A → Reading B) (rest : Rest) (out : B × Rest) (found : Result (A × Rest) LocatedFault) → first rest found → Continues next found (Ok out) → Both first next rest out
 both first next rest out (Ok found) one two = record { x = found.0; after = found.1; one = one; two = two }
 both first next rest out (Err fault) one two = absurd (cc two)
 
@@ -131,11 +126,11 @@ setup_is p rest after common stated told =
 lines_are : (p : ℕ) (text : List ℕ) (sweep : Sweep) → stated_rule text ≡ Ok (Nasch p) → SweepLinesParseTo text (Ok sweep) → IsNasch p sweep.setup.rule
 lines_are p text sweep stated says = of_found says.0 says.1.0 says.1.1
   where
-    of_counts : (common : Setup) (cars : Result (List ℕ) Fault) → IsNasch p common.rule → Ok sweep ≡ map_ok (λ cars. record { setup = common; cars = cars }) cars → IsNasch p sweep.setup.rule
+    of_counts : (common : Setup) (cars : Result (List ℕ) LocatedFault) → IsNasch p common.rule → Ok sweep ≡ map_ok (λ cars. record { setup = common; cars = cars }) cars → IsNasch p sweep.setup.rule
     of_counts common (Ok cars) is out = let same : sweep ≡ record { setup = common; cars = cars } = cc out in subst (λ (s : Sweep). IsNasch p s.setup.rule) (sym same) is
     of_counts common (Err fault) is out = absurd (cc out)
 
-    of_found : (found : Result (Setup × Rest) Fault) → setup (all_lines text) found → Ok sweep ≡ with_counts found → IsNasch p sweep.setup.rule
+    of_found : (found : Result (Setup × Rest) LocatedFault) → setup (all_lines text) found → Ok sweep ≡ with_counts found → IsNasch p sweep.setup.rule
     of_found (Ok found) told out =
         of_counts found.0 (counts (cell_count found.0.shape) (all_steps found.0.span) found.1.number found.1.left) (setup_is p (all_lines text) found.1 found.0 stated told) out
     of_found (Err fault) told out = absurd (cc out)

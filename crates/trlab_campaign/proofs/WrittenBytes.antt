@@ -1,8 +1,7 @@
 -- The bytes that were written, over several calls.
-use Rattle.std.proofs.Common.{◌≡◌, ℕ, ◌+◌, ◌≤◌, List, [], ◌++◌, length, take, drop, refl, arith, append_assoc, sym, ◌∙◌, ap, append-nil, take-add, subst}
-use Rattle.std.proofs.Math.Seq.{take-length}
-use Rattle.std.specs.Prelude.{Option, None, Some}
-use Rattle.std.specs.Io.KnownBytes.{Appends, Keeps}
+use Rattle.std.proofs.Common.{◌≡◌, ℕ, ◌+◌, ◌≤◌, List, [], ◌++◌, length, take, drop, refl, arith, append_assoc}
+use Rattle.std.proofs.Common.{sym, ◌∙◌, ap, append-nil, take-add, subst, Option, None, Some}
+use Rattle.std.{proofs.Math.Seq.take-length, specs.Io.KnownBytes.{Appends, Keeps}}
 use Rattle.trlab_campaign.specs.Writers.{SinkBytes, HasWritten, AddsNone, AddsPrefix}
 
 -- the bytes that a writer reports

@@ -1,7 +1,26 @@
--- The bytes that calls of readers and writers transfer, and the part of an input that is read.
-use Rattle.std.specs.Prelude.{◌≡◌, ◌⊎◌, ℕ, ◌<◌, ◌≤◌, List, [], ◌++◌, length, take, Option, Result, Ok, Err}
-use Rattle.std.specs.Io.KnownBytes.{Consumes}
+-- Readers and writers: the bytes that their calls transfer, and how often a writer is flushed.
+use Rattle.std.specs.Prelude.{◌≡◌, ◌⊎◌, Bool, true, ℕ, ◌<◌, ◌≤◌, List, [], ◌++◌, length, take, Option, Result}
+use Rattle.std.specs.{Prelude.{Ok, Err}, Io.KnownBytes.Consumes}
+use Rattle.trlab_campaign.specs.declared.device.Flushes.{Flushes, TheVariants.{Never, Once, Often}}
 use Rattle.trlab_bounds.specs.declared.texts.TheConstants.{TEXT_LIMIT}
+
+-- How often a writer was flushed, counted up to the second time.
+
+-- the number of flushes after one more, counted up to two: `Often` is twice or more often
+abbrev pub once_more : Flushes → Flushes
+once_more Never = Once
+once_more Once = Often
+once_more Often = Often
+
+-- between `old` and `new` the writer was flushed once more, and everything has been flushed
+abbrev pub FlushedOnce : Bool → Flushes → Flushes → Type 0
+FlushedOnce all_flushed old new = (all_flushed ≡ true) × (new ≡ once_more old)
+
+-- between `old` and `new` the writer was flushed at most once, as far as flushes are counted
+abbrev pub FlushedAtMostOnce : Flushes → Flushes → Type 0
+FlushedAtMostOnce old new = (new ≡ old) ⊎ (new ≡ once_more old)
+
+-- The bytes that calls of readers and writers transfer, and the part of an input that is read.
 
 -- the bytes of a buffer that a call of a reader or writer transferred: the first `count` if it returned
 -- `count`, and none if it failed

@@ -1,37 +1,42 @@
--- How an engine ends: the bytes that it has written, whether they were flushed, and the bytes of its reader.
-use Rattle.std.specs.Prelude.{◌≡◌, ◌+◌, ◌≤◌, ◌||◌, ◌⊎◌, ◌↔◌, ℕ, Bool, true, false}
-use Rattle.std.specs.Prelude.{List, length, IfSome, Result, Ok, Err, IfErr, OnOk}
+-- How an engine ends, and its progress: the bytes that it has written, and those of its reader.
+use Rattle.std.specs.Prelude.{ℕ, ◌*◌, ◌/◌, nat_le, if◌then◌else◌, ◌≡◌, ◌+◌, ◌≤◌, ◌||◌, ◌⊎◌, ◌↔◌, Bool, true}
+use Rattle.std.specs.Prelude.{false, List, length, IfSome, Result, Ok, Err, IfErr, OnOk}
 use Rattle.trlab_bounds.specs.declared.texts.TheConstants.{TEXT_LIMIT}
+use Rattle.trlab_campaign.specs.declared.{device.Flushes.Flushes, end.End.{End, TheVariants.{Done, Refused}}}
+use Rattle.trlab_campaign.specs.declared.end.{End.TheVariants.{Memory, DeviceFault}, Failure.Failure}
+use Rattle.trlab_campaign.specs.{declared.end.Failure.TheVariants.Device, Device.{ConsumesUpTo, GaveBytes}}
+use Rattle.trlab_campaign.specs.{Device.{FlushedAtMostOnce, FlushedOnce}, Output.Outputs, Writers.HasWritten}
+use Rattle.trlab_campaign.specs.Writers.{AddsNone, AddsPrefix, SinkBytes, bytes_of}
 use Rattle.trlab_campaign.specs.declared.device.Sink as Sink
 use Rattle.trlab_campaign.specs.declared.device.Source as Source
-use Rattle.trlab_campaign.specs.declared.device.Flushes.{Flushes}
-use Rattle.trlab_campaign.specs.declared.end.End.{End}
-use Rattle.trlab_campaign.specs.declared.end.End.TheVariants.{Done, Refused, Memory, DeviceFault}
-use Rattle.trlab_campaign.specs.declared.end.Failure.{Failure}
-use Rattle.trlab_campaign.specs.declared.end.Failure.TheVariants.{Device}
-use Rattle.trlab_campaign.specs.Device.{ConsumesUpTo, GaveBytes}
-use Rattle.trlab_campaign.specs.Flushes.{FlushedAtMostOnce, FlushedOnce}
-use Rattle.trlab_campaign.specs.Refusal.{Outputs}
-use Rattle.trlab_campaign.specs.Writers.{HasWritten, AddsNone, AddsPrefix, SinkBytes, bytes_of}
 
--- between `old` and `new`, a complete output was written, which is a refusal exactly if `refused` is true
+-- The progress of work, in percent.
+
+-- the percentage of the work that is done with `done` of `total` parts, rounded down: 66 for 2 of 3; 100 if
+-- no part is left, also if there are no parts
+abbrev pub percent_done : ℕ → ℕ → ℕ
+percent_done done total = if nat_le total done then 100 else done * 100 / total
+
+-- How an engine ends: the bytes that it has written, whether they were flushed, and the bytes of its reader.
+
+-- between `old` and `new`, a complete output was written, which is a rejection exactly if `rejected` is true
 abbrev pub WroteAll : Outputs → Bool → SinkBytes → SinkBytes → Type 0
-WroteAll IsOutput refused old new = (out : List ℕ) × (IsOutput refused out × HasWritten old new out)
+WroteAll IsOutput rejected old new = (out : List ℕ) × (IsOutput rejected out × HasWritten old new out)
 
 -- between `old` and `new`, nothing was written, or a prefix of a complete output
 abbrev pub WrotePrefix : Outputs → SinkBytes → SinkBytes → Type 0
 WrotePrefix IsOutput old new =
     AddsNone old new
-    ⊎ ((refused : Bool) × ((out : List ℕ) × (IsOutput refused out × AddsPrefix old new out)))
+    ⊎ ((rejected : Bool) × ((out : List ℕ) × (IsOutput rejected out × AddsPrefix old new out)))
 
--- between `old` and `new`, a successful call wrote a complete output that is not a refusal; a failed call
+-- between `old` and `new`, a successful call wrote a complete output that is not a rejection; a failed call
 -- wrote nothing, or a prefix of a complete output
 abbrev pub WroteByResult : {A E : Type 0} → Outputs → Result A E
     → SinkBytes → SinkBytes → Type 0
 WroteByResult IsOutput (Ok done) old new = WroteAll IsOutput false old new
 WroteByResult IsOutput (Err fault) old new = WrotePrefix IsOutput old new
 
--- the bytes that an engine has written, by its end: a complete output at `Done`, a complete refusal at
+-- the bytes that an engine has written, by its end: a complete output at `Done`, a complete rejection at
 -- `Refused`, and otherwise nothing or a prefix of a complete output
 abbrev pub WroteAtEnd : Outputs → End → SinkBytes → SinkBytes → Type 0
 WroteAtEnd IsOutput Done old new = WroteAll IsOutput false old new
@@ -47,14 +52,14 @@ FlushedAtEnd Refused all_flushed old new = FlushedOnce all_flushed old new
 FlushedAtEnd Memory all_flushed old new = new ≡ old
 FlushedAtEnd DeviceFault all_flushed old new = FlushedAtMostOnce old new
 
--- the bytes that an engine has written of the one output `out`, which is a refusal exactly if `refused` is
--- true, by its end: all of it at `Done` or `Refused`, which agrees with `refused`; none if an allocation
+-- the bytes that an engine has written of the one output `out`, which is a rejection exactly if `rejected` is
+-- true, by its end: all of it at `Done` or `Refused`, which agrees with `rejected`; none if an allocation
 -- failed; and a prefix if a device failed
 abbrev pub WroteOutputAtEnd : Bool → List ℕ → End → SinkBytes → SinkBytes → Type 0
-WroteOutputAtEnd refused out Done old new = (refused ≡ false) × HasWritten old new out
-WroteOutputAtEnd refused out Refused old new = (refused ≡ true) × HasWritten old new out
-WroteOutputAtEnd refused out Memory old new = AddsNone old new
-WroteOutputAtEnd refused out DeviceFault old new = AddsPrefix old new out
+WroteOutputAtEnd rejected out Done old new = (rejected ≡ false) × HasWritten old new out
+WroteOutputAtEnd rejected out Refused old new = (rejected ≡ true) × HasWritten old new out
+WroteOutputAtEnd rejected out Memory old new = AddsNone old new
+WroteOutputAtEnd rejected out DeviceFault old new = AddsPrefix old new out
 
 -- the writer after a call that does not flush it: it still works if the call succeeded, and after a failed
 -- call it has failed exactly if the failure is `Device`

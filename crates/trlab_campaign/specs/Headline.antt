@@ -1,19 +1,12 @@
 -- The output for a text that is not rejected: one worker drives its roads.
 use Rattle.std.specs.Prelude.{◌≡◌, ◌+◌, ◌<◌, ℕ, Bool, false, List, Ok, length, slice_index_or}
-use Rattle.trlab_diagram.specs.declared.point.Point.{Point}
-use Rattle.trlab_diagram.specs.Series.{series_text}
-use Rattle.trlab_diagram.specs.Table.{points_text}
-use Rattle.trlab_road.specs.Cells.{Cells}
-use Rattle.trlab_road.specs.Spreading.{IsEvenlySpaced}
-use Rattle.trlab_step.specs.declared.tally.StepTally.{StepTally}
-use Rattle.trlab_step.specs.Laws.{IsDriven}
-use Rattle.trlab_step.specs.Run.{IsTallyAt}
+use Rattle.trlab_diagram.specs.{declared.point.Point.Point, Tables.{series_text, points_text}}
+use Rattle.trlab_road.specs.{Cells.Cells, Spreading.IsEvenlySpaced}
+use Rattle.trlab_step.specs.{declared.tally.StepTally.StepTally, Laws.IsDriven, Run.IsTallyAt}
 use Rattle.trlab_jobs.specs.Job.{Job, ParsesAsJob, seed_of, sheet_of}
-use Rattle.trlab_jobs.specs.Shapes.{all_steps}
-use Rattle.trlab_jobs.specs.Sweep.{Setup, Sweep, ParsesAsSweep}
-use Rattle.trlab_campaign.specs.Output.{IsShownOutput, steps_text}
+use Rattle.trlab_jobs.specs.Sweep.{all_steps, Setup, Sweep, ParsesAsSweep}
+use Rattle.trlab_campaign.specs.{Output.{IsShownOutput, steps_text}, SweepOutput.{IsSweepOutput, point_of}}
 use Rattle.trlab_campaign.specs.SeriesOutput.{CompletesWindows, IsSeriesOutput, IsStepAt, first_windows}
-use Rattle.trlab_campaign.specs.SweepOutput.{IsSweepOutput, point_of}
 use Rattle.trlab_campaign.specs.SweepOutput as sweep
 
 -- `out` is the output for the job text `text`: one worker drives the job's road, and the pictures show the
@@ -25,7 +18,7 @@ pub record IsDrivenJob (shown : ℕ → Bool) (text out : List ℕ) : Type 0 whe
   pub driven : IsDriven (seed_of job) (sheet_of job) job.steps roads
   pub pictures : out ≡ steps_text shown roads (job.steps + 1)
 
--- whichever steps are shown, every output of `run` for a job text that is not a refusal is the output of a
+-- whichever steps are shown, every output of `run` for a job text that is not a rejection is the output of a
 -- driven job
 abbrev pub JobTextsAreDriven : Type 0
 JobTextsAreDriven =
@@ -48,7 +41,7 @@ pub record IsDrivenSeries (every from : ℕ) (text out : List ℕ) : Type 0 wher
   pub table : out ≡ series_text (first_windows roads tallies every from count)
 
 -- for windows of any length, from any step on, every output of `series` for a job text that is not a
--- refusal is the table of a driven series
+-- rejection is the table of a driven series
 abbrev pub SeriesTextsAreDriven : Type 0
 SeriesTextsAreDriven =
     (every from : ℕ) (text out : List ℕ)
@@ -79,6 +72,6 @@ pub record IsDrivenSweep (text out : List ℕ) : Type 0 where
       (slice_index_or points i point)
   pub table : out ≡ points_text points
 
--- every output of `sweep` for a sweep text that is not a refusal is the output of a driven sweep
+-- every output of `sweep` for a sweep text that is not a rejection is the output of a driven sweep
 abbrev pub SweepTextsAreDriven : Type 0
 SweepTextsAreDriven = (text out : List ℕ) → IsSweepOutput text false out → IsDrivenSweep text out

@@ -1,12 +1,38 @@
--- The output for a job text.
-use Rattle.std.specs.Prelude.{◌≡◌, ℕ, ◌+◌, ◌-◌, ◌%◌, ◌≤◌, ◌&&◌, Bool, true, false, nat_eq, nat_le, if◌then◌else◌}
-use Rattle.std.specs.Prelude.{List, [], ◌∷◌, ◌++◌, flat_map, decimal, codes}
+-- Outputs: those for a text that is rejected and for a job text.
+use Rattle.std.specs.Prelude.{◌≡◌, ℕ, Bool, true, List, [], ◌∷◌, ◌++◌, decimal, codes, Result, Ok, Err, ◌+◌}
+use Rattle.std.specs.Prelude.{◌-◌, ◌%◌, ◌≤◌, ◌&&◌, false, nat_eq, nat_le, if◌then◌else◌, flat_map}
 use Rattle.std.specs.List.{range_with_len}
-use Rattle.trlab_road.specs.Cells.{Cells}
-use Rattle.trlab_road.specs.Pictures.{picture}
+use Rattle.trlab_texts.specs.{Causes.cause_number, Reading.LocatedFault}
+use Rattle.trlab_road.specs.{Cells.Cells, Pictures.picture}
 use Rattle.trlab_step.specs.Run.{IsRoadAt}
-use Rattle.trlab_campaign.specs.Refusal.{Outputs, IsOutputForText}
 use Rattle.trlab_jobs.specs.Job.{Job, ParsesAsJob, seed_of, sheet_of}
+
+-- Outputs, and the output for a text that is rejected.
+
+-- the line for a text that is rejected for this fault: `fault line N cause K`, and the LF that ends it
+abbrev pub fault_line : LocatedFault → List ℕ
+fault_line fault =
+    codes "fault line " ++ (decimal fault.line
+    ++ (codes " cause " ++ (decimal (cause_number fault.cause) ++ (10 ∷ []))))
+
+-- a set of complete outputs, each marked as a rejection (`true`) or not
+abbrev pub Outputs : Type 1
+Outputs = Bool → List ℕ → Type 0
+
+-- the outputs for the result of reading a text: those that `Output` allows for its value, or as a rejection
+-- the line of its fault
+abbrev pub IsOutputForResult : {A : Type 0} → (A → Outputs) → Result A LocatedFault → Outputs
+IsOutputForResult Output (Ok x) rejected out = Output x rejected out
+IsOutputForResult Output (Err fault) rejected out = (rejected ≡ true) × (out ≡ fault_line fault)
+
+-- the outputs for a text, of which `IsResult` gives the result: those that `Output` allows for its value, or
+-- as a rejection the line of its first fault
+abbrev pub IsOutputForText : {A : Type 0} → (List ℕ → Result A LocatedFault → Type 0) → (A → Outputs)
+    → List ℕ → Outputs
+IsOutputForText {A} IsResult Output text rejected out =
+    (result : Result A LocatedFault) × (IsResult text result × IsOutputForResult Output result rejected out)
+
+-- The output for a job text.
 
 -- the picture of a lane, one character per cell, and the LF that ends its line
 abbrev pub picture_line : List ℕ → List ℕ
@@ -41,22 +67,22 @@ pub record IsRunText (job : Job) (shown : ℕ → Bool) (roads : ℕ → Cells) 
       → IsRoadAt (seed_of job) (sheet_of job) step (roads step)
   pub pictures : out ≡ steps_text shown roads (job.steps + 1)
 
--- a complete output for a job: the text of its run at the steps that are shown, which is not a refusal
+-- a complete output for a job: the text of its run at the steps that are shown, which is not a rejection
 abbrev pub IsOutputForJob : (ℕ → Bool) → Job → Outputs
-IsOutputForJob shown job refused out =
-    (refused ≡ false) × ((roads : ℕ → Cells) × IsRunText job shown roads out)
+IsOutputForJob shown job rejected out =
+    (rejected ≡ false) × ((roads : ℕ → Cells) × IsRunText job shown roads out)
 
--- a complete output for a job text, marked as a refusal or not: an output that `Output` allows for its job,
--- or, as a refusal, the line of its first fault
+-- a complete output for a job text, marked as a rejection or not: an output that `Output` allows for its job,
+-- or, as a rejection, the line of its first fault
 abbrev pub IsOutputForJobText : (Job → Outputs) → List ℕ → Outputs
-IsOutputForJobText Output text refused out = IsOutputForText ParsesAsJob Output text refused out
+IsOutputForJobText Output text rejected out = IsOutputForText ParsesAsJob Output text rejected out
 
--- a complete output of `run` for a job text, marked as a refusal or not: the pictures at the steps that are
--- shown, or, as a refusal, the line of the text's first fault
+-- a complete output of `run` for a job text, marked as a rejection or not: the pictures at the steps that are
+-- shown, or, as a rejection, the line of the text's first fault
 abbrev pub IsShownOutput : (ℕ → Bool) → List ℕ → Outputs
-IsShownOutput shown text refused out = IsOutputForJobText (IsOutputForJob shown) text refused out
+IsShownOutput shown text rejected out = IsOutputForJobText (IsOutputForJob shown) text rejected out
 
--- a complete output of `run` for a job text, marked as a refusal or not: the pictures at all steps, or, as a
--- refusal, the line of the text's first fault
+-- a complete output of `run` for a job text, marked as a rejection or not: the pictures at all steps, or, as
+-- a rejection, the line of the text's first fault
 abbrev pub IsOutput : List ℕ → Outputs
-IsOutput text refused out = IsShownOutput each_step text refused out
+IsOutput text rejected out = IsShownOutput each_step text rejected out

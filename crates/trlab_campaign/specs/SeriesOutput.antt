@@ -1,21 +1,17 @@
--- The output for a job text as a series: the table of the windows of its run.
-use Rattle.std.specs.Prelude.{◌≡◌, ◌↔◌, ℕ, ◌+◌, ◌*◌, ◌<◌, ◌≤◌, ◌&&◌, Bool, false, cond, Some}
-use Rattle.std.specs.Prelude.{List, map, length, sum_by, count_by, nat_eq}
-use Rattle.std.specs.List.{range_with_len}
-use Rattle.trlab_diagram.specs.declared.point.Point.{Point}
-use Rattle.trlab_diagram.specs.declared.point.LaneCount.{LaneCount}
-use Rattle.trlab_diagram.specs.declared.point.Window.{Window}
-use Rattle.trlab_diagram.specs.Series.{series_text}
-use Rattle.trlab_road.specs.declared.car.Car.{Car}
-use Rattle.trlab_road.specs.Cells.{Cells, cars, lane_of}
-use Rattle.trlab_road.specs.Standing.{standing}
+-- The output for a job text as a series: the table of its run's windows, and how they are counted.
+use Rattle.std.specs.Prelude.{◌≡◌, ◌↔◌, ℕ, ◌+◌, ◌*◌, ◌<◌, ◌≤◌, ◌&&◌, Bool, false, cond, Some, List, map}
+use Rattle.std.specs.{Prelude.{length, sum_by, count_by, nat_eq}, List.range_with_len}
+use Rattle.trlab_diagram.specs.declared.point.{Point.Point, LaneCount.LaneCount, Window.Window}
+use Rattle.trlab_diagram.specs.Tables.{series_text}
+use Rattle.trlab_road.specs.{declared.car.Car.Car, Cells.{Cells, cars, lane_of, standing}, Stored.LaneCar}
 use Rattle.trlab_rules.specs.Rules.{Programs}
-use Rattle.trlab_step.specs.declared.tally.StepTally.{StepTally}
-use Rattle.trlab_step.specs.Next.{IsNext}
-use Rattle.trlab_step.specs.Run.{Seed, Sheet, IsRoadAt, dice_at, in_force}
+use Rattle.trlab_step.specs.{declared.tally.StepTally.StepTally, Next.IsNext}
+use Rattle.trlab_step.specs.Run.{Seed, Sheet, IsRoadAt, dice_at, in_force, Progress}
 use Rattle.trlab_jobs.specs.Job.{Job, seed_of, sheet_of}
-use Rattle.trlab_campaign.specs.Output.{IsOutputForJobText}
-use Rattle.trlab_campaign.specs.Refusal.{Outputs}
+use Rattle.trlab_campaign.specs.Output.{IsOutputForJobText, Outputs}
+use Rattle.trlab_bounds.specs.declared.roads.TheConstants.{MAX_LENGTH, MAX_LIMIT}
+
+-- The output for a job text as a series: the table of the windows of its run.
 
 -- step `step` of a run, under the rule in force, takes the road `before` to `after` and has this tally
 pub record IsStepAt (seed : Seed) (sheet : Sheet) (step : ℕ) (before after : Cells)
@@ -51,7 +47,8 @@ total_speed_on lane road = sum_by (λ (car : Car). cond (is_on lane car) car.spe
 abbrev pub stopped_on : ℕ → Cells → ℕ
 stopped_on lane road = count_by (λ (car : Car). is_on lane car && nat_eq car.speed 0) (standing road)
 
--- the counts of a lane, each summed over these roads: its cars, their speeds and its stopped cars
+-- the counts of a lane, each summed over these roads: its cars, their speeds and its stopped cars. A car
+-- counts once for each road, so these are car-steps
 abbrev pub lane_count : ℕ → List Cells → LaneCount
 lane_count lane roads = record {
   cars = sum_by (cars_on lane) roads;
@@ -116,13 +113,37 @@ pub record IsSeries (job : Job) (every from : ℕ) (windows : List Window) : Typ
   pub told : windows ≡ first_windows roads tallies every from count
 
 -- a complete output for a job: the table of its series, with windows of `every` steps from the step `from`
--- on, which is not a refusal
+-- on, which is not a rejection
 abbrev pub IsSeriesOutputForJob : ℕ → ℕ → Job → Outputs
-IsSeriesOutputForJob every from job refused out =
-    (refused ≡ false)
+IsSeriesOutputForJob every from job rejected out =
+    (rejected ≡ false)
     × ((windows : List Window) × (IsSeries job every from windows × (out ≡ series_text windows)))
 
--- a complete output of `series` for a job text, marked as a refusal or not: the table of the job's windows of
--- `every` steps from the step `from` on, or, as a refusal, the line of the text's first fault
+-- a complete output of `series` for a job text, marked as a rejection or not: the table of the job's windows
+-- of `every` steps from the step `from` on, or, as a rejection, the line of the text's first fault
 abbrev pub IsSeriesOutput : ℕ → ℕ → List ℕ → Outputs
-IsSeriesOutput every from text refused out = IsOutputForJobText (IsSeriesOutputForJob every from) text refused out
+IsSeriesOutput every from text rejected out =
+    IsOutputForJobText (IsSeriesOutputForJob every from) text rejected out
+
+-- How the windows of a series are counted.
+
+-- `new` is the run `old` after `count` more steps
+pub record IsLaterBy (count : ℕ) (old new : Progress) : Type 0 where
+  pub same_seed : new.seed ≡ old.seed
+  pub same_sheet : new.sheet ≡ old.sheet
+  pub later : new.step ≡ old.step + count
+
+-- upper bounds on the counts of a lane, summed over `steps` steps: per step at most
+-- MAX_LENGTH cars and MAX_LENGTH stopped cars, and per car at most the distance MAX_LIMIT
+pub record IsBoundedCount (steps : ℕ) (count : LaneCount) : Type 0 where
+  pub cars : count.cars ≤ MAX_LENGTH * steps
+  pub distance : count.distance ≤ MAX_LIMIT * MAX_LENGTH * steps
+  pub stopped : count.stopped ≤ MAX_LENGTH * steps
+
+-- the counts of the cars of a lane: their number, the sum of their speeds, and the number of stopped cars
+abbrev pub counts_of_cars : List LaneCar → LaneCount
+counts_of_cars cars = record {
+  cars = length cars;
+  distance = sum_by (λ (car : LaneCar). car.speed) cars;
+  stopped = count_by (λ (car : LaneCar). nat_eq car.speed 0) cars;
+}

@@ -6,15 +6,15 @@ ghost use Rattle.trlab_verify.specs.Verdict.{IsAccepted};
 ghost use Rattle.trlab_jobs.specs.Check.{Check as Request};
 ghost use Rattle.trlab_campaign.specs.declared.end.End.TheVariants.{Memory};
 ghost use Rattle.trlab_campaign.specs.CheckOutput.{IsCheckOutput, IsOutputForCheck};
-ghost use Rattle.trlab_campaign.specs.CheckOutput.{accepted_text, answer_text, refused_line};
+ghost use Rattle.trlab_campaign.specs.CheckOutput.{accepted_text, answer_text, rejected_line};
 ghost use Rattle.trlab_campaign.specs.Ending.{EngineEnds};
 ghost use Rattle.trlab_campaign.specs.Writers.{AddsNone, bytes_of};
 
 use crate::device::{Sink, Source};
-use crate::end::{End, refuse, write_output};
+use crate::end::{End, reject, write_output};
 use crate::engine::{Engine, run_engine};
 use crate::note_lines::push_notes;
-use crate::output::push_refused_line;
+use crate::output::push_rejected_line;
 use std::alloc::{AllocError, AllocGlobal, Global};
 use trlab_asm::disassemble;
 use trlab_code::{Code, Kind};
@@ -26,7 +26,7 @@ use trlab_verify::{VerifyFault, verify_change, verify_motion};
 /// The verdict on a program, as it is written.
 #[derive(Drop)]
 struct CheckVerdict {
-    is_refusal: bool,
+    is_rejection: bool,
     text: Vec<u8>,
 }
 
@@ -42,11 +42,11 @@ fn accepted_text(alloc: Global, budget: u32, code: &Code) -> Result<Vec<u8>, All
 }
 
 /// The text of a rejected program.
-fn refused_text(alloc: Global, at: u32, reason: u32) -> Result<Vec<u8>, AllocError>
-    ensures { IfOk result (λ text. text.items ≡ refused_line at reason) }
+fn rejected_text(alloc: Global, at: u32, reason: u32) -> Result<Vec<u8>, AllocError>
+    ensures { IfOk result (λ text. text.items ≡ rejected_line at reason) }
 {
     let mut page = Page::new(alloc);
-    push_refused_line(&mut page, at, reason)?;
+    push_rejected_line(&mut page, at, reason)?;
     let mut text = Vec::new(alloc);
     text.extend_from_slice(page.text())?;
     Ok(text)
@@ -79,25 +79,25 @@ fn accepted_verdict(
 ) -> Result<CheckVerdict, AllocError>
     requires { IsAccepted code.now.kind code.now }
     ensures { IfOk result (λ verdict.
-        (verdict.is_refusal ≡ false) × (verdict.text.items ≡ answer_text question budget code.now)) }
+        (verdict.is_rejection ≡ false) × (verdict.text.items ≡ answer_text question budget code.now)) }
 {
     let text = answer_text(alloc, question, budget, code)?;
     Ok(CheckVerdict {
-        is_refusal: false,
+        is_rejection: false,
         text,
     })
 }
 
 /// The verdict on a program that the verifier rejects for this fault.
-fn refused_verdict(alloc: Global, fault: VerifyFault) -> Result<CheckVerdict, AllocError>
+fn rejected_verdict(alloc: Global, fault: VerifyFault) -> Result<CheckVerdict, AllocError>
     ensures { (check : Request) → IsFaultOf check.program.kind check.program fault
-        → IfOk result (λ verdict. IsOutputForCheck check verdict.is_refusal verdict.text.items) }
+        → IfOk result (λ verdict. IsOutputForCheck check verdict.is_rejection verdict.text.items) }
 {
     match fault {
         VerifyFault::Why { at, reason } => {
-            let text = refused_text(alloc, at, reason)?;
+            let text = rejected_text(alloc, at, reason)?;
             Ok(CheckVerdict {
-                is_refusal: true,
+                is_rejection: true,
                 text,
             })
         }
@@ -107,17 +107,17 @@ fn refused_verdict(alloc: Global, fault: VerifyFault) -> Result<CheckVerdict, Al
 
 /// The verdict on the program of a check, judged as a program of its own kind.
 fn verdict_of(alloc: Global, check: Check) -> Result<CheckVerdict, AllocError>
-    ensures { IfOk result (λ verdict. IsOutputForCheck check verdict.is_refusal verdict.text.items) }
+    ensures { IfOk result (λ verdict. IsOutputForCheck check verdict.is_rejection verdict.text.items) }
 {
     let Check { question, code } = check;
     match code.kind() {
         Kind::Motion => match verify_motion(alloc, code) {
             Ok(motion) => accepted_verdict(alloc, question, motion.budget(), motion.code()),
-            Err((_, fault)) => refused_verdict(alloc, fault),
+            Err((_, fault)) => rejected_verdict(alloc, fault),
         },
         Kind::Change => match verify_change(alloc, code) {
             Ok(change) => accepted_verdict(alloc, question, change.budget(), change.code()),
-            Err((_, fault)) => refused_verdict(alloc, fault),
+            Err((_, fault)) => rejected_verdict(alloc, fault),
         },
     }
 }
@@ -136,18 +136,18 @@ impl Engine for CheckEngine {
     fn write<K: Sink>(self, alloc: Global, text: &[u8], writer: &mut K) -> End {
         let check = match read_check(alloc, text) {
             Ok(check) => check,
-            Err(TextFault::At { line, cause }) => return refuse(alloc, line, cause, writer),
+            Err(TextFault::At { line, cause }) => return reject(alloc, line, cause, writer),
             Err(TextFault::Memory) => return End::Memory,
         };
         match verdict_of(alloc, check) {
-            Ok(verdict) => write_output(verdict.is_refusal, &verdict.text, writer),
+            Ok(verdict) => write_output(verdict.is_rejection, &verdict.text, writer),
             Err(_) => End::Memory,
         }
     }
 }
 
 /// Reads a check text, and writes the verdict on its program: the budget and the canonical text of an accepted program
-/// (with its notes if the text asks for them), or the instruction and the reason of the refusal. If the text has a
+/// (with its notes if the text asks for them), or the instruction and the reason why it is rejected. If the text has a
 /// fault, the line of its first fault is written instead.
 ///
 /// The whole text is read and checked before a byte is written. If an allocation fails, nothing is written; if

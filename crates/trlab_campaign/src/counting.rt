@@ -3,11 +3,11 @@
 ghost use Rattle.std.specs.Prelude.{◌≡◌, ◌+◌, ◌*◌, ◌<◌, ◌≤◌, ◌^◌, ℕ, length, slice_index_or, IfOk, OnOk};
 ghost use Rattle.trlab_bounds.specs.declared.roads.TheConstants.{MAX_LENGTH, MAX_LIMIT};
 ghost use Rattle.trlab_bounds.specs.declared.runs.TheConstants.{MAX_STEPS};
-ghost use Rattle.trlab_diagram.specs.Flow.{IsMeasured};
+ghost use Rattle.trlab_diagram.specs.Tables.{IsMeasured};
 ghost use Rattle.trlab_road.specs.Cells.{Cells, cars, lane_of};
 ghost use Rattle.trlab_road.specs.Stored.{no_car};
 ghost use Rattle.trlab_step.specs.declared.tally.StepTally.{StepTally};
-ghost use Rattle.trlab_campaign.specs.Counting.{IsBoundedCount, IsLaterBy, counts_of_cars};
+ghost use Rattle.trlab_campaign.specs.SeriesOutput.{IsBoundedCount, IsLaterBy, counts_of_cars};
 ghost use Rattle.trlab_campaign.specs.SeriesOutput.{AreRoads, IsCourse, cars_on, lane_count, roads_after};
 ghost use Rattle.trlab_campaign.specs.SeriesOutput.{total_speed_on, stopped_on, window_of};
 
@@ -29,11 +29,11 @@ fn no_cars() -> LaneCount
 
 /// The number of cars on a lane, the sum of their speeds, and the number of stopped cars.
 fn count_cars(line: &[LaneCar]) -> LaneCount
-    requires few { length line.now ≤ MAX_LENGTH }
-    requires slow { (k : ℕ) → k < length line.now
+    requires at_most_max_length { length line.now ≤ MAX_LENGTH }
+    requires at_most_max_limit { (k : ℕ) → k < length line.now
         → (slice_index_or line.now k no_car).speed ≤ MAX_LIMIT }
     ensures value { result ≡ counts_of_cars line.now }
-    ensures few { IsBoundedCount 1 result }
+    ensures bounded { IsBoundedCount 1 result }
 {
     let mut distance = 0;
     let mut stopped = 0;
@@ -54,7 +54,7 @@ fn count_lane(road: &Road, lane: u32) -> LaneCount
     ensures cars { result.cars ≡ cars_on lane road.now }
     ensures distance { result.distance ≡ total_speed_on lane road.now }
     ensures stopped { result.stopped ≡ stopped_on lane road.now }
-    ensures few { IsBoundedCount 1 result }
+    ensures bounded { IsBoundedCount 1 result }
 {
     if road.lanes() <= lane {
         return no_cars();
@@ -79,13 +79,13 @@ fn lane_sum(before: LaneCount, now: LaneCount) -> LaneCount
 }
 
 /// Advances a run by `steps` steps, which are not counted.
-pub fn skip_steps<A: Executor>(
-    executor: &A,
+pub fn skip_steps<E: Executor>(
+    executor: &E,
     alloc: Global,
     run: &mut Run,
     steps: u32,
 ) -> Result<(), AllocError>
-    requires ready { A.is_ready executor.now }
+    requires ready { E.is_ready executor.now }
     requires room { run.old.step + steps < 2 ^ 32 }
     ensures { OnOk result (IsLaterBy steps run.old run.new) }
 {
@@ -97,14 +97,14 @@ pub fn skip_steps<A: Executor>(
 
 /// Advances a run by `steps` steps, and returns the counts of lane 0 and of lane 1, summed over the roads after the
 /// steps.
-fn count_lanes<A: Executor>(
-    executor: &A,
+fn count_lanes<E: Executor>(
+    executor: &E,
     alloc: Global,
     run: &mut Run,
     steps: u32,
 ) -> Result<(LaneCount, LaneCount), AllocError>
-    requires ready { A.is_ready executor.now }
-    requires few { steps ≤ MAX_STEPS }
+    requires ready { E.is_ready executor.now }
+    requires at_most_max_steps { steps ≤ MAX_STEPS }
     requires room { run.old.step + steps < 2 ^ 32 }
     ensures on { OnOk result (IsLaterBy steps run.old run.new) }
     ensures lane0 { (roads : ℕ → Cells) → AreRoads run.old.seed run.old.sheet roads
@@ -148,15 +148,15 @@ fn point_since(run: &Run, before: StepTally, steps: u32) -> Point
 }
 
 /// Advances a run by the `every` steps of a window, and returns the window's counts.
-pub fn take_window<A: Executor>(
-    executor: &A,
+pub fn take_window<E: Executor>(
+    executor: &E,
     alloc: Global,
     run: &mut Run,
     every: u32,
 ) -> Result<Window, AllocError>
-    requires ready { A.is_ready executor.now }
-    requires some { 1 ≤ every }
-    requires few { every ≤ MAX_STEPS }
+    requires ready { E.is_ready executor.now }
+    requires at_least_one_step { 1 ≤ every }
+    requires at_most_max_steps { every ≤ MAX_STEPS }
     requires room { run.old.step + every < 2 ^ 32 }
     requires counts { run.old.seed.warm ≡ 0 }
     ensures on { OnOk result (IsLaterBy every run.old run.new) }

@@ -7,8 +7,7 @@ mod whole;
 ghost use Rattle.std.specs.Prelude.{◌≡◌, ℕ, ◌≤◌, ◌<◌, ◌||◌, ◌↔◌, ◌++◌, List, length, Option, Bool};
 ghost use Rattle.std.specs.Prelude.{true, false, IfOk, OnOk, is_err};
 ghost use Rattle.std.specs.Io.KnownBytes.{ReadConsumes, WriteAppends, Keeps};
-ghost use Rattle.trlab_campaign.specs.Device.{ReportsEnd, transferred_bytes};
-ghost use Rattle.trlab_campaign.specs.Flushes.{once_more};
+ghost use Rattle.trlab_campaign.specs.Device.{ReportsEnd, transferred_bytes, once_more};
 ghost use Rattle.trlab_campaign.specs.declared.device.Flushes.{Flushes};
 
 use thiserror::Error;
@@ -85,7 +84,7 @@ pub trait Sink {
     /// `DeviceError` if the writer fails, or takes none of the bytes.
     fn put(&mut self, bytes: &[u8]) -> Result<usize, DeviceError>
         ensures count { IfOk result (λ n. n ≤ length bytes.now) }
-        ensures some { IfOk result (λ n. 0 < length bytes.now → 0 < n) }
+        ensures at_least_one_byte { IfOk result (λ n. 0 < length bytes.now → 0 < n) }
         ensures bytes { WriteAppends (written self.old) (written self.new) result bytes.now }
         ensures accepts { accepted self.new ≡ accepted self.old ++ transferred_bytes result bytes.now }
         ensures held { is_flushed self.new ≡ false }

@@ -1,9 +1,9 @@
-//! How an engine ends, and the functions that write a whole output, or the line of a refused input, at the end.
+//! How an engine ends, and the functions that write a whole output, or the line of a rejected input, at the end.
 
 ghost use Rattle.std.specs.Prelude.{◌≡◌, ◌≢◌, true, false};
 ghost use Rattle.trlab_campaign.specs.declared.end.End.TheVariants.{Memory};
 ghost use Rattle.trlab_campaign.specs.Ending.{LeavesWriter, WroteOutputAtEnd};
-ghost use Rattle.trlab_campaign.specs.Refusal.{fault_line};
+ghost use Rattle.trlab_campaign.specs.Output.{fault_line};
 
 use crate::device::{Sink, write_last};
 use crate::output::fault_page;
@@ -15,7 +15,7 @@ use trlab_texts::Cause;
 pub enum End {
     /// The whole output was written and flushed.
     Done = 0,
-    /// The input has a fault, or its program is refused, and the line that says so was written and flushed.
+    /// The input has a fault, or its program is rejected, and the line that says so was written and flushed.
     Refused = 1,
     /// An allocation failed.
     Memory = 3,
@@ -32,22 +32,22 @@ pub enum Failure {
     Device,
 }
 
-/// Writes a whole output and flushes the writer. `refused` is whether the output is a refusal. It allocates nothing, so
-/// it never ends with `Memory`.
-pub fn write_output<K: Sink>(refused: bool, text: &[u8], writer: &mut K) -> End
+/// Writes a whole output and flushes the writer. `rejected` is whether the output is a rejection. It allocates nothing,
+/// so it never ends with `Memory`.
+pub fn write_output<K: Sink>(rejected: bool, text: &[u8], writer: &mut K) -> End
     requires { K.failed writer.old ≡ false }
-    ensures ends { LeavesWriter K.Sink (WroteOutputAtEnd refused text.now) result writer.old writer.new }
+    ensures ends { LeavesWriter K.Sink (WroteOutputAtEnd rejected text.now) result writer.old writer.new }
     ensures never { result ≢ Memory }
 {
     match write_last(writer, text) {
-        Ok(()) => { if refused { End::Refused } else { End::Done } }
+        Ok(()) => { if rejected { End::Refused } else { End::Done } }
         Err(_) => End::DeviceFault,
     }
 }
 
 /// Writes `fault line N cause K` as the whole output and flushes the writer. Returns `Refused`, unless an allocation
 /// or the writer fails.
-pub fn refuse<K: Sink>(alloc: Global, line: u32, cause: Cause, writer: &mut K) -> End
+pub fn reject<K: Sink>(alloc: Global, line: u32, cause: Cause, writer: &mut K) -> End
     requires { K.failed writer.old ≡ false }
     ensures { LeavesWriter K.Sink (WroteOutputAtEnd true (fault_line (record { line = line; cause = cause })))
         result writer.old writer.new }

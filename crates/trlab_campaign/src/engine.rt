@@ -4,7 +4,7 @@ ghost use Rattle.std.specs.Prelude.{◌≡◌, ℕ, List, Bool, true, false};
 ghost use Rattle.trlab_campaign.specs.declared.end.End.TheVariants.{Memory};
 ghost use Rattle.trlab_campaign.specs.Device.{IsInputOrTooLong};
 ghost use Rattle.trlab_campaign.specs.Ending.{WroteAtEnd, EngineEnds, LeavesWriter};
-ghost use Rattle.trlab_campaign.specs.Refusal.{Outputs};
+ghost use Rattle.trlab_campaign.specs.Output.{Outputs};
 ghost use Rattle.trlab_campaign.specs.Writers.{AddsNone, bytes_of};
 
 use crate::device::{Sink, Source, read_text};
@@ -16,14 +16,14 @@ pub trait Engine: Drop {
     // The condition under which it can write, for example that its workers can be started.
     ghost is_ready: { Self → Type 0 };
 
-    // The possible whole outputs for an input, each marked as a refusal or not.
+    // The possible whole outputs for an input, each marked as a rejection or not.
     ghost outputs: { Self → List ℕ → Outputs };
 
     // Whether it completes its output before it writes the first byte.
     ghost at_once: { Bool };
 
     /// Writes the output for an input and flushes the writer. `text` is the whole input, or its first
-    /// `TEXT_LIMIT` + 1 bytes if it is longer than that: an engine refuses every input above `TEXT_LIMIT` bytes
+    /// `TEXT_LIMIT` + 1 bytes if it is longer than that: an engine rejects every input above `TEXT_LIMIT` bytes
     /// in the same way.
     fn write<K: Sink>(self, alloc: Global, text: &[u8], writer: &mut K) -> End
         requires ready { is_ready self }

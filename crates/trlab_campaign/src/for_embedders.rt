@@ -30,8 +30,8 @@ pub fn run_job_text<R: AllocGlobal + Threads + Wait + Sync, S: Source, K: Sink>(
 ) -> End
     requires reader_works { S.failed reader.old ≡ false }
     requires writer_works { K.failed writer.old ≡ false }
-    requires some_worker { 1 ≤ workers }
-    requires few_workers { workers ≤ MAX_WORKERS }
+    requires at_least_one_worker { 1 ≤ workers }
+    requires at_most_max_workers { workers ≤ MAX_WORKERS }
     ensures { EngineEnds S.Source K.Sink IsOutput result
         reader.old reader.new writer.old writer.new }
 {
@@ -55,10 +55,10 @@ pub fn run_sweep_text<R: AllocGlobal + Threads + Wait + Sync, S: Source, K: Sink
 ) -> End
     requires reader_works { S.failed reader.old ≡ false }
     requires writer_works { K.failed writer.old ≡ false }
-    requires some_runner { 1 ≤ runners }
-    requires few_runners { runners ≤ MAX_RUNNERS }
-    requires some_worker { 1 ≤ workers }
-    requires few_workers { workers ≤ MAX_WORKERS }
+    requires at_least_one_runner { 1 ≤ runners }
+    requires at_most_max_runners { runners ≤ MAX_RUNNERS }
+    requires at_least_one_worker { 1 ≤ workers }
+    requires at_most_max_workers { workers ≤ MAX_WORKERS }
     ensures ends { EngineEnds S.Source K.Sink IsSweepOutput result
         reader.old reader.new writer.old writer.new }
     ensures kept { result ≡ Memory → AddsNone (bytes_of K.Sink writer.old) (bytes_of K.Sink writer.new) }

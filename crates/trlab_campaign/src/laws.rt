@@ -3,13 +3,13 @@
 //!
 //! Each law is the contract of a function with an empty body.
 
-ghost use Rattle.trlab_campaign.specs.Triangle.{DiagramIsTriangle, SweepsBoundMovingSpeed, SweepsDoNotExceedPeak};
-ghost use Rattle.trlab_campaign.specs.Triangle.{SweepsStayUnderTriangle};
+ghost use Rattle.trlab_campaign.specs.SweepOutput.{DiagramIsTriangle, SweepsBoundMovingSpeed, SweepsDoNotExceedPeak};
+ghost use Rattle.trlab_campaign.specs.SweepOutput.{SweepsStayUnderTriangle};
 ghost use Rattle.trlab_campaign.specs.CheckOutput.{IsCheckOutput};
 ghost use Rattle.trlab_campaign.specs.Headline.{JobTextsAreDriven, SeriesTextsAreDriven, SweepTextsAreDriven};
 ghost use Rattle.trlab_campaign.specs.Laws.{HasAtMostOneOutput, HasSomeOutput};
-ghost use Rattle.trlab_campaign.specs.SeriesLaws.{LanesOfSeriesAddUp, SeriesHasAtMostOneOutput, SeriesHasSomeOutput};
-ghost use Rattle.trlab_campaign.specs.ShownLaws.{EveryNthStepIsShown, EveryStepFromStartIsEach, ShownHasAtMostOneOutput, ShownHasSomeOutput};
+ghost use Rattle.trlab_campaign.specs.Laws.{LanesOfSeriesAddUp, SeriesHasAtMostOneOutput, SeriesHasSomeOutput};
+ghost use Rattle.trlab_campaign.specs.Laws.{EveryNthStepIsShown, EveryStepFromStartIsEach, ShownHasAtMostOneOutput, ShownHasSomeOutput};
 ghost use Rattle.trlab_campaign.specs.SweepOutput.{IsSweepOutput};
 
 /// The output for a job text that is not rejected shows the roads of a driven run, at the steps that are shown, from
@@ -31,8 +31,8 @@ pub fn sweep_texts_are_driven()
     ensures { SweepTextsAreDriven }
 {}
 
-/// For any choice of shown steps, a job text has exactly one output. The text determines whether that is a refusal.
-pub fn text_has_one_output()
+/// For any choice of shown steps, a job text has exactly one output. The text determines whether that is a rejection.
+pub fn run_has_one_output()
     ensures some_output { ShownHasSomeOutput }
     ensures one_output { ShownHasAtMostOneOutput }
 {}
@@ -44,13 +44,13 @@ pub fn steps_are_shown_apart()
     ensures each { EveryStepFromStartIsEach }
 {}
 
-/// Any check text has exactly one output. The text determines whether that is a refusal.
+/// Any check text has exactly one output. The text determines whether that is a rejection.
 pub fn check_has_one_output()
     ensures some_output { HasSomeOutput IsCheckOutput }
     ensures one_output { HasAtMostOneOutput IsCheckOutput }
 {}
 
-/// Any sweep text has exactly one output. The text determines whether that is a refusal.
+/// Any sweep text has exactly one output. The text determines whether that is a rejection.
 pub fn sweep_has_one_output()
     ensures some_output { HasSomeOutput IsSweepOutput }
     ensures one_output { HasAtMostOneOutput IsSweepOutput }
@@ -62,20 +62,20 @@ pub fn sweep_has_one_output()
 /// model without randomization, the fundamental diagram is the triangle itself, if no step is counted before cars can
 /// reach v_max.
 pub fn sweeps_stay_under_triangle()
-    ensures within { SweepsStayUnderTriangle }
+    ensures under_triangle { SweepsStayUnderTriangle }
     ensures peak { SweepsDoNotExceedPeak }
     ensures moving { SweepsBoundMovingSpeed }
     ensures triangle { DiagramIsTriangle }
 {}
 
-/// For windows of one step or more, a job text has exactly one output. The text determines whether that is a refusal.
+/// For windows of one step or more, a job text has exactly one output. The text determines whether that is a rejection.
 pub fn series_has_one_output()
     ensures some_output { SeriesHasSomeOutput }
     ensures one_output { SeriesHasAtMostOneOutput }
 {}
 
 /// In each window of a series, the counts of lane 0 and lane 1 add up to the counts of the road: its number of cars
-/// times the number of steps, its distance, and its stopped cars.
+/// times the number of steps, its distance, and the car-steps with speed 0.
 pub fn lanes_of_series_add_up()
     ensures { LanesOfSeriesAddUp }
 {}

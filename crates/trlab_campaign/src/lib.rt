@@ -29,7 +29,7 @@ pub use device::{DeviceError, Flushes, Sink, Source, Watched};
 pub use end::{End, write_output};
 pub use engine::{Engine, run_engine};
 pub use for_embedders::{run_job_text, run_sweep_text};
-pub use output::{push_fault_line, push_refused_line};
+pub use output::{push_fault_line, push_rejected_line};
 pub use progress::{Milestone, NoProgress, ProgressObserver};
 pub use run::{ShownSteps, run_shown_text};
 pub use series::{Windows, run_series_text};

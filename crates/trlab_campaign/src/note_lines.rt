@@ -6,8 +6,8 @@ ghost use Rattle.trlab_code.specs.declared.program.Kind.{Kind};
 ghost use Rattle.trlab_notes.specs.Notes.{with_side};
 ghost use Rattle.trlab_verify.specs.Tables.{mark_value, meaning, meaning_at};
 ghost use Rattle.trlab_verify.specs.Verdict.{IsAccepted};
-ghost use Rattle.trlab_campaign.specs.NoteLines.{register_entry, abstract_value_text, registers_text};
-ghost use Rattle.trlab_campaign.specs.NoteLines.{side_text, note_line, notes_text};
+ghost use Rattle.trlab_campaign.specs.CheckOutput.{register_entry, abstract_value_text, registers_text};
+ghost use Rattle.trlab_campaign.specs.CheckOutput.{side_text, note_line, notes_text};
 
 use crate::output::push_text;
 use std::alloc::{AllocError, Global};

@@ -2,9 +2,8 @@
 
 ghost use Rattle.std.specs.Prelude.{◌≡◌, ◌∷◌, ◌++◌, ℕ, List, [], IfOk, OnOk, codes, decimal};
 ghost use Rattle.std.specs.String.{string_bytes};
-ghost use Rattle.trlab_campaign.specs.CheckOutput.{refused_line};
-ghost use Rattle.trlab_campaign.specs.Output.{step_text};
-ghost use Rattle.trlab_campaign.specs.Refusal.{fault_line};
+ghost use Rattle.trlab_campaign.specs.CheckOutput.{rejected_line};
+ghost use Rattle.trlab_campaign.specs.Output.{step_text, fault_line};
 
 use itoa::Buffer;
 use std::alloc::{AllocError, Global};
@@ -88,8 +87,8 @@ pub fn fault_page(alloc: Global, line: u32, cause: Cause) -> Result<Page, AllocE
 /// # Errors
 ///
 /// If an allocation fails.
-pub fn push_refused_line(page: &mut Page, at: u32, reason: u32) -> Result<(), AllocError>
-    ensures { OnOk result (page.new ≡ page.old ++ refused_line at reason) }
+pub fn push_rejected_line(page: &mut Page, at: u32, reason: u32) -> Result<(), AllocError>
+    ensures { OnOk result (page.new ≡ page.old ++ rejected_line at reason) }
 {
     page.say("refused at ")?;
     page.number(u64::from(at))?;

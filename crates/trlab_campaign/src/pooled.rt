@@ -7,42 +7,39 @@ ghost use Rattle.trlab_bounds.specs.declared.runs.TheConstants.{MAX_WORKERS};
 ghost use Rattle.trlab_jobs.specs.Job.{Job as Told, seed_of, sheet_of};
 ghost use Rattle.trlab_step.specs.Run.{at_start};
 ghost use Rattle.trlab_campaign.specs.Ending.{WroteAtEnd, EngineEnds, LeavesWriter, LeavesUnflushed, WroteByResult};
-ghost use Rattle.trlab_campaign.specs.Output.{IsOutputForJobText};
-ghost use Rattle.trlab_campaign.specs.Refusal.{Outputs};
+ghost use Rattle.trlab_campaign.specs.Output.{IsOutputForJobText, Outputs};
 ghost use Rattle.trlab_campaign.specs.Writers.{bytes_of};
 
 use crate::device::{Sink, Source};
-use crate::end::{End, Failure, refuse};
+use crate::end::{End, Failure, reject};
 use crate::engine::{Engine, run_engine};
 use crate::progress::{ProgressObserver, WithProgress};
 use std::alloc::{AllocGlobal, Global};
 use std::sync::Wait;
 use std::thread::Threads;
 use trlab_bounds::runs::MAX_WORKERS;
-use trlab_code::{CERTAIN, Instr};
 use trlab_jobs::{Job, read_job};
-use trlab_rules::Rule;
 use trlab_segments::{Gate, OpenGate, Pool};
-use trlab_step::{Executor, Run, Schedule};
+use trlab_step::{Executor, Run, RunSheet};
 use trlab_texts::TextFault;
 
 /// The kind of output that is written for a job: pictures or a series.
 pub trait Account {
-    // The possible whole outputs for a job, each marked as a refusal or not.
+    // The possible whole outputs for a job, each marked as a rejection or not.
     ghost outputs: { Self → Told → Outputs };
 
     /// The number of steps by which it advances a job's run, for reports of progress.
     fn steps(&self, job: &Job) -> u32;
 
     /// Runs a job and writes the output, without flushing the writer.
-    fn write_job<A: Executor, K: Sink>(
+    fn write_job<E: Executor, K: Sink>(
         &self,
-        executor: &A,
+        executor: &E,
         alloc: Global,
         job: Job,
         writer: &mut K,
     ) -> Result<(), Failure>
-        requires ready { A.is_ready executor.now }
+        requires ready { E.is_ready executor.now }
         requires works { K.failed writer.old ≡ false }
         ensures wrote { WroteByResult (outputs self.now job) result
             (bytes_of K.Sink writer.old) (bytes_of K.Sink writer.new) }
@@ -50,14 +47,14 @@ pub trait Account {
 }
 
 /// Writes the account of a job and flushes the writer.
-fn write_account<C: Account, A: Executor, K: Sink>(
+fn write_account<C: Account, E: Executor, K: Sink>(
     account: &C,
-    executor: &A,
+    executor: &E,
     alloc: Global,
     job: Job,
     writer: &mut K,
 ) -> End
-    requires ready { A.is_ready executor.now }
+    requires ready { E.is_ready executor.now }
     requires works { K.failed writer.old ≡ false }
     ensures { LeavesWriter K.Sink (WroteAtEnd (C.outputs account.now job)) result writer.old writer.new }
 {
@@ -72,15 +69,15 @@ fn write_account<C: Account, A: Executor, K: Sink>(
 }
 
 /// Writes the account of a job and flushes the writer, while the helpers of a pool wait for the phases of the run.
-fn write_by_pool<'x, R: Threads + Wait + Sync, G: Gate + Sync, C: Account, A: Executor, K: Sink>(
+fn write_by_pool<'x, R: Threads + Wait + Sync, G: Gate + Sync, C: Account, E: Executor, K: Sink>(
     alloc: Global,
     pool: &'x Pool<'x, R, G>,
     account: &'x C,
-    executor: &'x A,
+    executor: &'x E,
     job: Job,
     writer: &mut K,
 ) -> End
-    requires ready { A.is_ready executor.now }
+    requires ready { E.is_ready executor.now }
     requires works { K.failed writer.old ≡ false }
     ensures { LeavesWriter K.Sink (WroteAtEnd (C.outputs account.now job)) result writer.old writer.new }
 {
@@ -89,7 +86,7 @@ fn write_by_pool<'x, R: Threads + Wait + Sync, G: Gate + Sync, C: Account, A: Ex
         alloc,
         &mut || -> End
             requires taken { IsSome job }
-            requires ready { A.is_ready executor.now }
+            requires ready { E.is_ready executor.now }
             requires works { K.failed writer.now ≡ false }
             ensures { IfSome job.entry (λ told. LeavesWriter K.Sink
                 (WroteAtEnd (C.outputs account.entry.now told)) result writer.entry.now writer.exit.now) }
@@ -102,26 +99,9 @@ fn write_by_pool<'x, R: Threads + Wait + Sync, G: Gate + Sync, C: Account, A: Ex
     )
 }
 
-/// Whether an instruction draws a random number. A draw of probability 0 or 1 needs none.
-fn some_instr_draws(instrs: &[Instr]) -> bool {
-    instrs.iter().any(|instr| match *instr {
-        Instr::Draw(_, _, parts) => 0 < parts && parts < CERTAIN,
-        _ => false,
-    })
-}
-
-/// Whether a program of a rule draws random numbers.
-fn rule_draws(rule: &Rule) -> bool {
-    some_instr_draws(rule.motion().code().instrs())
-        || match rule.change() {
-            Some(change) => some_instr_draws(change.code().instrs()),
-            None => false,
-        }
-}
-
-/// Whether a rule of a job draws random numbers. The time of a step depends most on this.
-fn some_rule_draws(job: &Job) -> bool {
-    rule_draws(&job.first) || job.later.iter().any(|(_, rule)| rule_draws(rule))
+/// Whether a rule of a job draws random numbers.
+fn has_drawing_rule(job: &Job) -> bool {
+    job.first.draws() || job.later.iter().any(|(_, rule)| rule.draws())
 }
 
 /// The engine of job texts, with at most `workers` workers.
@@ -141,7 +121,7 @@ impl<'a, R: Threads + Wait + Sync, C: Account, O: ProgressObserver> JobEngine<'a
         ensures { LeavesWriter K.Sink (WroteAtEnd (C.outputs self.now.account.now job)) result writer.old writer.new }
     {
         let gate = OpenGate;
-        let draws = some_rule_draws(&job);
+        let draws = has_drawing_rule(&job);
         let pool = Pool::new(self.rt, self.workers, &gate).with_workers_for(job.road.cars(), draws);
         let with_progress = WithProgress::new(&pool, self.progress, self.account.steps(&job));
         let end = write_by_pool(alloc, &pool, self.account, &with_progress, job, writer);
@@ -161,7 +141,7 @@ impl<'a, R: Threads + Wait + Sync, C: Account, O: ProgressObserver> Engine
     fn write<K: Sink>(self, alloc: Global, text: &[u8], writer: &mut K) -> End {
         let job = match read_job(alloc, text) {
             Ok(job) => job,
-            Err(TextFault::At { line, cause }) => return refuse(alloc, line, cause, writer),
+            Err(TextFault::At { line, cause }) => return reject(alloc, line, cause, writer),
             Err(TextFault::Memory) => return End::Memory,
         };
         self.drive(alloc, job, writer)
@@ -179,7 +159,7 @@ pub fn run_of_job(alloc: Global, job: Job) -> Run
         later,
         steps: _,
     } = job;
-    Run::new(alloc, key, 0, 0, road, Schedule::new(first, later))
+    Run::new(alloc, key, 0, 0, road, RunSheet::new(first, later))
 }
 
 /// Reads a job text, and writes the account of its run, or the line of the text's first fault. A pool of at most
@@ -193,8 +173,8 @@ pub fn run_pooled<
 >(rt: &R, account: &C, reader: &mut S, writer: &mut K, workers: u32, progress: &O) -> End
     requires reader_works { S.failed reader.old ≡ false }
     requires writer_works { K.failed writer.old ≡ false }
-    requires some_worker { 1 ≤ workers }
-    requires few_workers { workers ≤ MAX_WORKERS }
+    requires at_least_one_worker { 1 ≤ workers }
+    requires at_most_max_workers { workers ≤ MAX_WORKERS }
     ensures { EngineEnds S.Source K.Sink (IsOutputForJobText (C.outputs account.now)) result
         reader.old reader.new writer.old writer.new }
 {

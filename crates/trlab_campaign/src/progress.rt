@@ -1,7 +1,7 @@
 //! Reports of progress: the share of a command's work that is done. They never change an output.
 
 ghost use Rattle.std.specs.Prelude.{◌≡◌, ◌↔◌, ◌-◌, ◌<◌, ◌≤◌, None, IfSome};
-ghost use Rattle.trlab_campaign.specs.Percent.{percent_done};
+ghost use Rattle.trlab_campaign.specs.Ending.{percent_done};
 
 use crate::end::End;
 use std::alloc::{AllocError, Global};
@@ -89,17 +89,17 @@ pub fn milestone_between(
 /// An executor that reports progress. Before the motion of each step it reports the steps taken so far, and when the
 /// run has ended with `Done` it reports all steps.
 #[derive(Drop)]
-pub struct WithProgress<'a, A, O> {
-    executor: &'a A,
+pub struct WithProgress<'a, E, O> {
+    executor: &'a E,
     progress: &'a O,
     is_watching: bool,
     /// The number of steps of the run.
     steps: u32,
 }
 
-impl<'a, A, O: ProgressObserver> WithProgress<'a, A, O> {
+impl<'a, E, O: ProgressObserver> WithProgress<'a, E, O> {
     /// An executor of a run of `steps` steps.
-    pub fn new(executor: &'a A, progress: &'a O, steps: u32) -> WithProgress<'a, A, O>
+    pub fn new(executor: &'a E, progress: &'a O, steps: u32) -> WithProgress<'a, E, O>
         ensures { result.executor.now ≡ executor.now }
     {
         WithProgress {
@@ -145,8 +145,8 @@ impl<'a, A, O: ProgressObserver> WithProgress<'a, A, O> {
     }
 }
 
-impl<'a, A: Executor, O: ProgressObserver> Executor for WithProgress<'a, A, O> {
-    ghost is_ready = { λ with_progress. A.is_ready with_progress.executor.now };
+impl<'a, E: Executor, O: ProgressObserver> Executor for WithProgress<'a, E, O> {
+    ghost is_ready = { λ with_progress. E.is_ready with_progress.executor.now };
 
     fn speeds<L: StepObserver>(
         &self,

@@ -27,13 +27,13 @@ use trlab_step::{Executor, Run, StepObserver};
 pub struct ShownSteps {
     pub every: u32,
     pub from: u32,
-    ghost some_steps: { 1 ≤ every },
+    ghost at_least_one_step: { 1 ≤ every },
 }
 
 impl ShownSteps {
     /// The steps `from`, `from` + `every` and so on; `every` is at least 1.
     pub fn new(every: u32, from: u32) -> ShownSteps
-        requires some_steps { 1 ≤ every }
+        requires at_least_one_step { 1 ≤ every }
         ensures every { result.every ≡ every }
         ensures from { result.from ≡ from }
     {
@@ -49,7 +49,7 @@ impl ShownSteps {
 
     /// The last step that is shown in a run of `steps` steps, or 0 if none is.
     pub fn last(&self, steps: u32) -> u32
-        ensures within { result ≤ steps }
+        ensures in_range { result ≤ steps }
         ensures shown { 0 < result → every_from self.now.every self.now.from result ≡ true }
         ensures none_later { (step : ℕ) → result < step → step ≤ steps
             → every_from self.now.every self.now.from step ≡ false }
@@ -116,15 +116,15 @@ fn write_step_text<K: Sink>(text: &StepText, writer: &mut K) -> Result<(), Failu
 }
 
 /// Advances a run by one step, and writes the text of the road before it if that step is shown.
-fn show_step<A: Executor, K: Sink>(
-    executor: &A,
+fn show_step<E: Executor, K: Sink>(
+    executor: &E,
     alloc: Global,
     shown: &ShownSteps,
     text: &mut StepText,
     run: &mut Run,
     writer: &mut K,
 ) -> Result<(), Failure>
-    requires ready { A.is_ready executor.now }
+    requires ready { E.is_ready executor.now }
     requires works { K.failed writer.old ≡ false }
     requires steps { run.old.step + 1 < 2 ^ 32 }
     ensures road { IsRoadAt run.old.seed run.old.sheet run.old.step run.old.road }
@@ -163,15 +163,15 @@ fn show_last<K: Sink>(
 }
 
 /// Writes the pictures of a run from its start to the last step that is shown.
-fn write_run<A: Executor, K: Sink>(
-    executor: &A,
+fn write_run<E: Executor, K: Sink>(
+    executor: &E,
     alloc: Global,
     shown: &ShownSteps,
     run: &mut Run,
     steps: u32,
     writer: &mut K,
 ) -> Result<(), Failure>
-    requires ready { A.is_ready executor.now }
+    requires ready { E.is_ready executor.now }
     requires works { K.failed writer.old ≡ false }
     requires start { run.old.step ≡ 0 }
     ensures wrote { (job : Told) → IsStoredJob job
@@ -201,9 +201,9 @@ impl<'a> Account for StepPictures<'a> {
         self.shown.last(job.steps)
     }
 
-    fn write_job<A: Executor, K: Sink>(
+    fn write_job<E: Executor, K: Sink>(
         &self,
-        executor: &A,
+        executor: &E,
         alloc: Global,
         job: Job,
         writer: &mut K,
@@ -231,8 +231,8 @@ pub fn run_shown_text<
 >(rt: &R, reader: &mut S, writer: &mut K, workers: u32, shown: &ShownSteps, progress: &O) -> End
     requires reader_works { S.failed reader.old ≡ false }
     requires writer_works { K.failed writer.old ≡ false }
-    requires some_worker { 1 ≤ workers }
-    requires few_workers { workers ≤ MAX_WORKERS }
+    requires at_least_one_worker { 1 ≤ workers }
+    requires at_most_max_workers { workers ≤ MAX_WORKERS }
     ensures { EngineEnds S.Source K.Sink (IsShownOutput (every_from shown.now.every shown.now.from)) result
         reader.old reader.new writer.old writer.new }
 {

@@ -4,13 +4,12 @@
 ghost use Rattle.std.specs.Prelude.{◌≡◌, ℕ, ◌+◌, ◌*◌, ◌<◌, ◌≤◌, ◌^◌, List, flat_map, false, nat_eq, IfOk, IsOk, OnOk};
 ghost use Rattle.std.specs.Prelude.{if◌then◌else◌};
 ghost use Rattle.trlab_bounds.specs.declared.runs.TheConstants.{MAX_STEPS};
-ghost use Rattle.trlab_diagram.specs.Series.{window_text};
+ghost use Rattle.trlab_diagram.specs.Tables.{window_text};
 ghost use Rattle.trlab_road.specs.Cells.{Cells};
 ghost use Rattle.trlab_step.specs.declared.tally.StepTally.{StepTally};
-ghost use Rattle.trlab_campaign.specs.Counting.{IsLaterBy};
+ghost use Rattle.trlab_campaign.specs.SeriesOutput.{IsLaterBy, first_windows, window_of};
 ghost use Rattle.trlab_campaign.specs.Ending.{EngineEnds, LeavesUnflushed, WroteByResult};
 ghost use Rattle.trlab_campaign.specs.SeriesOutput.{CompletesWindows, IsCourse, IsSeriesOutput, IsSeriesOutputForJob};
-ghost use Rattle.trlab_campaign.specs.SeriesOutput.{first_windows, window_of};
 ghost use Rattle.trlab_campaign.specs.Writers.{AddsByResult, bytes_of};
 
 use crate::counting::{skip_steps, take_window};
@@ -31,17 +30,17 @@ use trlab_step::{Executor, Run};
 pub struct Windows {
     pub every: u32,
     pub from: u32,
-    ghost some_steps: { 1 ≤ every },
-    ghost few_steps: { every ≤ MAX_STEPS },
-    ghost within: { from ≤ MAX_STEPS },
+    ghost at_least_one_step: { 1 ≤ every },
+    ghost at_most_max_steps: { every ≤ MAX_STEPS },
+    ghost in_range: { from ≤ MAX_STEPS },
 }
 
 impl Windows {
     /// Windows of `every` steps (1 to `MAX_STEPS`) each, from the step `from` (0 to `MAX_STEPS`) on.
     pub fn new(every: u32, from: u32) -> Windows
-        requires some_steps { 1 ≤ every }
-        requires few_steps { every ≤ MAX_STEPS }
-        requires within { from ≤ MAX_STEPS }
+        requires at_least_one_step { 1 ≤ every }
+        requires at_most_max_steps { every ≤ MAX_STEPS }
+        requires in_range { from ≤ MAX_STEPS }
         ensures every { result.every ≡ every }
         ensures from { result.from ≡ from }
     {
@@ -58,7 +57,7 @@ impl Windows {
     /// The number of steps up to the end of the last window that a run of `steps` steps completes, or 0 if it
     /// completes none.
     pub fn steps(&self, steps: u32) -> u32
-        ensures within { result ≤ steps }
+        ensures in_range { result ≤ steps }
         ensures all { (count : ℕ) × CompletesWindows self.now.every self.now.from steps count
             × (result ≡ if nat_eq count 0 then 0 else self.now.from + count * self.now.every) }
     {
@@ -70,16 +69,16 @@ impl Windows {
 }
 
 /// Takes the steps of a window, and returns its line.
-fn next_line<A: Executor>(
-    executor: &A,
+fn next_line<E: Executor>(
+    executor: &E,
     alloc: Global,
     run: &mut Run,
     every: u32,
     lines: &mut SeriesLines,
 ) -> Result<Vec<u8>, DiagramFault>
-    requires ready { A.is_ready executor.now }
-    requires some { 1 ≤ every }
-    requires few { every ≤ MAX_STEPS }
+    requires ready { E.is_ready executor.now }
+    requires at_least_one_step { 1 ≤ every }
+    requires at_most_max_steps { every ≤ MAX_STEPS }
     requires room { run.old.step + every < 2 ^ 32 }
     requires counts { run.old.seed.warm ≡ 0 }
     ensures on { OnOk result (IsLaterBy every run.old run.new) }
@@ -109,18 +108,18 @@ fn write_line<K: Sink>(line: Result<Vec<u8>, DiagramFault>, writer: &mut K) -> R
 }
 
 /// Takes the steps of a window, and writes its line.
-fn write_window<A: Executor, K: Sink>(
-    executor: &A,
+fn write_window<E: Executor, K: Sink>(
+    executor: &E,
     alloc: Global,
     run: &mut Run,
     every: u32,
     lines: &mut SeriesLines,
     writer: &mut K,
 ) -> Result<(), Failure>
-    requires ready { A.is_ready executor.now }
+    requires ready { E.is_ready executor.now }
     requires works { K.failed writer.old ≡ false }
-    requires some { 1 ≤ every }
-    requires few { every ≤ MAX_STEPS }
+    requires at_least_one_step { 1 ≤ every }
+    requires at_most_max_steps { every ≤ MAX_STEPS }
     requires room { run.old.step + every < 2 ^ 32 }
     requires counts { run.old.seed.warm ≡ 0 }
     ensures wrote { (roads : ℕ → Cells) (tallies : ℕ → StepTally)
@@ -135,15 +134,15 @@ fn write_window<A: Executor, K: Sink>(
 }
 
 /// Writes the lines of the first `count` windows of a run.
-fn write_windows<A: Executor, K: Sink>(
-    executor: &A,
+fn write_windows<E: Executor, K: Sink>(
+    executor: &E,
     alloc: Global,
     run: &mut Run,
     windows: &Windows,
     count: u32,
     writer: &mut K,
 ) -> Result<(), Failure>
-    requires ready { A.is_ready executor.now }
+    requires ready { E.is_ready executor.now }
     requires works { K.failed writer.old ≡ false }
     requires start { run.old.step ≡ 0 }
     requires counts { run.old.seed.warm ≡ 0 }
@@ -168,14 +167,14 @@ fn write_windows<A: Executor, K: Sink>(
 }
 
 /// Runs a job, and writes the table of its windows.
-fn write_series<A: Executor, K: Sink>(
-    executor: &A,
+fn write_series<E: Executor, K: Sink>(
+    executor: &E,
     alloc: Global,
     windows: &Windows,
     job: Job,
     writer: &mut K,
 ) -> Result<(), Failure>
-    requires ready { A.is_ready executor.now }
+    requires ready { E.is_ready executor.now }
     requires works { K.failed writer.old ≡ false }
     ensures wrote { WroteByResult (IsSeriesOutputForJob windows.now.every windows.now.from job) result
         (bytes_of K.Sink writer.old) (bytes_of K.Sink writer.new) }
@@ -202,9 +201,9 @@ impl<'a> Account for Series<'a> {
         self.windows.steps(job.steps)
     }
 
-    fn write_job<A: Executor, K: Sink>(
+    fn write_job<E: Executor, K: Sink>(
         &self,
-        executor: &A,
+        executor: &E,
         alloc: Global,
         job: Job,
         writer: &mut K,
@@ -228,8 +227,8 @@ pub fn run_series_text<
 >(rt: &R, reader: &mut S, writer: &mut K, workers: u32, windows: &Windows, progress: &O) -> End
     requires reader_works { S.failed reader.old ≡ false }
     requires writer_works { K.failed writer.old ≡ false }
-    requires some_worker { 1 ≤ workers }
-    requires few_workers { workers ≤ MAX_WORKERS }
+    requires at_least_one_worker { 1 ≤ workers }
+    requires at_most_max_workers { workers ≤ MAX_WORKERS }
     ensures { EngineEnds S.Source K.Sink (IsSeriesOutput windows.now.every windows.now.from) result
         reader.old reader.new writer.old writer.new }
 {

@@ -13,7 +13,7 @@ ghost use Rattle.trlab_campaign.specs.SweepOutput.{IsSweepOutput, IsOutputForSwe
 ghost use Rattle.trlab_campaign.specs.Writers.{AddsNone, bytes_of};
 
 use crate::device::{Sink, Source};
-use crate::end::{End, refuse, write_output};
+use crate::end::{End, reject, write_output};
 use crate::engine::{Engine, run_engine};
 use crate::progress::ProgressObserver;
 use crate::sweep::runners::Runners;
@@ -90,7 +90,7 @@ impl<T: Fn(Global, &Sweep) -> Result<Vec<u8>, AllocError> + Drop> Engine for Swe
     fn write<K: Sink>(self, alloc: Global, text: &[u8], writer: &mut K) -> End {
         let sweep = match read_sweep(alloc, text) {
             Ok(sweep) => sweep,
-            Err(TextFault::At { line, cause }) => return refuse(alloc, line, cause, writer),
+            Err(TextFault::At { line, cause }) => return reject(alloc, line, cause, writer),
             Err(TextFault::Memory) => return End::Memory,
         };
         let table = (self.table)(alloc, &sweep);
@@ -105,8 +105,8 @@ impl<T: Fn(Global, &Sweep) -> Result<Vec<u8>, AllocError> + Drop> Engine for Swe
 ///
 /// The whole text is read and checked, and all points are complete, before a byte is written. If an allocation fails,
 /// nothing is written; if a call of the reader or writer fails, a prefix of the whole output. Each road is a job of a
-/// book. `runners` runners, 1 to 16, take the jobs, each with `workers` workers, 1 to 16. The output does not depend on
-/// these numbers.
+/// book. `runners` runners, 1 to 16, take the jobs, each with at most `workers` workers, 1 to 16. The output does not
+/// depend on these numbers.
 pub fn run_sweep_with_progress<
     R: AllocGlobal + Threads + Wait + Sync,
     S: Source,
@@ -115,10 +115,10 @@ pub fn run_sweep_with_progress<
 >(rt: &R, reader: &mut S, writer: &mut K, runners: u32, workers: u32, progress: &O) -> End
     requires reader_works { S.failed reader.old ≡ false }
     requires writer_works { K.failed writer.old ≡ false }
-    requires some_runner { 1 ≤ runners }
-    requires few_runners { runners ≤ MAX_RUNNERS }
-    requires some_worker { 1 ≤ workers }
-    requires few_workers { workers ≤ MAX_WORKERS }
+    requires at_least_one_runner { 1 ≤ runners }
+    requires at_most_max_runners { runners ≤ MAX_RUNNERS }
+    requires at_least_one_worker { 1 ≤ workers }
+    requires at_most_max_workers { workers ≤ MAX_WORKERS }
     ensures ends { EngineEnds S.Source K.Sink IsSweepOutput result
         reader.old reader.new writer.old writer.new }
     ensures kept { result ≡ Memory → AddsNone (bytes_of K.Sink writer.old) (bytes_of K.Sink writer.new) }

@@ -1,10 +1,9 @@
 -- Bytes have one first fault.
 use Rattle.std.proofs.Common.{◌≡◌, ◌≢◌, ℕ, ◌<◌, ◌⊎◌, List, refl, sym, ap, subst, arith, inl, inr}
 use Rattle.std.proofs.lemmas.Bool.{cases_order}
-use Rattle.trlab_code.specs.declared.fault.CodeFault.{CodeFault}
-use Rattle.trlab_code.specs.declared.fault.CodeFault.TheVariants as fault
-use Rattle.trlab_code.specs.Faults.{HasOpcode, IsFirstCodeFault, row_at}
+use Rattle.trlab_code.specs.{declared.fault.CodeFault.CodeFault, Faults.{HasOpcode, IsFirstCodeFault, row_at}}
 use Rattle.trlab_code.proofs.EncodedCode.{opcode_of_row}
+use Rattle.trlab_code.specs.declared.fault.CodeFault.TheVariants as fault
 
 -- the order in which faults are found; faults of rows differ by their rows
 rank : CodeFault → ℕ

@@ -1,17 +1,17 @@
 -- The encoding of a program consists of bytes.
-use Rattle.std.proofs.Common.{ℕ, Bool, true, false, cond, ◌/◌, ◌%◌, ◌^◌, ◌<◌, ◌≤◌, List, [], ◌∷◌, All, length, arith}
-use Rattle.std.specs.List.{flat_map}
+use Rattle.std.proofs.Common.{ℕ, Bool, true, false, cond, ◌/◌, ◌%◌, ◌^◌, ◌<◌, ◌≤◌, List, [], ◌∷◌, All, length}
+use Rattle.std.proofs.Common.{arith, flat_map}
 use Rattle.std.proofs.lemmas.List.Elements.{All-cons, All-append, All-head, All-tail}
-use Rattle.trlab_code.specs.declared.program.Kind.{Kind}
-use Rattle.trlab_code.specs.declared.program.Kind.TheVariants.{Motion, Change}
-use Rattle.trlab_code.specs.declared.instruction.Register.{Register}
-use Rattle.trlab_code.specs.declared.instruction.Register.TheVariants.{R0, R1, R2, R3, R4, R5, R6, R7}
-use Rattle.trlab_code.specs.declared.instruction.Input.{Input}
-use Rattle.trlab_code.specs.declared.instruction.Input.TheVariants.{Speed, Limit, Gap, SideGap, SideBack, Lane, Headspeed}
-use Rattle.trlab_code.specs.declared.instruction.Instr.{Instr}
-use Rattle.trlab_code.specs.declared.instruction.Instr.TheVariants.{Num, Get, Side, Draw, Copy, Add, Sub, Mul, Div, Min, Max, Not, And, Or, Jump, JumpLess, JumpAtMost, JumpTrue, JumpFalse, Go, Cross, Stay}
-use Rattle.trlab_code.specs.Program.{Program, IsInRange, version_of}
-use Rattle.trlab_code.specs.Machine.{register_number, input_number}
+use Rattle.trlab_code.specs.declared.program.Kind.{Kind, TheVariants.{Motion, Change}}
+use Rattle.trlab_code.specs.declared.instruction.Register.{Register, TheVariants.{R0, R1, R2, R3, R4, R5, R6}}
+use Rattle.trlab_code.specs.declared.instruction.{Register.TheVariants.R7, Input.{Input, TheVariants.Speed}}
+use Rattle.trlab_code.specs.declared.instruction.Input.TheVariants.{Limit, Gap, SideGap, SideBack, Lane}
+use Rattle.trlab_code.specs.declared.instruction.{Input.TheVariants.Headspeed, Instr.{Instr, TheVariants.Num}}
+use Rattle.trlab_code.specs.declared.instruction.Instr.TheVariants.{Get, Side, Draw, Copy, Add, Sub, Mul, Div}
+use Rattle.trlab_code.specs.declared.instruction.Instr.TheVariants.{Min, Max, Not, And, Or, Jump, JumpLess}
+use Rattle.trlab_code.specs.declared.instruction.Instr.TheVariants.{JumpAtMost, JumpTrue, JumpFalse, Go}
+use Rattle.trlab_code.specs.{declared.instruction.Instr.TheVariants.{Cross, Stay}, Program.Program}
+use Rattle.trlab_code.specs.{Program.{IsInRange, version_of}, Machine.{register_number, input_number}}
 use Rattle.trlab_code.specs.Encoding.{kind_byte, row, row_bytes, instr_bytes, header, encoding}
 use Rattle.trlab_code.specs.Laws.{AreBytes, FitsIn32Bits, IsRepresentable}
 

@@ -1,15 +1,14 @@
 -- Bytes that spell a program have no fault.
-use Rattle.std.proofs.Common.{◌≡◌, ◌∙◌, ◌⊎◌, ℕ, Bool, true, false, cond, zero, suc, ◌+◌, ◌*◌, ◌<◌, ◌≤◌, List, [], ◌∷◌, length, take, drop, get_or, refl, ap, arith, inl, inr}
-use Rattle.std.specs.List.{flat_map, list_any}
-use Rattle.std.proofs.lemmas.Bool.{cases_Bool}
-use Rattle.std.proofs.lemmas.List.Folds.{Any-from_list_any, list_any_at}
-use Rattle.trlab_code.specs.declared.instruction.Instr.{Instr}
-use Rattle.trlab_code.specs.declared.instruction.Instr.TheVariants.{Stay}
-use Rattle.trlab_code.specs.declared.fault.CodeFault.{CodeFault}
-use Rattle.trlab_code.specs.declared.fault.CodeFault.TheVariants as fault
+use Rattle.std.proofs.Common.{◌≡◌, ◌∙◌, ◌⊎◌, ℕ, Bool, true, false, cond, zero, suc, ◌+◌, ◌*◌, ◌<◌, ◌≤◌, List}
+use Rattle.std.proofs.Common.{[], ◌∷◌, length, take, drop, get_or, refl, ap, arith, inl, inr, flat_map}
+use Rattle.std.proofs.lemmas.{Bool.cases_Bool, List.Folds.{Any-from_list_any, list_any_at}}
+use Rattle.std.specs.List.{list_any}
+use Rattle.trlab_code.specs.declared.{instruction.Instr.{Instr, TheVariants.Stay}, fault.CodeFault.CodeFault}
 use Rattle.trlab_code.specs.Program.{Program, IsValidProgram, VersionAllows, reads_headspeed}
 use Rattle.trlab_code.specs.Encoding.{instr_bytes, encoding}
-use Rattle.trlab_code.specs.Faults.{HasValidHeader, IsValidBefore, EncodesSomeInstr, HasOpcode, VersionIsNeeded, IsFirstCodeFault, stated_count, stated_version, row_at}
+use Rattle.trlab_code.specs.Faults.{HasValidHeader, IsValidBefore, EncodesSomeInstr, HasOpcode}
+use Rattle.trlab_code.specs.Faults.{VersionIsNeeded, IsFirstCodeFault, stated_count, stated_version, row_at}
+use Rattle.trlab_code.specs.declared.fault.CodeFault.TheVariants as fault
 
 -- the bytes of instructions, eight for each
 length_rows : (instrs : List Instr) → length (flat_map instr_bytes instrs) ≡ 8 * length instrs

@@ -1,21 +1,19 @@
 -- Different programs have different encodings.
-use Rattle.std.proofs.Common.{◌≡◌, ◌∙◌, ℕ, ◌+◌, ◌*◌, ◌/◌, ◌%◌, ◌^◌, ◌&&◌, List, [], ◌∷◌, drop, get_or, Bool, true, false, refl, sym, ap, subst, arith, nat_eq}
-use Rattle.std.specs.List.{flat_map}
-use Rattle.std.specs.Bool.{Decides}
-use Rattle.std.proofs.lemmas.Bool.{eqb-true, eq-eqb}
-use Rattle.trlab_code.specs.declared.program.Kind.{Kind}
-use Rattle.trlab_code.specs.declared.program.Kind.TheVariants.{Motion, Change}
-use Rattle.trlab_code.specs.declared.instruction.Register.{Register}
+use Rattle.std.proofs.Common.{◌≡◌, ◌∙◌, ℕ, ◌+◌, ◌*◌, ◌/◌, ◌%◌, ◌^◌, ◌&&◌, List, [], ◌∷◌, drop, get_or, Bool}
+use Rattle.std.proofs.Common.{true, false, refl, sym, ap, subst, arith, nat_eq, flat_map, Decides, eqb-true}
+use Rattle.std.proofs.Common.{eq-eqb}
+use Rattle.trlab_code.specs.declared.program.Kind.{Kind, TheVariants.{Motion, Change}}
+use Rattle.trlab_code.specs.declared.instruction.{Register.Register, Input.TheVariants.{Lane, Headspeed}}
 use Rattle.trlab_code.specs.declared.instruction.Register.TheVariants.{R0, R1, R2, R3, R4, R5, R6, R7}
-use Rattle.trlab_code.specs.declared.instruction.Input.{Input}
-use Rattle.trlab_code.specs.declared.instruction.Input.TheVariants.{Speed, Limit, Gap, SideGap, SideBack, Lane, Headspeed}
-use Rattle.trlab_code.specs.declared.instruction.Instr.{Instr}
-use Rattle.trlab_code.specs.declared.instruction.Instr.TheVariants.{Num, Get, Side, Draw, Copy, Add, Sub, Mul, Div, Min, Max, Not, And, Or, Jump, JumpLess, JumpAtMost, JumpTrue, JumpFalse, Go, Cross, Stay}
+use Rattle.trlab_code.specs.declared.instruction.{Input.Input, Instr.{Instr, TheVariants.{Go, Cross, Stay}}}
+use Rattle.trlab_code.specs.declared.instruction.Input.TheVariants.{Speed, Limit, Gap, SideGap, SideBack}
+use Rattle.trlab_code.specs.declared.instruction.Instr.TheVariants.{Num, Get, Side, Draw, Copy, Add, Sub, Mul}
+use Rattle.trlab_code.specs.declared.instruction.Instr.TheVariants.{Div, Min, Max, Not, And, Or, Jump}
+use Rattle.trlab_code.specs.declared.instruction.Instr.TheVariants.{JumpLess, JumpAtMost, JumpTrue, JumpFalse}
 use Rattle.trlab_code.specs.declared.row.InstructionRow.{InstructionRow}
 use Rattle.trlab_code.specs.contracts.row.InstrPartialEq.TheImpl.{eq-value as same}
-use Rattle.trlab_code.specs.Program.{Program}
+use Rattle.trlab_code.specs.{Program.Program, Encoding.{kind_byte, row_of, row_bytes, instr_bytes, encoding}}
 use Rattle.trlab_code.specs.Machine.{register_number, input_number}
-use Rattle.trlab_code.specs.Encoding.{kind_byte, row_of, row_bytes, instr_bytes, encoding}
 
 same_kind : (k l : Kind) → kind_byte k ≡ kind_byte l → k ≡ l
 same_kind Motion Motion h = refl

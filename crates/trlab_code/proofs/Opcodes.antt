@@ -1,10 +1,10 @@
 -- Which bytes are opcodes.
-use Rattle.std.proofs.Common.{ℕ, zero, suc, ◌≤◌, ◌⊎◌, inl, inr, refl, arith}
-use Rattle.std.proofs.lemmas.Bool.{cases_lt}
-use Rattle.trlab_code.specs.declared.instruction.Input.TheVariants.{Speed}
-use Rattle.trlab_code.specs.declared.instruction.Register.TheVariants.{R0}
-use Rattle.trlab_code.specs.declared.instruction.Instr.{Instr}
-use Rattle.trlab_code.specs.declared.instruction.Instr.TheVariants.{Num, Get, Side, Draw, Copy, Add, Sub, Mul, Div, Min, Max, Not, And, Or, Jump, JumpLess, JumpAtMost, JumpTrue, JumpFalse, Go, Cross, Stay}
+use Rattle.std.proofs.{Common.{ℕ, zero, suc, ◌≤◌, ◌⊎◌, inl, inr, refl, arith}, lemmas.Bool.cases_lt}
+use Rattle.trlab_code.specs.declared.instruction.{Input.TheVariants.Speed, Register.TheVariants.R0}
+use Rattle.trlab_code.specs.declared.instruction.Instr.{Instr, TheVariants.{Num, Get, Side, Draw, Copy, Add}}
+use Rattle.trlab_code.specs.declared.instruction.Instr.TheVariants.{Sub, Mul, Div, Min, Max, Not, And, Or}
+use Rattle.trlab_code.specs.declared.instruction.Instr.TheVariants.{Jump, JumpLess, JumpAtMost, JumpTrue}
+use Rattle.trlab_code.specs.declared.instruction.Instr.TheVariants.{JumpFalse, Go, Cross, Stay}
 use Rattle.trlab_code.specs.Encoding.{IsOpcode, row_of}
 
 -- an instruction of each opcode

@@ -1,32 +1,26 @@
 -- Any bytes spell a program, or have a first fault.
-use Rattle.std.proofs.Common.{◌≡◌, ◌≢◌, ℕ, zero, suc, ◌+◌, ◌-◌, ◌*◌, ◌/◌, ◌%◌, ◌^◌, ◌<◌, ◌≤◌, ◌⊎◌, List, [], ◌∷◌, ◌++◌, length, take, drop, get_or, slice_index, All, Result, Ok, Err, refl, ap, ◌∙◌, arith, inl, inr, length-append}
-use Rattle.std.specs.Prelude.{bytes_eq}
-use Rattle.std.specs.List.{flat_map}
-use Rattle.std.proofs.lemmas.Bool.{cases_Bool, cases_lt}
-use Rattle.std.proofs.lemmas.Bool.Decides.{eqb_tells}
-use Rattle.std.proofs.lemmas.Slice.Eq.{bytes_eq-Decides}
+use Rattle.std.proofs.Common.{◌≡◌, ◌≢◌, ℕ, zero, suc, ◌+◌, ◌-◌, ◌*◌, ◌/◌, ◌%◌, ◌^◌, ◌<◌, ◌≤◌, ◌⊎◌, List, []}
+use Rattle.std.proofs.Common.{◌∷◌, ◌++◌, length, take, drop, get_or, slice_index, All, Result, Ok, Err, refl}
+use Rattle.std.proofs.Common.{ap, ◌∙◌, arith, inl, inr, length-append, bytes_eq, flat_map}
+use Rattle.std.proofs.lemmas.{Bool.{cases_Bool, cases_lt, Decides.eqb_tells}, Slice.Eq.bytes_eq-Decides}
 use Rattle.std.proofs.lemmas.List.Elements.{All-push}
-use Rattle.trlab_code.specs.declared.program.Kind.{Kind}
-use Rattle.trlab_code.specs.declared.program.Kind.TheVariants.{Motion, Change}
-use Rattle.trlab_code.specs.declared.instruction.Register.{Register}
+use Rattle.trlab_code.specs.{declared.program.Kind.Kind, Encoding.{kind_byte, header, instr_bytes, encoding}}
+use Rattle.trlab_code.specs.declared.{program.Kind.TheVariants.{Motion, Change}, fault.CodeFault.CodeFault}
+use Rattle.trlab_code.specs.declared.instruction.{Register.Register, Input.TheVariants.{Lane, Headspeed}}
 use Rattle.trlab_code.specs.declared.instruction.Register.TheVariants.{R0, R1, R2, R3, R4, R5, R6, R7}
-use Rattle.trlab_code.specs.declared.instruction.Input.{Input}
-use Rattle.trlab_code.specs.declared.instruction.Input.TheVariants.{Speed, Limit, Gap, SideGap, SideBack, Lane, Headspeed}
-use Rattle.trlab_code.specs.declared.instruction.Instr.{Instr}
-use Rattle.trlab_code.specs.declared.instruction.Instr.TheVariants.{Num, Get, Side, Draw, Copy, Add, Sub, Mul, Div, Min, Max, Not, And, Or, Jump, JumpLess, JumpAtMost, JumpTrue, JumpFalse, Go, Cross, Stay}
-use Rattle.trlab_bounds.specs.declared.programs.TheConstants.{MAGIC}
-use Rattle.trlab_bounds.specs.declared.programs.TheConstants.{CERTAIN}
-use Rattle.trlab_code.specs.declared.fault.CodeFault.{CodeFault}
+use Rattle.trlab_code.specs.declared.instruction.{Input.Input, Instr.{Instr, TheVariants.{Go, Cross, Stay}}}
+use Rattle.trlab_code.specs.declared.instruction.Input.TheVariants.{Speed, Limit, Gap, SideGap, SideBack}
+use Rattle.trlab_code.specs.declared.instruction.Instr.TheVariants.{Num, Get, Side, Draw, Copy, Add, Sub, Mul}
+use Rattle.trlab_code.specs.declared.instruction.Instr.TheVariants.{Div, Min, Max, Not, And, Or, Jump}
+use Rattle.trlab_code.specs.declared.instruction.Instr.TheVariants.{JumpLess, JumpAtMost, JumpTrue, JumpFalse}
+use Rattle.trlab_code.specs.Program.{Program, IsInRange, IsValidProgram, VersionAllows, reads_headspeed}
+use Rattle.trlab_code.{specs.{Program.version_of, Laws.BytesMean}, proofs.Opcodes.opcode_or_not}
+use Rattle.trlab_code.{specs.Machine.{register_number, input_number}, proofs.Whole.spelling_of_parts}
+use Rattle.trlab_code.specs.Faults.{HasRoom, HasVersion, EncodesSomeInstr, HasValidHeader, IsValidBefore}
+use Rattle.trlab_code.specs.Faults.{VersionIsNeeded, IsFirstCodeFault, stated_count, stated_version, row_at}
+use Rattle.trlab_code.proofs.{Rows.{rows_more, good_more}, Versions.{needless, needs_version, version_needed}}
 use Rattle.trlab_code.specs.declared.fault.CodeFault.TheVariants as fault
-use Rattle.trlab_code.specs.Program.{Program, IsInRange, IsValidProgram, VersionAllows, reads_headspeed, version_of}
-use Rattle.trlab_code.specs.Machine.{register_number, input_number}
-use Rattle.trlab_code.specs.Encoding.{kind_byte, header, instr_bytes, encoding}
-use Rattle.trlab_code.specs.Faults.{HasRoom, HasVersion, EncodesSomeInstr, HasValidHeader, IsValidBefore, VersionIsNeeded, IsFirstCodeFault, stated_count, stated_version, row_at}
-use Rattle.trlab_code.specs.Laws.{BytesMean}
-use Rattle.trlab_code.proofs.Opcodes.{opcode_or_not}
-use Rattle.trlab_code.proofs.Rows.{rows_more, good_more}
-use Rattle.trlab_code.proofs.Versions.{needless, needs_version, version_needed}
-use Rattle.trlab_code.proofs.Whole.{spelling_of_parts}
+use Rattle.trlab_bounds.specs.declared.programs.TheConstants.{MAGIC, CERTAIN}
 
 -- the register of a byte; any register if the byte is not a register's
 register_of : ℕ → Register

@@ -1,11 +1,7 @@
 -- Instructions read one after another.
-use Rattle.std.proofs.Common.{◌≡◌, ℕ, ◌+◌, ◌*◌, List, [], ◌∷◌, ◌++◌, take, drop, arith, below_more}
-use Rattle.std.proofs.Math.Seq.{take-add}
-use Rattle.std.proofs.lemmas.List.{drop-drop}
-use Rattle.std.proofs.lemmas.List.Concat.{flat_map-append}
-use Rattle.std.specs.List.{flat_map}
-use Rattle.trlab_code.specs.declared.instruction.Instr.{Instr}
-use Rattle.trlab_code.specs.Encoding.{instr_bytes, EncodesInstr}
+use Rattle.std.proofs.Common.{◌≡◌, ℕ, ◌+◌, ◌*◌, List, [], ◌∷◌, ◌++◌, take, drop, arith, below_more, take-add}
+use Rattle.std.proofs.{Common.{drop-drop, flat_map}, lemmas.List.Concat.flat_map-append}
+use Rattle.trlab_code.specs.{declared.instruction.Instr.Instr, Encoding.{instr_bytes, EncodesInstr}}
 use Rattle.trlab_code.specs.Faults.{IsValidBefore, EncodesSomeInstr, stated_version, row_at}
 
 -- one more instruction

@@ -1,13 +1,8 @@
 -- Bytes have only one meaning.
 use Rattle.std.proofs.Common.{◌≡◌, ◌↔◌, ℕ, List, Result, Ok, Err, refl, sym, ap, ◌∙◌, subst}
-use Rattle.trlab_code.specs.declared.fault.CodeFault.{CodeFault}
-use Rattle.trlab_code.specs.Program.{Program, IsValidProgram}
-use Rattle.trlab_code.specs.Encoding.{encoding}
-use Rattle.trlab_code.specs.Faults.{IsFirstCodeFault}
-use Rattle.trlab_code.specs.Laws.{BytesMean}
-use Rattle.trlab_code.proofs.Injective.{same_program}
-use Rattle.trlab_code.proofs.EncodedCode.{no_fault}
-use Rattle.trlab_code.proofs.Apart.{one_fault}
+use Rattle.trlab_code.specs.{declared.fault.CodeFault.CodeFault, Program.{Program, IsValidProgram}}
+use Rattle.trlab_code.specs.{Encoding.encoding, Faults.IsFirstCodeFault, Laws.BytesMean}
+use Rattle.trlab_code.proofs.{Injective.same_program, EncodedCode.no_fault, Apart.one_fault}
 
 -- bytes that spell a program have no first fault
 not_both : (bytes : List ℕ) (program : Program) (f : CodeFault) → BytesMean bytes (Ok program) → BytesMean bytes (Err f) → ⊥

@@ -1,16 +1,12 @@
 -- The version that bytes state, and whether the instructions that they spell need it.
-use Rattle.std.proofs.Common.{◌≡◌, ◌≢◌, ◌∙◌, ℕ, ◌+◌, ◌-◌, ◌*◌, ◌<◌, List, Bool, true, false, cond, length, take, drop, get_or, refl, sym, ap, arith, inl, inr}
-use Rattle.std.specs.List.{flat_map, list_any}
-use Rattle.std.proofs.lemmas.Bool.{cases_Bool}
-use Rattle.std.proofs.lemmas.List.{drop-drop, drop-take, take-take}
-use Rattle.std.proofs.lemmas.List.Folds.{Any-from_list_any, list_any_at}
-use Rattle.trlab_code.specs.declared.instruction.Instr.{Instr}
-use Rattle.trlab_code.specs.declared.instruction.Instr.TheVariants.{Stay}
-use Rattle.trlab_code.specs.Program.{Program, reads_headspeed, version_of}
-use Rattle.trlab_code.specs.Encoding.{instr_bytes}
-use Rattle.trlab_code.specs.Faults.{IsValidBefore, HasHeadspeed, VersionIsNeeded, stated_count, stated_version, row_at}
-use Rattle.trlab_code.proofs.Injective.{same_instr}
-use Rattle.trlab_code.proofs.EncodedCode.{row_is}
+use Rattle.std.proofs.Common.{◌≡◌, ◌≢◌, ◌∙◌, ℕ, ◌+◌, ◌-◌, ◌*◌, ◌<◌, List, Bool, true, false, cond, length}
+use Rattle.std.proofs.Common.{take, drop, get_or, refl, sym, ap, arith, inl, inr, flat_map, drop-drop}
+use Rattle.std.proofs.{Common.take-take, lemmas.{Bool.cases_Bool, List.drop-take}}
+use Rattle.std.{proofs.lemmas.List.Folds.{Any-from_list_any, list_any_at}, specs.List.list_any}
+use Rattle.trlab_code.specs.{declared.instruction.Instr.Instr, Program.{Program, reads_headspeed, version_of}}
+use Rattle.trlab_code.specs.{declared.instruction.Instr.TheVariants.Stay, Faults.{stated_version, row_at}}
+use Rattle.trlab_code.{specs.Encoding.instr_bytes, proofs.{Injective.same_instr, EncodedCode.row_is}}
+use Rattle.trlab_code.specs.Faults.{IsValidBefore, HasHeadspeed, VersionIsNeeded, stated_count}
 
 -- the row of an instruction, if the rows of the bytes are those of instructions
 stated_row : (bytes : List ℕ) (instrs : List Instr) (count : ℕ) → length instrs ≡ count → flat_map instr_bytes instrs ≡ take (8 * count) (drop 8 bytes) → (k : ℕ) (d : Instr) → k < length instrs → row_at bytes k ≡ instr_bytes (get_or instrs k d)

@@ -1,15 +1,11 @@
 -- Consequences for a reader's result, from the one encoding and the one first fault.
-use Rattle.std.proofs.Common.{◌≡◌, ◌≢◌, ℕ, ◌+◌, ◌*◌, ◌≤◌, ◌⊎◌, List, ◌++◌, length, take, drop, Result, Ok, Err, sym, ap, ◌∙◌, subst, arith, inl, inr, length-drop}
-use Rattle.std.proofs.lemmas.List.{take-append-drop, take_all}
-use Rattle.std.specs.List.{flat_map}
-use Rattle.trlab_code.specs.declared.fault.CodeFault.{CodeFault}
+use Rattle.std.proofs.Common.{◌≡◌, ◌≢◌, ℕ, ◌+◌, ◌*◌, ◌≤◌, ◌⊎◌, List, ◌++◌, length, take, drop, Result, Ok}
+use Rattle.std.proofs.Common.{Err, sym, ap, ◌∙◌, subst, arith, inl, inr, length-drop, take-append-drop}
+use Rattle.std.proofs.Common.{take_all, flat_map}
+use Rattle.trlab_code.specs.{declared.fault.CodeFault.CodeFault, Encoding.{header, instr_bytes, encoding}}
+use Rattle.trlab_code.specs.{Program.{Program, IsValidProgram, version_of}, Faults.IsFirstCodeFault}
+use Rattle.trlab_code.proofs.{Injective.same_program, EncodedCode.no_fault, Apart.{one_fault, cases_memory}}
 use Rattle.trlab_code.specs.declared.fault.CodeFault.TheVariants as fault
-use Rattle.trlab_code.specs.Program.{Program, IsValidProgram, version_of}
-use Rattle.trlab_code.specs.Encoding.{header, instr_bytes, encoding}
-use Rattle.trlab_code.specs.Faults.{IsFirstCodeFault}
-use Rattle.trlab_code.proofs.Injective.{same_program}
-use Rattle.trlab_code.proofs.EncodedCode.{no_fault}
-use Rattle.trlab_code.proofs.Apart.{one_fault, cases_memory}
 
 abbrev Answer : Type 0
 Answer = Result Program CodeFault

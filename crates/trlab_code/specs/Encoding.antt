@@ -1,14 +1,13 @@
 -- The encoding of a program in bytes: a header, and then eight bytes for each instruction.
-use Rattle.std.specs.Prelude.{◌≡◌, ℕ, ◌/◌, ◌%◌, ◌^◌, List, [], ◌∷◌, ◌++◌, length}
-use Rattle.std.specs.List.{flat_map}
-use Rattle.trlab_code.specs.declared.program.Kind.{Kind}
-use Rattle.trlab_code.specs.declared.program.Kind.TheVariants.{Motion, Change}
-use Rattle.trlab_code.specs.declared.instruction.Instr.{Instr}
-use Rattle.trlab_code.specs.declared.instruction.Instr.TheVariants.{Num, Get, Side, Draw, Copy, Add, Sub, Mul, Div, Min, Max, Not, And, Or, Jump, JumpLess, JumpAtMost, JumpTrue, JumpFalse, Go, Cross, Stay}
-use Rattle.trlab_code.specs.declared.row.InstructionRow.{InstructionRow}
+use Rattle.std.specs.Prelude.{◌≡◌, ℕ, ◌/◌, ◌%◌, ◌^◌, List, [], ◌∷◌, ◌++◌, length, flat_map}
+use Rattle.trlab_code.specs.declared.program.Kind.{Kind, TheVariants.{Motion, Change}}
+use Rattle.trlab_code.specs.declared.instruction.Instr.{Instr, TheVariants.{Num, Get, Side, Draw, Copy, Add}}
+use Rattle.trlab_code.specs.declared.instruction.Instr.TheVariants.{Sub, Mul, Div, Min, Max, Not, And, Or}
+use Rattle.trlab_code.specs.declared.instruction.Instr.TheVariants.{Jump, JumpLess, JumpAtMost, JumpTrue}
+use Rattle.trlab_code.specs.declared.instruction.Instr.TheVariants.{JumpFalse, Go, Cross, Stay}
+use Rattle.trlab_code.specs.{declared.row.InstructionRow.InstructionRow, Program.{Program, IsInRange}}
+use Rattle.trlab_code.specs.{Program.{VersionAllows, version_of}, Machine.{register_number, input_number}}
 use Rattle.trlab_bounds.specs.declared.programs.TheConstants.{MAGIC}
-use Rattle.trlab_code.specs.Program.{Program, IsInRange, VersionAllows, version_of}
-use Rattle.trlab_code.specs.Machine.{register_number, input_number}
 
 -- the byte of a program kind: 0 for a motion, 1 for a change
 abbrev pub kind_byte : Kind → ℕ

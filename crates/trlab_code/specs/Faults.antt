@@ -1,14 +1,11 @@
 -- The first fault of bytes that do not encode a program, in the order in which a reader meets the faults.
 use Rattle.std.specs.Prelude.{◌≡◌, ℕ, ◌+◌, ◌*◌, ◌<◌, ◌≤◌, List, length, take, drop, slice_index, ◌⊎◌, IsTrue}
-use Rattle.trlab_code.specs.declared.program.Kind.{Kind}
-use Rattle.trlab_code.specs.declared.instruction.Instr.{Instr}
-use Rattle.trlab_code.specs.declared.fault.CodeFault.{CodeFault}
-use Rattle.trlab_code.specs.declared.fault.CodeFault.TheVariants as fault
-use Rattle.trlab_bounds.specs.declared.programs.TheConstants.{MAGIC, PLAIN_VERSION, HEADSPEED_VERSION, HEADER_BYTES}
-use Rattle.trlab_bounds.specs.declared.programs.TheConstants.{INSTR_BYTES}
-use Rattle.trlab_bounds.specs.declared.programs.TheConstants.{MAX_INSTRUCTIONS}
+use Rattle.trlab_code.specs.declared.{program.Kind.Kind, instruction.Instr.Instr, fault.CodeFault.CodeFault}
 use Rattle.trlab_code.specs.Program.{reads_headspeed}
 use Rattle.trlab_code.specs.Encoding.{kind_byte, instr_bytes, EncodesInstr, IsOpcode}
+use Rattle.trlab_code.specs.declared.fault.CodeFault.TheVariants as fault
+use Rattle.trlab_bounds.specs.declared.programs.TheConstants.{MAGIC, PLAIN_VERSION, HEADSPEED_VERSION}
+use Rattle.trlab_bounds.specs.declared.programs.TheConstants.{HEADER_BYTES, INSTR_BYTES, MAX_INSTRUCTIONS}
 
 -- the version that a header states: byte 4
 abbrev pub stated_version : List ℕ → ℕ

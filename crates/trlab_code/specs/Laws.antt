@@ -1,11 +1,8 @@
 -- Laws of bytes and the programs that they encode.
 use Rattle.std.specs.Prelude.{◌≡◌, ◌≢◌, ◌↔◌, ℕ, ◌<◌, ◌^◌, List, All, Result, Ok, Err}
-use Rattle.trlab_code.specs.Program.{Program, IsValidProgram}
-use Rattle.trlab_code.specs.Encoding.{row_of, encoding}
-use Rattle.trlab_code.specs.Faults.{IsFirstCodeFault}
-use Rattle.trlab_code.specs.declared.instruction.Instr.{Instr}
-use Rattle.trlab_code.specs.declared.fault.CodeFault.{CodeFault}
-use Rattle.trlab_code.specs.declared.fault.CodeFault.TheVariants.{Memory}
+use Rattle.trlab_code.specs.{Program.{Program, IsValidProgram}, Encoding.{row_of, encoding}}
+use Rattle.trlab_code.specs.{Faults.IsFirstCodeFault, declared.instruction.Instr.Instr}
+use Rattle.trlab_code.specs.declared.fault.CodeFault.{CodeFault, TheVariants.Memory}
 
 -- each number in the list is below 2 ^ 8, and so is a byte
 abbrev pub AreBytes : List ℕ → Type 0

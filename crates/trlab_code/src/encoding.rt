@@ -166,7 +166,7 @@ pub fn decode(alloc: Global, bytes: &[u8]) -> Result<Code, CodeFault>
         → (result ≡ Ok program) ⊎ (result ≡ Err CodeFault.Memory) }
 
     // Each fault is reported, unless allocation fails.
-    ensures told { (fault : CodeFault) → IsFirstCodeFault bytes.now fault → fault ≢ CodeFault.Memory
+    ensures reported { (fault : CodeFault) → IsFirstCodeFault bytes.now fault → fault ≢ CodeFault.Memory
         → (result ≡ Err fault) ⊎ (result ≡ Err CodeFault.Memory) }
 {
     let header = Header::read(bytes)?;

@@ -1,24 +1,16 @@
 -- The request of a command line that is only the name of a command.
-use Rattle.std.proofs.Common.{◌≡◌, ◌∙◌, ℕ, Bool, true, false, refl, sym, ap, List, [], ◌∷◌, Option, None, Some, Result, Ok, codes}
-use Rattle.std.specs.Prelude.{option_map}
-use Rattle.std.specs.Str.{bytes_eq}
-use Rattle.std.specs.Str.Parse.{digits_value, without_leading_plus}
-use Rattle.std.proofs.lemmas.Bool.{false≢true}
-use Rattle.std.proofs.lemmas.Slice.Eq.{bytes_eq-Decides}
-use Rattle.clap.specs.Walk.{Row, Text, one_of}
-use Rattle.clap.specs.Simple.{subcommand_of}
-use Rattle.clap.specs.declared.error.kind.ErrorKind.{ErrorKind}
-use Rattle.clap.proofs.OnLiterals.{clap_on_literals}
-use Rattle.trlab_command_line.specs.CommandLine.{command_line}
-use Rattle.trlab_command_line.specs.Explains.{request_from_matches}
-use Rattle.trlab_command_line.specs.Numbers.{GivesFlag, GivesNumber}
-use Rattle.trlab_command_line.specs.Requests.{IsRequestOf, command_name}
+use Rattle.std.proofs.Common.{◌≡◌, ◌∙◌, ℕ, Bool, true, false, refl, sym, ap, List, [], ◌∷◌, Option, None}
+use Rattle.std.proofs.{Common.{Some, Result, Ok, codes, option_map, bytes_eq}, lemmas.Bool.{false≢true}}
+use Rattle.std.{proofs.lemmas.Slice.Eq.bytes_eq-Decides, specs.Str.Parse.{digits_value, without_leading_plus}}
+use Rattle.clap.specs.{Walk.{Row, Text, one_of}, Simple.subcommand_of}
+use Rattle.clap.{specs.declared.error.kind.ErrorKind.ErrorKind, proofs.OnLiterals.clap_on_literals}
+use Rattle.trlab_command_line.specs.CommandLine.{command_line, request_from_matches, GivesFlag, GivesNumber}
+use Rattle.trlab_command_line.{specs.CommandLine.{IsRequestOf, command_name}, proofs.Rows.some_same}
 use Rattle.trlab_command_line.specs.declared.arguments.explain.ExplainRequest.{ExplainRequest}
 use Rattle.trlab_command_line.specs.declared.arguments.explain.ExplainRequest.TheVariants.{Text as OfText}
+use Rattle.trlab_command_line.specs.declared.arguments.Request.{Request, TheVariants.Sweep}
+use Rattle.trlab_command_line.specs.declared.arguments.Request.TheVariants.{Check, Explain, Run, Series}
 use Rattle.trlab_explain.specs.declared.explain.Form.TheVariants.{Text as Lines}
-use Rattle.trlab_command_line.specs.declared.arguments.Request.{Request}
-use Rattle.trlab_command_line.specs.declared.arguments.Request.TheVariants.{Check, Explain, Run, Series, Sweep}
-use Rattle.trlab_command_line.proofs.Rows.{some_same}
 
 -- the request has the name of the command that was entered
 pub asks_its_name : (name : Text) (rows : List Row) (request : Request) → IsRequestOf (Some (name, rows)) request → name ≡ command_name request

@@ -1,22 +1,22 @@
 -- The words that the command line takes without a fault: first the name of a command, and then words that
 -- this command takes.
-use Rattle.std.proofs.Common.{◌≡◌, ◌∙◌, ◌&&◌, ◌||◌, ◌⊎◌, ℕ, zero, suc, Bool, cond, true, false, not, refl, sym, ap, subst, inl, inr, List, [], ◌∷◌, length, drop, Option, Some, None, codes}
-use Rattle.std.specs.Prelude.{encode_utf8, fold, find, option_map, slice_get}
-use Rattle.std.specs.List.{list_any}
-use Rattle.std.specs.Option.{option_map_or}
-use Rattle.std.specs.Str.{bytes_eq, chars}
-use Rattle.std.proofs.lemmas.Slice.Eq.{bytes_eq-Decides}
-use Rattle.clap.specs.Lexer.{long_of, short_of}
-use Rattle.clap.specs.Kinds.{Kinds, or_else}
-use Rattle.clap.specs.Walk.{Held, Names, Row, Rule, Text, Walk, after_flag, after_step, answers_to, Outcome, long_or_other, short_or_plain, value, bundle, bundle_met, bundle_step, has_long, has_short, idle, nothing_held, plain, rows_after, subcommand_met, subcommand_or_other, walk, walk_from, walked}
-use Rattle.clap.specs.Simple.{App, Shape, built, entered, filled, help_rule, label_of, names_of, rows_at, subcommand_of, version_rule}
-use Rattle.clap.specs.Faults.{built_fault, bundle_fault, bundle_step_fault, entered_fault, fault_of, flag_word_fault, flags_fault, level_fault, long_fault, other_fault, short_fault, step_fault, turn_fault, walk_fault}
-use Rattle.clap.specs.declared.error.kind.ErrorKind.{ErrorKind}
+use Rattle.std.proofs.Common.{◌≡◌, ◌∙◌, ◌&&◌, ◌||◌, ◌⊎◌, ℕ, zero, suc, Bool, cond, true, false, not, refl}
+use Rattle.std.proofs.Common.{sym, ap, subst, inl, inr, List, [], ◌∷◌, length, drop, Option, Some, None}
+use Rattle.std.proofs.Common.{codes, encode_utf8, fold, find, option_map, slice_get, bytes_eq}
+use Rattle.std.{proofs.lemmas.Slice.Eq.bytes_eq-Decides, specs.{List.list_any, Option.option_map_or}}
+use Rattle.std.specs.Str.{chars}
+use Rattle.clap.specs.{Lexer.{long_of, short_of}, Kinds.{Kinds, or_else}, Walk.{Held, Names, Row, Rule, Text}}
+use Rattle.clap.specs.Walk.{Walk, after_flag, after_step, answers_to, Outcome, long_or_other, short_or_plain}
+use Rattle.clap.specs.Walk.{value, bundle, bundle_met, bundle_step, has_long, has_short, idle, nothing_held}
+use Rattle.clap.specs.Walk.{plain, rows_after, subcommand_met, subcommand_or_other, walk, walk_from, walked}
+use Rattle.clap.specs.Simple.{App, Shape, built, entered, filled, help_rule, label_of, names_of, rows_at}
+use Rattle.clap.specs.{Simple.{subcommand_of, version_rule}, Faults.{built_fault, bundle_fault}}
+use Rattle.clap.specs.Faults.{bundle_step_fault, entered_fault, fault_of, flag_word_fault, flags_fault}
+use Rattle.clap.specs.Faults.{level_fault, long_fault, other_fault, short_fault, step_fault, turn_fault}
+use Rattle.clap.specs.{Faults.walk_fault, declared.error.kind.ErrorKind.ErrorKind}
 use Rattle.clap.specs.declared.error.kind.ErrorKind.TheVariants.{DisplayHelpOnMissingArgumentOrSubcommand}
-use Rattle.clap.proofs.OnLiterals.{clap_on_literals}
-use Rattle.clap.proofs.WalkLemmas.{find-map, walk_stopped}
-use Rattle.trlab_command_line.specs.CommandLine.{command_line}
-use Rattle.trlab_command_line.specs.Requests.{IsEntered}
+use Rattle.clap.proofs.{OnLiterals.clap_on_literals, WalkLemmas.{find-map, walk_stopped}}
+use Rattle.trlab_command_line.specs.CommandLine.{command_line, IsEntered}
 use Rattle.trlab_command_line.proofs.Rows.{Each, found_holds, none_fails, some_same}
 
 -- the command line once it is built, and its commands

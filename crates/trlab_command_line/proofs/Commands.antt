@@ -1,6 +1,5 @@
 -- The commands of the command line.
-use Rattle.std.proofs.Common.{◌≡◌, ◌∙◌, ap, ap₂}
-use Rattle.std.specs.Prelude.{Result, Ok, Err, IfOk, MatchResult}
+use Rattle.std.proofs.Common.{◌≡◌, ◌∙◌, ap, ap₂, Result, Ok, Err, IfOk, MatchResult}
 use Rattle.clap.specs.Words.{App, with_subcommand}
 
 -- a program and one of its commands, as they are built

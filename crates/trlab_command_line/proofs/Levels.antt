@@ -1,18 +1,13 @@
 -- The arguments of each command that its matches contain, if its words have no fault.
-use Rattle.std.proofs.Common.{◌≡◌, ◌∙◌, ℕ, false, refl, sym, ap, subst, inl, inr, List, [], Some, codes}
-use Rattle.std.specs.Prelude.{pos}
-use Rattle.std.specs.List.{slice_index_or}
-use Rattle.clap.specs.Walk.{Row, Rule, Text, arg_by_id, nothing_held, rows_after}
-use Rattle.clap.specs.Simple.{Shape, filled, with_index}
-use Rattle.clap.specs.Faults.{level_fault}
+use Rattle.std.proofs.Common.{◌≡◌, ◌∙◌, ℕ, false, refl, sym, ap, subst, inl, inr, List, [], Some, codes, pos}
+use Rattle.std.proofs.Common.{slice_index_or}
+use Rattle.clap.specs.{Walk.{Row, Rule, Text, arg_by_id, nothing_held, rows_after}, Faults.level_fault}
+use Rattle.clap.{specs.Simple.{Shape, filled, with_index}, proofs.ValueTestLemmas.accepts-Accepts}
 use Rattle.clap.specs.declared.builder.value_parser.ValueParser.TheVariants.{Bool as OfBool, Signed}
-use Rattle.clap.proofs.ValueTestLemmas.{accepts-Accepts}
-use Rattle.trlab_command_line.specs.CommandLine.{flag, number_argument, number_option}
-use Rattle.trlab_command_line.specs.Numbers.{HasFlagValue, HasValueFrom, MayHaveNumber}
-use Rattle.trlab_command_line.specs.Requests.{IsEntered}
+use Rattle.trlab_command_line.specs.CommandLine.{flag, number_argument, number_option, HasFlagValue}
+use Rattle.trlab_command_line.specs.CommandLine.{HasValueFrom, MayHaveNumber, IsEntered}
 use Rattle.trlab_command_line.proofs.CommandLine.{line, named_by}
-use Rattle.trlab_command_line.proofs.Options.{AllKnown, own_if_given, own_value}
-use Rattle.trlab_command_line.proofs.Rows.{some_same}
+use Rattle.trlab_command_line.proofs.{Options.{AllKnown, own_if_given, own_value}, Rows.some_same}
 
 -- a command: its name, the values that a parse reads of it, and the kinds of its arguments
 pub record Command : Type 0 where

@@ -1,31 +1,21 @@
 -- The results of parsing the command line, as its caller reads them.
-use Rattle.std.proofs.Common.{◌≡◌, ◌∙◌, ◌≤◌, ◌<◌, ◌^◌, ◌||◌, ℕ, Bool, true, false, inl, inr, refl, sym, ap, ap₂, subst, arith, List, [], ◌∷◌, Option, Some, None, Result, Ok, codes}
-use Rattle.std.specs.Prelude.{option_map, unwrap_or, Box}
-use Rattle.std.specs.Str.{bytes_eq}
-use Rattle.std.specs.Str.Parse.{ParsesUnsigned}
-use Rattle.std.specs.Box.{box_value}
-use Rattle.std.specs.Borrow.{Bor}
-use Rattle.std.proofs.lemmas.Slice.Eq.{bytes_eq-Decides}
-use Rattle.clap.specs.Lexer.{without_minus}
-use Rattle.clap.specs.Kinds.{HasKind, IsAmong, Kinds, or_else}
-use Rattle.clap.specs.Matches.{ReadsOne, found_of, subcommand_name_of}
-use Rattle.clap.specs.Walk.{Row, Text, one_of, rows_of}
+use Rattle.std.proofs.Common.{◌≡◌, ◌∙◌, ◌≤◌, ◌<◌, ◌^◌, ◌||◌, ℕ, Bool, true, false, inl, inr, refl, sym, ap}
+use Rattle.std.proofs.Common.{ap₂, subst, arith, List, [], ◌∷◌, Option, Some, None, Result, Ok, codes}
+use Rattle.std.proofs.Common.{option_map, unwrap_or, Box, bytes_eq, box_value, Bor}
+use Rattle.std.{proofs.lemmas.Slice.Eq.bytes_eq-Decides, specs.Str.Parse.ParsesUnsigned}
+use Rattle.clap.specs.{Lexer.without_minus, Kinds.{HasKind, IsAmong, Kinds, or_else}}
+use Rattle.clap.specs.{Matches.{ReadsOne, found_of, subcommand_name_of}, Walk.{Row, Text, one_of, rows_of}}
 use Rattle.clap.specs.Simple.{App, HasMatchesOf, subcommand_of, subcommand_rows, subcommand_rows_of}
-use Rattle.clap.specs.Faults.{fault_of, is_simple_and_free}
-use Rattle.clap.specs.Words.{first_of}
-use Rattle.clap.specs.declared.error.Error.{Error}
-use Rattle.clap.specs.declared.error.kind.ErrorKind.{ErrorKind}
-use Rattle.clap.specs.declared.parser.matches.ArgMatches.{ArgMatches}
+use Rattle.clap.specs.{Faults.{fault_of, is_simple_and_free}, Words.first_of, declared.error.Error.Error}
+use Rattle.clap.specs.declared.{error.kind.ErrorKind.ErrorKind, parser.matches.ArgMatches.ArgMatches}
 use Rattle.clap.specs.declared.parser.matches.ArgMatches.TheViews.{out-ArgMatches, out-SubCommand}
-use Rattle.clap.specs.declared.parser.matches.SubCommand.{SubCommand}
-use Rattle.clap.proofs.CallerReads.{signed_reads}
-use Rattle.trlab_command_line.specs.Numbers.{GivesFlag, GivesNumber, HasFlagValue, HasValueFrom, MayHaveNumber, flag_text, argument_number, numeral_value, is_true_value}
-use Rattle.trlab_command_line.specs.CommandLine.{command_line}
-use Rattle.trlab_command_line.specs.Explains.{explain_request, request_from_matches}
+use Rattle.clap.{specs.declared.parser.matches.SubCommand.SubCommand, proofs.CallerReads.signed_reads}
+use Rattle.trlab_command_line.specs.CommandLine.{GivesFlag, GivesNumber, HasFlagValue, HasValueFrom}
+use Rattle.trlab_command_line.specs.CommandLine.{MayHaveNumber, flag_text, argument_number, numeral_value}
+use Rattle.trlab_command_line.specs.CommandLine.{is_true_value, command_line, explain_request}
+use Rattle.trlab_command_line.specs.CommandLine.{request_from_matches, IsEntered}
 use Rattle.trlab_command_line.specs.declared.arguments.explain.ExplainRequest.{ExplainRequest}
-use Rattle.trlab_command_line.specs.Requests.{IsEntered}
-use Rattle.trlab_command_line.proofs.CommandLine.{taken}
-use Rattle.trlab_command_line.proofs.Rows.{some_same}
+use Rattle.trlab_command_line.proofs.{CommandLine.taken, Rows.some_same}
 
 -- the command that was entered, of a command that is the whole command line
 entered_of : (app : App) (words : List Text) (m : ArgMatches) → app ≡ command_line → HasMatchesOf app words m → subcommand_rows_of m ≡ subcommand_of command_line words

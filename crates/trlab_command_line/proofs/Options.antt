@@ -1,22 +1,31 @@
 -- The matches of a command whose arguments take one value, or are flags or requests for help: if a parse
 -- finds no fault, each value of an argument has passed the parser of this argument.
-use Rattle.std.proofs.Common.{◌≡◌, ◌∙◌, ◌&&◌, ◌||◌, ◌⊎◌, ℕ, zero, suc, Bool, cond, true, false, not, refl, sym, ap, subst, inl, inr, List, [], ◌∷◌, ◌++◌, length, drop, Option, Some, None, append-nil}
-use Rattle.std.proofs.lemmas.Slice.Eq.{bytes_eq-Decides}
-use Rattle.std.specs.Prelude.{option_and_then, encode_utf8, fold, is_some, find, slice_get}
-use Rattle.std.specs.Option.{option_map_or}
-use Rattle.std.specs.Str.{bytes_eq, chars}
-use Rattle.clap.specs.Lexer.{long_of, short_of}
-use Rattle.clap.specs.Kinds.{or_else, request_kinds}
-use Rattle.clap.specs.Values.{read_as}
-use Rattle.clap.specs.declared.error.kind.ErrorKind.TheVariants.{TooManyValues}
-use Rattle.clap.specs.Walk.{Held, Outcome, Row, Rule, Step, Text, Waiting, Walk, flag_met, has_long, has_short, is_empty, is_pending, pushed, subcommand_or_other, takes_several, to_positional, walked_from, short_met, bundle, short_or_plain, action_of, more_values, without, after_flag, after_step, default_rows, arg_by_id, arg_by_index, arg_by_long, arg_by_short, attached_value, bundle_met, bundle_step, done, has_row, idle, long_met, long_or_other, next, nothing_held, one_of, option, option_met, option_word, plain, plain_word, positional, reacted, reading_by, refused, row_text, rows_after, settled, settled_rows, subcommand, subcommand_met, takes_values, trailing, used, used_by_id, value, waits, walk, walk_from, walked, with_default, with_values, word_met}
-use Rattle.clap.specs.Takes.{value_passes}
-use Rattle.clap.specs.Simple.{Shape}
-use Rattle.clap.specs.Faults.{bundle_fault, bundle_step_fault, default_fault, defaults_fault, flag_word_fault, flags_fault, level_fault, long_fault, option_fault, other_fault, positional_fault, react_fault, settle_fault, short_fault, step_fault, stray_fault, turn_fault, use_fault, values_fault, walk_fault, word_fault}
-use Rattle.clap.specs.declared.parser.matches.ValueSource.{ValueSource}
+use Rattle.std.proofs.Common.{◌≡◌, ◌∙◌, ◌&&◌, ◌||◌, ◌⊎◌, ℕ, zero, suc, Bool, cond, true, false, not, refl}
+use Rattle.std.proofs.Common.{sym, ap, subst, inl, inr, List, [], ◌∷◌, ◌++◌, length, drop, Option, Some, None}
+use Rattle.std.proofs.Common.{append-nil, option_and_then, encode_utf8, fold, is_some, find, slice_get}
+use Rattle.std.{proofs.{Common.bytes_eq, lemmas.Slice.Eq.bytes_eq-Decides}, specs.Option.option_map_or}
+use Rattle.std.specs.Str.{chars}
+use Rattle.clap.specs.{Lexer.{long_of, short_of}, declared.error.kind.ErrorKind.TheVariants.TooManyValues}
+use Rattle.clap.specs.{Kinds.{or_else, request_kinds}, declared.parser.matches.ValueSource.ValueSource}
+use Rattle.clap.specs.{Values.read_as, Walk.{with_default, with_values, word_met}, Takes.value_passes}
 use Rattle.clap.specs.declared.parser.matches.ValueSource.TheVariants.{CommandLine, DefaultValue}
-use Rattle.trlab_command_line.proofs.Rows.{Each, found_holds, none_fails, not_empty, some_same, at_end, has_more, has_last, same_id}
-use Rattle.trlab_command_line.proofs.Uses.{TakesOne, IsFlag, IsHelp, help_fault, UsesOne, values_pass, one_use, flag_use, used_so, one_used, flag_used}
+use Rattle.clap.specs.Walk.{Held, Outcome, Row, Rule, Step, Text, Waiting, Walk, flag_met, has_long}
+use Rattle.clap.specs.Walk.{has_short, is_empty, is_pending, pushed, subcommand_or_other, takes_several}
+use Rattle.clap.specs.Walk.{to_positional, walked_from, short_met, bundle, short_or_plain, action_of}
+use Rattle.clap.specs.Walk.{more_values, without, after_flag, after_step, default_rows, arg_by_id}
+use Rattle.clap.specs.Walk.{arg_by_index, arg_by_long, arg_by_short, attached_value, bundle_met, bundle_step}
+use Rattle.clap.specs.Walk.{done, has_row, idle, long_met, long_or_other, next, nothing_held, one_of, option}
+use Rattle.clap.specs.Walk.{option_met, option_word, plain, plain_word, positional, reacted, reading_by}
+use Rattle.clap.specs.Walk.{refused, row_text, rows_after, settled, settled_rows, subcommand, subcommand_met}
+use Rattle.clap.specs.Walk.{takes_values, trailing, used, used_by_id, value, waits, walk, walk_from, walked}
+use Rattle.clap.specs.{Simple.Shape, Faults.{flags_fault, level_fault, long_fault, option_fault, other_fault}}
+use Rattle.clap.specs.Faults.{bundle_fault, bundle_step_fault, default_fault, defaults_fault, flag_word_fault}
+use Rattle.clap.specs.Faults.{positional_fault, react_fault, settle_fault, short_fault, step_fault}
+use Rattle.clap.specs.Faults.{stray_fault, turn_fault, use_fault, values_fault, walk_fault, word_fault}
+use Rattle.trlab_command_line.proofs.Rows.{Each, found_holds, none_fails, not_empty, some_same, at_end}
+use Rattle.trlab_command_line.proofs.Rows.{has_more, has_last, same_id}
+use Rattle.trlab_command_line.proofs.Uses.{TakesOne, IsFlag, IsHelp, help_fault, UsesOne, values_pass}
+use Rattle.trlab_command_line.proofs.Uses.{one_use, flag_use, used_so, one_used, flag_used}
 
 -- an argument of one of these kinds, whose id no other argument of the command has
 abbrev pub Known : List Rule → Rule → Type 0

@@ -1,11 +1,7 @@
 -- Rows of matches by their ids, lists of kinds of errors, and searching a list.
-use Rattle.std.proofs.Common.{◌≡◌, ◌||◌, Bool, cond, true, false, refl, ap, subst, arith, List, [], ◌∷◌, ◌++◌, Some}
-use Rattle.std.proofs.lemmas.Slice.Eq.{bytes_eq-Decides}
-use Rattle.std.specs.Prelude.{find, unwrap_or}
-use Rattle.std.specs.Str.{bytes_eq}
-use Rattle.std.proofs.lemmas.Bool.{ne_eqb}
-use Rattle.clap.specs.Kinds.{Kinds, or_else}
-use Rattle.clap.specs.Walk.{Row, Text, is_empty, at_row, has_row}
+use Rattle.std.proofs.Common.{◌≡◌, ◌||◌, Bool, cond, true, false, refl, ap, subst, arith, List, [], ◌∷◌, ◌++◌}
+use Rattle.std.proofs.{Common.{Some, find, unwrap_or, bytes_eq, ne_eqb}, lemmas.Slice.Eq.bytes_eq-Decides}
+use Rattle.clap.specs.{Kinds.{Kinds, or_else}, Walk.{Row, Text, is_empty, at_row, has_row}}
 
 -- the kinds of the first step that fails: an empty list if no step fails
 pub none_fails : (a b : Kinds) → or_else a b ≡ [] → (a ≡ []) × (b ≡ [])

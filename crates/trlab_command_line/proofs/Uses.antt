@@ -1,17 +1,13 @@
 -- One use of an argument that takes one value, or is a flag or a request for help: if it is not a fault, it
 -- gives one value, which has passed the argument's parser.
-use Rattle.std.proofs.Common.{◌≡◌, ◌&&◌, ℕ, zero, suc, Bool, cond, true, false, refl, arith, List, [], ◌∷◌, length, Some}
-use Rattle.std.specs.Prelude.{◌==◌}
-use Rattle.std.proofs.lemmas.Bool.{ne_eqb}
-use Rattle.clap.specs.Kinds.{Kinds, range_kinds}
-use Rattle.clap.specs.Values.{refused_kind}
-use Rattle.clap.specs.declared.error.kind.ErrorKind.TheVariants.{ArgumentConflict}
-use Rattle.clap.specs.Walk.{Row, Rule, Text, action_of, most_values, values_or_missing, without, has_row, reading_by, used, with_values}
-use Rattle.clap.specs.Takes.{value_passes}
+use Rattle.std.proofs.Common.{◌≡◌, ◌&&◌, ℕ, zero, suc, Bool, cond, true, false, refl, arith, List, [], ◌∷◌}
+use Rattle.std.proofs.Common.{length, Some, ◌==◌, ne_eqb}
+use Rattle.clap.specs.{Kinds.{Kinds, range_kinds}, declared.error.kind.ErrorKind.TheVariants.ArgumentConflict}
+use Rattle.clap.specs.{Values.refused_kind, declared.parser.matches.ValueSource.TheVariants.CommandLine}
+use Rattle.clap.specs.{declared.builder.action.ArgAction.TheVariants.{Set, SetTrue, Help}, Takes.value_passes}
+use Rattle.clap.specs.Walk.{Row, Rule, Text, action_of, most_values, values_or_missing, without, has_row}
+use Rattle.clap.specs.{Walk.{reading_by, used, with_values}, Facts.{parser_of_value, unwrap_or_range}}
 use Rattle.clap.specs.Faults.{action_fault, repeat_fault, set_fault, use_fault, values_fault}
-use Rattle.clap.specs.Facts.{parser_of_value, unwrap_or_range}
-use Rattle.clap.specs.declared.builder.action.ArgAction.TheVariants.{Set, SetTrue, Help}
-use Rattle.clap.specs.declared.parser.matches.ValueSource.TheVariants.{CommandLine}
 use Rattle.trlab_command_line.proofs.Rows.{none_fails}
 
 -- an argument that takes one value per use, and is used once

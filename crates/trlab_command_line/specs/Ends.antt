@@ -1,17 +1,69 @@
--- The end of a command: its exit status, and what it has read and written.
-use Rattle.std.specs.Prelude.{◌≡◌, ◌↔◌, ◌⊎◌, ◌||◌, ℕ, List, true, false}
-use Rattle.clap.specs.declared.error.kind.ErrorKind.{ErrorKind}
+-- The end of a command: its output, its exit status, and what it has read and written.
+use Rattle.std.specs.Prelude.{◌≡◌, ℕ, List, false, Bool, true, if◌then◌else◌, ◌↔◌, ◌⊎◌, ◌||◌}
+use Rattle.trlab_campaign.specs.{CheckOutput.IsCheckOutput, SweepOutput.IsSweepOutput, Device.FlushedOnce}
+use Rattle.trlab_campaign.specs.{Output.{Outputs, IsShownOutput, every_from}, Writers.{AddsNone, bytes_of}}
+use Rattle.trlab_campaign.specs.{SeriesOutput.IsSeriesOutput, Ending.{EngineEnds, LeavesWriter, WroteAtEnd}}
+use Rattle.trlab_campaign.specs.declared.end.End.{End, TheVariants.{Done, Refused, Memory, DeviceFault}}
 use Rattle.trlab_campaign.specs.declared.device.Sink as Sink
 use Rattle.trlab_campaign.specs.declared.device.Source as Source
-use Rattle.trlab_campaign.specs.declared.end.End.{End}
-use Rattle.trlab_campaign.specs.declared.end.End.TheVariants.{DeviceFault, Memory}
-use Rattle.trlab_campaign.specs.Ending.{EngineEnds, LeavesWriter, WroteAtEnd}
-use Rattle.trlab_campaign.specs.Flushes.{FlushedOnce}
-use Rattle.trlab_campaign.specs.Writers.{AddsNone, bytes_of}
-use Rattle.trlab_command_line.specs.declared.arguments.Request.{Request}
-use Rattle.trlab_command_line.specs.Outputs.{output_of}
-use Rattle.trlab_command_line.specs.Requests.{reads_input, writes_at_once}
-use Rattle.trlab_command_line.specs.Statuses.{asks_for_help, status_of_end, status_of_error, status_of_print}
+use Rattle.trlab_explain.specs.Explanations.{Explains, IsNumberPage}
+use Rattle.trlab_command_line.specs.declared.arguments.explain.ExplainRequest.TheVariants.{Number, Text}
+use Rattle.trlab_command_line.specs.declared.arguments.Request.{Request, TheVariants.{Check, Explain, Run}}
+use Rattle.trlab_command_line.specs.declared.arguments.Request.TheVariants.{Series, Sweep}
+use Rattle.trlab_command_line.specs.CommandLine.{reads_input, writes_at_once}
+use Rattle.clap.specs.declared.error.kind.ErrorKind.{ErrorKind}
+use Rattle.clap.specs.declared.error.kind.ErrorKind.TheVariants.{DisplayHelp, DisplayVersion, OutOfMemory}
+
+-- The outputs of the commands.
+
+-- the complete outputs of a command for a text on standard input: `check` writes a verdict, `run` the
+-- pictures of a job at the steps that are shown, `sweep` a table of points, `series` a table of windows, and
+-- `explain` an explanation of the text or of a number. They do not depend on the numbers of workers and
+-- runners
+abbrev pub output_of : Request → List ℕ → Outputs
+output_of Check text = IsCheckOutput text
+output_of (Run workers every from progress) text = IsShownOutput (every_from every from) text
+output_of (Sweep runners workers progress) text = IsSweepOutput text
+output_of (Series workers every from progress) text = IsSeriesOutput every from text
+output_of (Explain (Text subject form)) text = Explains form subject text
+output_of (Explain (Number topic number)) text = IsNumberPage topic number
+
+-- the output if help or the version is asked for: any text; it does not count as the rejection of an input
+abbrev pub IsHelp : Outputs
+IsHelp rejected text = rejected ≡ false
+
+-- The exit statuses.
+
+-- the exit status of a command, from its end: 0 if the output for a valid input is complete, 1 if the output
+-- for a rejected input is complete, 3 if an allocation failed, and 4 if reading or writing failed
+abbrev pub status_of_end : End → ℕ
+status_of_end Done = 0
+status_of_end Refused = 1
+status_of_end Memory = 3
+status_of_end DeviceFault = 4
+
+-- is `clap`'s error that help or the version was asked for?
+abbrev pub asks_for_help : ErrorKind → Bool
+asks_for_help DisplayHelp = true
+asks_for_help DisplayVersion = true
+asks_for_help _ = false
+
+-- the exit status for `clap`'s error: 0 for help or the version, 3 if an allocation failed, and otherwise 2,
+-- because the arguments are rejected
+abbrev pub status_of_error : ErrorKind → ℕ
+status_of_error DisplayHelp = 0
+status_of_error DisplayVersion = 0
+status_of_error OutOfMemory = 3
+status_of_error _ = 2
+
+-- the exit status after `clap`'s text was printed: 4 if help or the version was asked for and the writer
+-- failed, and otherwise the status of `clap`'s error
+abbrev pub status_of_print : ErrorKind → Bool → ℕ
+status_of_print DisplayHelp failed = if failed then 4 else 0
+status_of_print DisplayVersion failed = if failed then 4 else 0
+status_of_print kind failed = status_of_error kind
+
+-- The end of a command: its exit status, and what it has read and written.
 
 -- the end of a request: `before` and `after` are the reader, `old` and `new` the writer
 pub record RequestEnds {S K : Type 0} (source : Source.Ghosts S) (sink : Sink.Ghosts K)

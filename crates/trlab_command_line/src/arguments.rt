@@ -7,9 +7,8 @@ mod options;
 
 ghost use Rattle.std.specs.Prelude.{◌≡◌, ◌∷◌, [], IfOk, None, Some, false, map, codes, string_bytes};
 ghost use Rattle.clap.specs.Words.{FailsBy, found_of, rows_of, subcommand_of};
-ghost use Rattle.trlab_command_line.specs.CommandLine.{command_line};
-ghost use Rattle.trlab_command_line.specs.Explains.{explain_arguments_fault};
-ghost use Rattle.trlab_command_line.specs.Requests.{FitsEngines, IsEntered, IsNamedFirst, IsRequestOf, arguments_fault};
+ghost use Rattle.trlab_command_line.specs.CommandLine.{command_line, explain_arguments_fault};
+ghost use Rattle.trlab_command_line.specs.CommandLine.{FitsEngines, IsEntered, IsNamedFirst, IsRequestOf, arguments_fault};
 ghost use Rattle.trlab_command_line.specs.declared.arguments.explain.ExplainRequest.TheVariants.{Text};
 ghost use Rattle.trlab_explain.specs.declared.explain.Form.TheVariants.{Text as Lines};
 

@@ -1,7 +1,7 @@
 //! Carries out a request: an engine runs from a reader to a writer, or a page is written.
 
 ghost use Rattle.std.specs.Prelude.{◌≡◌, false};
-ghost use Rattle.trlab_command_line.specs.Requests.{FitsEngines};
+ghost use Rattle.trlab_command_line.specs.CommandLine.{FitsEngines};
 ghost use Rattle.trlab_command_line.specs.Ends.{RequestEnds};
 
 use crate::{ExplainRequest, Request};

@@ -2,11 +2,11 @@
 
 /// The purpose of `trlab`.
 pub const ABOUT: &str =
-    "Simulates road traffic with cellular automata, and verifies the driver programs it runs";
+    "Simulates road traffic with cellular automata, and verifies its driver programs";
 
 /// The program's version, and on a second line the logic in which it is proved. Several kits of the toolchain
 /// share one logic.
-pub const VERSION: &str = "0.7.2
+pub const VERSION: &str = "0.7.3
 proved in logic dac8208d650f15bf";
 
 /// Below the list of commands: examples, exit statuses, and further reading.
@@ -23,7 +23,7 @@ If trlab rejects your input, it prints `fault line N cause K`. To see why:
 
 Exit statuses:
   0  done
-  1  the input or the program is rejected: standard output has the line and the error
+  1  the input or the program is rejected: see the line on standard output
   2  the command line is invalid
   3  out of memory
   4  reading or writing failed
@@ -59,7 +59,8 @@ Standard output:
   docs/ERRORS.md.
 
 Example:
-  printf 'motion\\nget r0, speed\\nget r1, gap\\nmin r0, r0, r1\\ngo r0\\n' | trlab check",
+  printf 'motion\\nget r0, speed\\nget r1, gap\\nmin r0, r0, r1\\ngo r0\\n' |
+    trlab check",
 };
 
 pub const RUN: Help = Help {
@@ -75,7 +76,8 @@ Standard output:
   any other character is a car and its speed: 0 to 9, then a (10) to z (35).
   With `--every n` and `--from s` only the steps s, s + n, s + 2n and so on.
   Or `fault line N cause K` if the input is rejected: `trlab explain run < FILE`
-  explains the problem. File format: docs/FILES.md; causes: docs/ERRORS.md.
+  explains the problem. The option `--workers` does not change the output. File
+  format: docs/FILES.md; causes: docs/ERRORS.md.
 
 Example:
   trlab run < examples/two_cars.job",
@@ -94,8 +96,9 @@ Standard output:
   CSV, one row per road. Columns: cars, cells, steps (measured), distance
   (total cells travelled), stopped (car-steps at speed 0), changes (lane
   changes), flow (cars passing a cell per step, in millionths). Or `fault line
-  N cause K` if the input is rejected. File format: docs/FILES.md; causes:
-  docs/ERRORS.md; whole studies: docs/STUDIES.md.
+  N cause K` if the input is rejected. The options `--runners` and `--workers`
+  do not change the output. File format: docs/FILES.md; causes: docs/ERRORS.md;
+  whole studies: docs/STUDIES.md.
 
 Example:
   trlab sweep < examples/fundamental_diagram.sweep > flow.csv
@@ -124,17 +127,20 @@ Standard input:
 Standard output:
   CSV, one row per window of `--every` steps, starting at step `--from`. Each
   row is written as soon as its window is complete. Columns: step (at the end
-  of the window), then the columns of `trlab sweep`, then cars, distance and
-  stopped for lane 0 and for lane 1. Steps after the last complete window are
-  not counted. Or `fault line N cause K` if the input is rejected: `trlab
-  explain run < FILE` explains the problem. Details: docs/FILES.md.
+  of the window), cars, cells, steps, distance (total cells travelled), stopped
+  (car-steps at speed 0), changes (lane changes), flow (cars passing a cell per
+  step, in millionths), then cars, distance and stopped for lane 0 and for lane
+  1. Steps after the last complete window are not counted. Or `fault line N
+  cause K` if the input is rejected: `trlab explain run < FILE` explains the
+  problem. The option `--workers` does not change the output. Details:
+  docs/FILES.md.
 
 Example:
   trlab series --every 10 < examples/overtaking.job",
 };
 
 /// The option `--every` of `run`.
-pub const SHOWN_EVERY_HELP: &str = "Steps from one printed road to the next, 1 to 500000";
+pub const SHOWN_EVERY_HELP: &str = "Steps between printed roads, 1 to 500000";
 
 /// The option `--from` of `run`.
 pub const SHOWN_FROM_HELP: &str = "First step to print, 0 to 500000";
@@ -143,19 +149,17 @@ pub const SHOWN_FROM_HELP: &str = "First step to print, 0 to 500000";
 pub const EVERY_HELP: &str = "Steps per window, 1 to 500000";
 
 /// The option `--from` of `series`.
-pub const FROM_HELP: &str = "Step at which the first window starts, 0 to 500000";
+pub const FROM_HELP: &str = "Start of the first window, 0 to 500000";
 
-pub const WORKERS_HELP: &str = "Threads per road, 1 to 16; does not change the output";
+pub const WORKERS_HELP: &str = "Maximum number of threads per road, 1 to 16";
 
 /// The option `--runners` of `sweep`.
-pub const RUNNERS_HELP: &str =
-    "Roads computed at the same time, 1 to 16; does not change the output";
+pub const RUNNERS_HELP: &str = "Roads computed at the same time, 1 to 16";
 
 pub const PROGRESS_HELP: &str = "Report progress on standard error";
 
 /// The first argument of `explain`.
-pub const WHAT_HELP: &str =
-    "Read the input as for this command: run, sweep or check; or cause or reason";
+pub const WHAT_HELP: &str = "Read the input as for run, sweep or check; or cause or reason";
 
 /// The second argument of `explain`.
 pub const NUMBER_HELP: &str = "Error number, for cause or reason";
@@ -164,7 +168,7 @@ pub const NUMBER_HELP: &str = "Error number, for cause or reason";
 pub const JSON_HELP: &str = "Print one JSON object, for other programs";
 
 pub const EXPLAIN: Help = Help {
-    about: "Explain the error in an input and how to fix it, or the work of a valid one",
+    about: "Explain an error and how to fix it, or summarize a valid input",
     usage: "\
 trlab explain [--json] [run|sweep|check] < FILE
        trlab explain cause K
@@ -178,9 +182,9 @@ Standard input:
 Standard output:
   For a rejected input: the error, the offending line, the expected lines, the
   problem, and often a fix (each fix shown has been tested). For a valid input:
-  its road, rules, work and output. Bytes that are not printable ASCII are shown as \\x and
-  two hexadecimal digits. With `--json` the same facts in one JSON object on one
-  line; its members are in docs/FILES.md.
+  its road, rules, work and output. Bytes that are not printable ASCII are shown
+  as \\x and two hexadecimal digits. With `--json` the same facts in one JSON
+  object on one line; its members are in docs/FILES.md.
 
   `explain cause K` and `explain reason R` read nothing. They explain the
   error number K of `fault line N cause K`, or R of `refused at N reason R`.

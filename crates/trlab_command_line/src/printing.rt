@@ -6,9 +6,7 @@ ghost use Rattle.clap.specs.Words.{kind_of};
 ghost use Rattle.trlab_campaign.specs.Ending.{WroteAtEnd, LeavesWriter};
 ghost use Rattle.trlab_campaign.specs.Writers.{AddsNone, bytes_of};
 ghost use Rattle.trlab_campaign.specs.declared.end.End.TheVariants.{Memory};
-ghost use Rattle.trlab_command_line.specs.Outputs.{IsHelp};
-ghost use Rattle.trlab_command_line.specs.Ends.{PrintEnds};
-ghost use Rattle.trlab_command_line.specs.Statuses.{status_of_end, status_of_error};
+ghost use Rattle.trlab_command_line.specs.Ends.{IsHelp, PrintEnds, status_of_end, status_of_error};
 
 use clap::Error;
 use clap::error::ErrorKind;
@@ -52,18 +50,38 @@ fn write_help<K: Sink>(alloc: Global, error: &Error, writer: &mut K) -> End
 /// The commands that read standard input and take no file name.
 const INPUT_COMMANDS: [&[u8]; 4] = [b"check", b"run", b"sweep", b"series"];
 
-/// The options whose value is the next argument.
-const OPTIONS_WITH_VALUE: [&[u8]; 4] = [b"--workers", b"--runners", b"--every", b"--from"];
+/// The options whose value is a number, and its range in words. The value is the next argument, or follows after `=`.
+const NUMBER_OPTIONS: [(&str, &str); 4] = [
+    ("--workers", "1 to 16"),
+    ("--runners", "1 to 16"),
+    ("--every", "1 to 500000"),
+    ("--from", "0 to 500000"),
+];
+
+/// The bytes of an argument after the name of an option whose value is a number, if it begins with one.
+fn after_number_option(word: &[u8]) -> Option<&[u8]> {
+    for (option, _) in &NUMBER_OPTIONS {
+        if let Some(rest) = word.strip_prefix(option.as_bytes()) {
+            return Some(rest);
+        }
+    }
+    None
+}
 
 /// The first of a command's arguments that is neither an option nor an option's value. It is probably a file name.
+/// `None` if an unknown option comes before it, because it may be that option's value.
 fn file_name(arguments: &[String]) -> Option<&str> {
     let mut is_value = false;
     for argument in arguments {
         let word = argument.as_bytes();
-        if !is_value && word.first() != Some(&b'-') {
-            return Some(argument);
+        match after_number_option(word) {
+            Some(rest) if rest.is_empty() => is_value = true,
+            _ if is_value => is_value = false,
+            _ if word.first() != Some(&b'-') => return Some(argument),
+            Some(rest) if rest.first() == Some(&b'=') => {}
+            _ if word == b"--progress".as_slice() => {}
+            _ => return None,
         }
-        is_value = OPTIONS_WITH_VALUE.contains(&word);
     }
     None
 }
@@ -75,6 +93,21 @@ fn suggest_redirection<R: AllocGlobal + Eprint>(rt: &R, arguments: &[String]) {
         && let Some(name) = file_name(rest)
     {
         let _ = eprintln!(rt; "trlab reads standard input. Type: trlab {command} < {name}");
+    }
+}
+
+/// Prints on standard error the range of the number of an option, if `clap` rejects that number.
+fn print_range<R: AllocGlobal + Eprint>(rt: &R, error: &Error) {
+    if error.kind() != ErrorKind::ValueValidation {
+        return;
+    }
+    let Ok(text) = error.to_string(rt.alloc()) else {
+        return;
+    };
+    for (option, range) in &NUMBER_OPTIONS {
+        if text.as_str().contains(*option) {
+            let _ = eprintln!(rt; "{option} must be {range}.");
+        }
     }
 }
 
@@ -96,6 +129,7 @@ pub fn print_help_or_error<R: AllocGlobal + Eprint, K: Sink>(
         ErrorKind::OutOfMemory => status_of_end(End::Memory),
         _ => {
             let _ = rt.eprint(error);
+            print_range(rt, error);
             suggest_redirection(rt, arguments);
             status_of_error(error)
         }

@@ -1,20 +1,14 @@
 -- The output of the writer for fields that need no quotes.
-use Rattle.std.proofs.Common.{◌≡◌, ℕ, ◌<◌, ◌≤◌, ◌^◌, List, [], ◌∷◌, ◌++◌, map, refl, arith, false, append-nil, append_assoc, ◌+◌, length, take, get_or, rules}
-use Rattle.std.specs.Prelude.{⊤, decimal, codes}
-use Rattle.std.specs.List.{join_with_byte}
-use Rattle.std.specs.Str.Parse.{AllDigits}
-use Rattle.std.proofs.lemmas.Fmt.{decimal_is_IsNumeral_wide}
-use Rattle.std.proofs.lemmas.Str.Parse.{digit_from_value}
-use Rattle.std.proofs.lemmas.Bool.{ne_eqb}
-use Rattle.std.proofs.lemmas.List.{take_more, map-append}
-use Rattle.std.proofs.lemmas.Grind.{flat_map-append}
+use Rattle.std.proofs.Common.{◌≡◌, ℕ, ◌<◌, ◌≤◌, ◌^◌, List, [], ◌∷◌, ◌++◌, map, refl, arith, false, append-nil}
+use Rattle.std.proofs.Common.{append_assoc, ◌+◌, length, take, get_or, rules, decimal, codes, ne_eqb}
+use Rattle.std.proofs.lemmas.{Fmt.decimal_is_IsNumeral_wide, Str.Parse.digit_from_value}
+use Rattle.std.{proofs.lemmas.{List.{take_more, map-append}, Grind.flat_map-append}, specs.Prelude.{⊤}}
+use Rattle.std.specs.{List.join_with_byte, Str.Parse.AllDigits}
 use Rattle.csv.specs.Writing.{default_writer, row_text, row_body, needs_quotes, fields_text, is_blank}
 use Rattle.csv.specs.Quoting.{needs_byte}
-use Rattle.trlab_diagram.specs.declared.point.Point.{Point}
-use Rattle.trlab_diagram.specs.Flow.{flow_of}
-use Rattle.trlab_diagram.specs.declared.point.Window.{Window}
-use Rattle.trlab_diagram.specs.Series.{series_heading, window_line, window_columns}
-use Rattle.trlab_diagram.specs.Table.{points_heading, point_columns, point_line, line_text, points_text}
+use Rattle.trlab_diagram.specs.declared.point.{Point.Point, Window.Window}
+use Rattle.trlab_diagram.specs.Tables.{flow_of, series_heading, window_line, window_columns, points_heading}
+use Rattle.trlab_diagram.specs.Tables.{point_columns, point_line, line_text, points_text}
 
 -- none of these fields needs quotes
 abbrev ArePlain : List (List ℕ) → Type 0

@@ -1,15 +1,10 @@
 -- The bytes of a table determine its points.
-use Rattle.std.proofs.Common.{◌≡◌, ℕ, ◌<◌, ◌≤◌, ◌^◌, List, [], ◌∷◌, ◌++◌, map, All, refl, sym, ◌∙◌, arith, rules, append_assoc}
-use Rattle.std.specs.Prelude.{decimal, flat_map}
-use Rattle.std.specs.Str.Parse.{AllDigits}
-use Rattle.std.proofs.lemmas.List.{append_cancel_left}
-use Rattle.std.proofs.lemmas.List.Elements.{All-head, All-tail}
-use Rattle.std.proofs.lemmas.Fmt.{decimal_is_IsNumeral, decimal_injective}
-use Rattle.std.proofs.lemmas.Str.Parse.{digit_from_value}
-use Rattle.trlab_diagram.specs.declared.point.Point.{Point}
-use Rattle.trlab_diagram.specs.Flow.{flow_of}
-use Rattle.trlab_diagram.specs.Table.{points_heading, line_text, point_line}
-use Rattle.trlab_diagram.specs.Laws.{CountsFit64Bits, TableDeterminesPoints}
+use Rattle.std.proofs.Common.{◌≡◌, ℕ, ◌<◌, ◌≤◌, ◌^◌, List, [], ◌∷◌, ◌++◌, map, All, refl, sym, ◌∙◌, arith}
+use Rattle.std.proofs.{Common.{rules, append_assoc, decimal, flat_map}, lemmas.List.append_cancel_left}
+use Rattle.std.proofs.lemmas.{List.Elements.{All-head, All-tail}, Fmt.decimal_is_IsNumeral}
+use Rattle.std.{proofs.lemmas.{Fmt.decimal_injective, Str.Parse.digit_from_value}, specs.Str.Parse.AllDigits}
+use Rattle.trlab_diagram.specs.{declared.point.Point.Point, Tables.{flow_of, points_heading, line_text}}
+use Rattle.trlab_diagram.specs.{Tables.point_line, Laws.{CountsFit64Bits, TableDeterminesPoints}}
 
 -- digits end at a comma
 cut : (xs us ys vs : List ℕ) → AllDigits 10 xs → AllDigits 10 us → xs ++ (44 ∷ ys) ≡ us ++ (44 ∷ vs) → (xs ≡ us) × (ys ≡ vs)
@@ -81,6 +76,6 @@ same_rows (p ∷ points) (q ∷ others) ps qs e =
     let rest = same_rows points others (All-tail CountsFit64Bits p points ps) (All-tail CountsFit64Bits q others qs) first.1 in
     cc (first.0, rest)
 
-pub table_tells_points : TableDeterminesPoints
-table_tells_points points others ps qs e =
+pub table_determines_points : TableDeterminesPoints
+table_determines_points points others ps qs e =
     same_rows points others ps qs (append_cancel_left (line_text points_heading) (rows points) (rows others) e)

@@ -1,7 +1,6 @@
 -- Laws of tables.
 use Rattle.std.specs.Prelude.{◌≡◌, ◌<◌, ◌^◌, List, All}
-use Rattle.trlab_diagram.specs.declared.point.Point.{Point}
-use Rattle.trlab_diagram.specs.Table.{points_text}
+use Rattle.trlab_diagram.specs.{declared.point.Point.Point, Tables.points_text}
 
 -- each count of the point is below 2^64
 pub record CountsFit64Bits (point : Point) : Type 0 where

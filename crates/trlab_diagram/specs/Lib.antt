@@ -1,5 +1,2 @@
-pub mod Flow
-pub mod Table
-pub mod Series
-pub mod Writers
+pub mod Tables
 pub mod Laws

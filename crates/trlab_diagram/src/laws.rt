@@ -5,6 +5,6 @@
 ghost use Rattle.trlab_diagram.specs.Laws.{TableDeterminesPoints};
 
 /// A table determines its points: different lists of points have different tables.
-pub fn table_tells_points()
+pub fn table_determines_points()
     ensures { TableDeterminesPoints }
 {}

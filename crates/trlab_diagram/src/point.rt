@@ -1,7 +1,7 @@
 //! The counts of a road: points of the diagram with the flow at each, and windows of a series.
 
 ghost use Rattle.std.specs.Prelude.{◌≡◌};
-ghost use Rattle.trlab_diagram.specs.Flow.{IsMeasured, flow_of};
+ghost use Rattle.trlab_diagram.specs.Tables.{IsMeasured, flow_of};
 
 /// A point of the fundamental diagram: the counts of a road over some steps.
 ///
@@ -16,7 +16,7 @@ pub struct Point {
     pub steps: u64,
     /// The sum of the speeds of all cars in all these steps, in cells.
     pub distance: u64,
-    /// How many times a car had speed 0, over all these steps.
+    /// The number of car-steps with speed 0: a car counts once for each step after which it is stopped.
     pub stopped: u64,
     /// The number of lane changes in all these steps.
     pub changes: u64,
@@ -33,14 +33,15 @@ pub fn flow(point: &Point) -> u128
     u128::from(point.distance) * 1_000_000 / (u128::from(point.cells) * u128::from(point.steps))
 }
 
-/// The counts of a lane, summed over the roads after each of some steps.
+/// The counts of a lane, summed over the roads after each of some steps. A car that is on the lane after three of these
+/// steps counts three times, so `cars` and `stopped` are car-steps.
 #[derive(Clone, Copy, Debug, PartialEq, Eq)]
 pub struct LaneCount {
-    /// The number of cars on the lane.
+    /// The number of car-steps on the lane.
     pub cars: u64,
-    /// The sum of their speeds, in cells.
+    /// The sum of the speeds in these car-steps, in cells.
     pub distance: u64,
-    /// The number of cars on the lane with speed 0.
+    /// The number of these car-steps with speed 0.
     pub stopped: u64,
 }
 

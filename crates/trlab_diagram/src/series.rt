@@ -3,10 +3,8 @@
 ghost use Rattle.std.specs.Prelude.{◌≡◌, ◌++◌, ◌<◌, ◌^◌, [], All, map, decimal, IfOk, OnOk};
 ghost use Rattle.csv.specs.Records.{fields_of, partial_of};
 ghost use Rattle.csv.specs.Writing.{default_writer, row_text};
-ghost use Rattle.trlab_diagram.specs.Flow.{IsMeasured};
-ghost use Rattle.trlab_diagram.specs.Series.{series_heading, window_line, window_text};
-ghost use Rattle.trlab_diagram.specs.Table.{line_text};
-ghost use Rattle.trlab_diagram.specs.Writers.{IsAtLineStart};
+ghost use Rattle.trlab_diagram.specs.Tables.{IsMeasured, series_heading, window_line, window_text, line_text};
+ghost use Rattle.trlab_diagram.specs.Tables.{IsAtLineStart};
 
 use crate::point::{Window, flow};
 use crate::table::DiagramFault;

@@ -3,8 +3,7 @@
 ghost use Rattle.std.specs.Prelude.{◌≡◌, All, IfOk};
 ghost use Rattle.csv.specs.Records.{fields_of};
 ghost use Rattle.csv.specs.Writing.{default_writer, row_text};
-ghost use Rattle.trlab_diagram.specs.Flow.{IsMeasured};
-ghost use Rattle.trlab_diagram.specs.Table.{points_heading, line_text, point_line, points_text};
+ghost use Rattle.trlab_diagram.specs.Tables.{IsMeasured, points_heading, line_text, point_line, points_text};
 
 use crate::point::{Point, flow};
 use csv::{ByteRecord, Writer};

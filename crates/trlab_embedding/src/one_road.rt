@@ -5,7 +5,7 @@ ghost use Rattle.std.specs.Prelude.{◌≡◌, IfSome};
 use std::alloc::{AllocGlobal, Global};
 use trlab_road::Road;
 use trlab_rules::nasch;
-use trlab_step::{Caller, Run, Schedule};
+use trlab_step::{Caller, Run, RunSheet};
 use trlab_words::{Chance, Key};
 
 const STEPS: u32 = 4;
@@ -22,9 +22,9 @@ fn new_run(alloc: Global) -> Option<Run>
 {
     let rule = nasch(alloc, Chance::new(0)?).ok()?;
     let road = Road::parse(alloc, LIMIT, &LANES).ok()?;
-    let schedule = Schedule::new(rule, Vec::new(alloc));
+    let sheet = RunSheet::new(rule, Vec::new(alloc));
     let (key, number, warm) = (Key([0; 32]), 0, 0);
-    Some(Run::new(alloc, key, number, warm, road, schedule))
+    Some(Run::new(alloc, key, number, warm, road, sheet))
 }
 
 /// Prints the picture of each lane of a road.

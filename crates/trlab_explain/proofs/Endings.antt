@@ -1,29 +1,17 @@
 -- How explanations end, by the output that was written.
-use Rattle.std.proofs.Common.{◌≡◌, ◌<◌, ℕ, List, [], ◌∷◌, length, refl, subst, Bool, true, inl, inr}
-use Rattle.std.proofs.lemmas.Bool.{lt-ltb}
-use Rattle.std.specs.Prelude.{Option, None, Some, Result, Ok, Err, IfOk, MatchOption, MatchResult}
+use Rattle.std.proofs.Common.{◌≡◌, ◌<◌, ℕ, List, [], ◌∷◌, length, refl, subst, Bool, true, inl, inr, lt-ltb}
+use Rattle.std.proofs.Common.{Option, None, Some, Result, Ok, Err, IfOk, MatchOption, MatchResult}
 use Rattle.trlab_lines.specs.Lines.{lines_of}
 use Rattle.trlab_bounds.specs.declared.texts.TheConstants.{TEXT_LIMIT}
-use Rattle.trlab_texts.specs.Words.{head_word}
-use Rattle.trlab_texts.specs.Reading.{Fault}
-use Rattle.trlab_jobs.specs.Job.{Job as JobSaid}
-use Rattle.trlab_jobs.specs.Check.{Check as CheckSaid}
-use Rattle.trlab_jobs.specs.Sweep.{Sweep as SweepSaid}
-use Rattle.trlab_texts.specs.declared.fault.Cause.TheVariants.{TooBig}
-use Rattle.trlab_campaign.specs.declared.end.End.{End}
-use Rattle.trlab_campaign.specs.declared.end.End.TheVariants.{Memory}
-use Rattle.trlab_campaign.specs.Ending.{WroteAtEnd, WroteOutputAtEnd}
-use Rattle.trlab_campaign.specs.Device.{IsInputOrTooLong}
-use Rattle.trlab_campaign.specs.Refusal.{Outputs, fault_line}
-use Rattle.trlab_campaign.specs.Writers.{SinkBytes, AddsNone}
-use Rattle.trlab_campaign.proofs.Endings.{output_ends, kept_at_memory}
-use Rattle.trlab_jobs.specs.Subjects.{subject_named}
-use Rattle.trlab_explain.specs.Meant.{IsMeant, MayBeMeantAs}
-use Rattle.trlab_jobs.specs.declared.subject.Subject.{Subject}
+use Rattle.trlab_texts.specs.{Words.head_word, Reading.LocatedFault, declared.fault.Cause.TheVariants.TooBig}
+use Rattle.trlab_jobs.specs.{Job.Job as JobSaid, Check.Check as CheckSaid, Sweep.Sweep as SweepSaid}
+use Rattle.trlab_jobs.specs.{Subjects.subject_named, declared.subject.Subject.Subject}
 use Rattle.trlab_jobs.specs.declared.subject.Subject.TheVariants.{Job, Sweep, Check}
-use Rattle.trlab_explain.specs.Explanations.{Explains, IsReadAs, IsHeadAs, IsCheckHead, IsTextHead}
-use Rattle.trlab_explain.specs.declared.explanation.Head.{Head}
-use Rattle.trlab_explain.specs.declared.explain.Form.{Form}
+use Rattle.trlab_campaign.specs.{declared.end.End.End, Device.IsInputOrTooLong, Output.{Outputs, fault_line}}
+use Rattle.trlab_campaign.specs.{declared.end.End.TheVariants.Memory, Ending.{WroteAtEnd, WroteOutputAtEnd}}
+use Rattle.trlab_campaign.{specs.Writers.{SinkBytes, AddsNone}, proofs.Endings.{output_ends, kept_at_memory}}
+use Rattle.trlab_explain.specs.Explanations.{IsMeant, MayBeMeantAs, Explains, IsReadAs, IsHeadAs, IsCheckHead}
+use Rattle.trlab_explain.specs.{Explanations.IsTextHead, declared.{explanation.Head.Head, explain.Form.Form}}
 
 -- the end of a written output
 pub output_ends_so : {A E : Type 0} (told : Result A E) (rejected : A → Bool) (bytes : A → List ℕ) (IsWhole : Outputs) (e : End) (old new : SinkBytes)
@@ -47,7 +35,7 @@ some_read (Some wanted) text = (wanted, refl)
 some_read None text = some_meant (lines_of text)
 
 -- the fault of a text that is too long, and the line of its rejection
-abbrev too_big : Fault
+abbrev too_big : LocatedFault
 too_big = record { line = 0; cause = TooBig }
 
 abbrev too_big_line : List ℕ
@@ -64,11 +52,11 @@ big_as Check text head big is = (Err too_big, rw (lt-ltb TEXT_LIMIT (length text
 
 big_head : (subject : Subject) (text : List ℕ) (head : Head) → TEXT_LIMIT < length text → IsHeadAs subject text head → IsBigHead head
 big_head Job text head big told =
-    subst (λ (says : Result JobSaid Fault). IsTextHead text says head) (rw (lt-ltb TEXT_LIMIT (length text) big) at told.1) told.2
+    subst (λ (says : Result JobSaid LocatedFault). IsTextHead text says head) (rw (lt-ltb TEXT_LIMIT (length text) big) at told.1) told.2
 big_head Sweep text head big told =
-    subst (λ (says : Result SweepSaid Fault). IsTextHead text says head) (rw (lt-ltb TEXT_LIMIT (length text) big) at told.1) told.2
+    subst (λ (says : Result SweepSaid LocatedFault). IsTextHead text says head) (rw (lt-ltb TEXT_LIMIT (length text) big) at told.1) told.2
 big_head Check text head big told =
-    subst (λ (says : Result CheckSaid Fault). IsCheckHead text says head) (rw (lt-ltb TEXT_LIMIT (length text) big) at told.1) told.2
+    subst (λ (says : Result CheckSaid LocatedFault). IsCheckHead text says head) (rw (lt-ltb TEXT_LIMIT (length text) big) at told.1) told.2
 
 -- an explanation of the bytes that were read is an explanation of the input
 read_explains : (form : Form) (wanted : Option Subject) (text input : List ℕ) (refused : Bool) (out : List ℕ) → IsInputOrTooLong text input

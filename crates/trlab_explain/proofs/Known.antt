@@ -1,12 +1,12 @@
 -- The known numbers: the tests are computed for each number below 53, and no larger number passes any of
 -- them.
-use Rattle.std.proofs.Common.{◌≡◌, ◌∙◌, ℕ, zero, suc, ◌+◌, ◌-◌, ◌<◌, ◌≤◌, ◌&&◌, ◌||◌, not, refl, sym, ap, cond, subst, arith, inl, inr, List, [], ◌∷◌, Bool, true, false, Option, Some, nat_eq, nat_le, nat_lt}
-use Rattle.std.proofs.lemmas.Bool.{and_parts, false≢true, cases_eq, cases_lt, leb-true, lt-leb, ltb-true, ne_eqb}
-use Rattle.std.specs.Prelude.{is_some}
-use Rattle.std.specs.List.{find, list_all, list_any}
-use Rattle.trlab_texts.specs.Causes.{cause_number}
-use Rattle.trlab_texts.specs.declared.fault.Cause.{Cause}
-use Rattle.trlab_explain.specs.Numbers.{cause_ranges, is_known, is_within}
+use Rattle.std.proofs.Common.{◌≡◌, ◌∙◌, ℕ, zero, suc, ◌+◌, ◌-◌, ◌<◌, ◌≤◌, ◌&&◌, ◌||◌, not, refl, sym, ap}
+use Rattle.std.proofs.Common.{cond, subst, arith, inl, inr, List, [], ◌∷◌, Bool, true, false, Option, Some}
+use Rattle.std.proofs.Common.{nat_eq, nat_le, nat_lt, leb-true, ltb-true, ne_eqb, is_some, find}
+use Rattle.std.proofs.lemmas.Bool.{and_parts, false≢true, cases_eq, cases_lt, lt-leb}
+use Rattle.std.specs.List.{list_all, list_any}
+use Rattle.trlab_texts.specs.{Causes.cause_number, declared.fault.Cause.Cause}
+use Rattle.trlab_explain.specs.Explanations.{cause_ranges, is_known, is_within}
 use Rattle.trlab_explain.specs.declared.numbers.TheConstants.{CAUSES}
 use Rattle.trlab_explain.specs.declared.topics.Topic.TheVariants.{Cause as OfCause}
 

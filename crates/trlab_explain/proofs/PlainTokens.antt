@@ -1,15 +1,14 @@
 -- The text of plain tokens is plain.
-use Rattle.std.proofs.Common.{◌≡◌, ◌∙◌, ◌<◌, ◌++◌, ◌&&◌, ap, ℕ, zero, suc, nat_le, List, [], ◌∷◌, Bool, cond, true, false, refl, arith, inl, inr}
-use Rattle.std.specs.Prelude.{All, ◌^◌, decimal, Result, Ok, Err, IfOk, OnOk, OnErr, IsUtf8}
-use Rattle.std.proofs.lemmas.Bool.{and_parts, cases_eq, leb-true}
-use Rattle.std.proofs.lemmas.List.Elements.{All-append, All-cons, All-head, All-nil, All-push, All-same, All-tail, All-weaker}
-use Rattle.std.proofs.lemmas.Str.{IsUtf8-from_ascii}
-use Rattle.std.proofs.lemmas.Str.Ascii.{IsAscii-from_all}
-use Rattle.json.specs.Print.{begins, ends, escape, escape_byte, print, print_from, quoted, separator, token_text}
-use Rattle.json.specs.Token.{Token, begin_object, end_object, begin_array, end_array, key, string, number, boolean, null, bad}
-use Rattle.trlab_lines.specs.Plain.{IsPlain}
-use Rattle.trlab_lines.proofs.PlainDigits.{plain_digits}
-use Rattle.trlab_explain.specs.Json.{EndsObject, HasPlainText, object_end}
+use Rattle.std.proofs.Common.{◌≡◌, ◌∙◌, ◌<◌, ◌++◌, ◌&&◌, ap, ℕ, zero, suc, nat_le, List, [], ◌∷◌, Bool, cond}
+use Rattle.std.proofs.Common.{true, false, refl, arith, inl, inr, All, ◌^◌, decimal, Result, Ok, Err, IfOk}
+use Rattle.std.proofs.{Common.{OnOk, OnErr, IsUtf8, leb-true}, lemmas.List.Elements.{All-tail, All-weaker}}
+use Rattle.std.proofs.lemmas.{Bool.{and_parts, cases_eq}, Str.{IsUtf8-from_ascii, Ascii.IsAscii-from_all}}
+use Rattle.std.proofs.lemmas.List.Elements.{All-append, All-cons, All-head, All-nil, All-push, All-same}
+use Rattle.json.specs.Print.{begins, ends, escape, escape_byte, print, print_from, quoted, separator}
+use Rattle.json.specs.{Print.token_text, Token.{Token, begin_object, end_object, begin_array, end_array, key}}
+use Rattle.json.specs.Token.{string, number, boolean, null, bad}
+use Rattle.trlab_lines.{specs.Plain.IsPlain, proofs.PlainDigits.plain_digits}
+use Rattle.trlab_explain.specs.Explanations.{EndsObject, HasPlainText, object_end}
 
 -- printable characters, by a test
 abbrev are_printable : List ℕ → Bool

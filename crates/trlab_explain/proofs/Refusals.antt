@@ -1,10 +1,7 @@
 -- The head for a rejected text, by its subject.
-use Rattle.std.proofs.Common.{ℕ, List}
-use Rattle.std.specs.Prelude.{Result, Ok, Err, OnOk}
-use Rattle.trlab_texts.specs.declared.fault.Cause.{Cause}
-use Rattle.trlab_texts.specs.declared.fault.TextFault.TheVariants.{At}
-use Rattle.trlab_jobs.specs.declared.subject.Subject.{Subject}
-use Rattle.trlab_jobs.specs.declared.subject.Subject.TheVariants.{Job, Sweep, Check}
+use Rattle.std.proofs.Common.{ℕ, List, Result, Ok, Err, OnOk}
+use Rattle.trlab_texts.specs.declared.fault.{Cause.Cause, TextFault.TheVariants.At}
+use Rattle.trlab_jobs.specs.declared.subject.Subject.{Subject, TheVariants.{Job, Sweep, Check}}
 use Rattle.trlab_explain.specs.declared.explanation.Head.{Head}
 use Rattle.trlab_explain.specs.Explanations.{IsRejectedWith, IsHeadAs, IsFaultHead}
 

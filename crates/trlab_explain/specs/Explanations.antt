@@ -1,27 +1,107 @@
--- Explanations: whether an input is rejected, and how the text form begins and the JSON form ends.
-use Rattle.std.specs.Prelude.{◌≡◌, ℕ, Bool, true, false, not, All, List, [], ◌∷◌, ◌++◌, codes, decimal, Option, None, Some, Result, Ok, Err, if◌then◌else◌}
-use Rattle.trlab_lines.specs.Plain.{IsPlain}
-use Rattle.trlab_lines.specs.Lines.{lines_of}
-use Rattle.trlab_verify.specs.Verdict.{IsLongest, IsAccepted, IsRefused}
-use Rattle.trlab_texts.specs.Reading.{Fault, Reports}
+-- Explanations of inputs and of numbers: how the text form begins, and how the JSON form ends.
+use Rattle.std.specs.Prelude.{ℕ, ◌&&◌, Bool, List, [], ◌∷◌, nat_le, ◌++◌, codes, decimal, Option, None, Some}
+use Rattle.std.specs.Prelude.{◌≡◌, ◌≤◌, nat_eq, MatchOption, ◌-◌, ◌==◌, ⊤, All, length, take, if◌then◌else◌}
+use Rattle.std.specs.{Prelude.{true, false, not, Result, Ok, Err}, List.list_any}
+use Rattle.trlab_explain.specs.declared.topics.Topic.{Topic, TheVariants.{Cause, Reason}}
+use Rattle.trlab_explain.specs.declared.{explanation.Head.Head, explain.Form.{Form, TheVariants.{Text, Json}}}
+use Rattle.trlab_lines.specs.{Plain.{quoted, IsPlain}, Lines.{lines_of, line_at}}
+use Rattle.strsim.specs.Edits.{damerau}
+use Rattle.trlab_texts.specs.{Words.head_word, Reading.{LocatedFault, Reports}}
 use Rattle.trlab_texts.specs.declared.fault.TextFault.{TextFault}
-use Rattle.trlab_jobs.specs.Job.{Job as JobSaid, ParsesAsJob}
-use Rattle.trlab_jobs.specs.Check.{Check as CheckSaid, ParsesAsCheck}
-use Rattle.trlab_jobs.specs.Sweep.{Sweep as SweepSaid, ParsesAsSweep}
-use Rattle.trlab_campaign.specs.CheckOutput.{refused_line}
-use Rattle.trlab_campaign.specs.Refusal.{Outputs, fault_line}
-use Rattle.trlab_lines.specs.Lines.{line_at}
-use Rattle.trlab_explain.specs.Meant.{IsMeant}
-use Rattle.trlab_jobs.specs.declared.subject.Subject.{Subject}
-use Rattle.trlab_jobs.specs.declared.subject.Subject.TheVariants.{Job, Sweep, Check}
-use Rattle.trlab_explain.specs.Quotes.{quote_line}
-use Rattle.trlab_explain.specs.Json.{EndsObject}
-use Rattle.trlab_explain.specs.Numbers.{is_known}
-use Rattle.trlab_explain.specs.declared.explanation.Head.{Head}
-use Rattle.trlab_explain.specs.declared.explain.Form.{Form}
-use Rattle.trlab_explain.specs.declared.explain.Form.TheVariants.{Text, Json}
-use Rattle.trlab_explain.specs.declared.topics.Topic.{Topic}
-use Rattle.trlab_explain.specs.declared.topics.Topic.TheVariants.{Cause, Reason}
+use Rattle.trlab_jobs.specs.{Subjects.subject_named, Sweep.{Sweep as SweepSaid, ParsesAsSweep}}
+use Rattle.trlab_jobs.specs.declared.subject.Subject.{Subject, TheVariants.{Job, Sweep, Check}}
+use Rattle.trlab_jobs.specs.{Job.{Job as JobSaid, ParsesAsJob}, Check.{Check as CheckSaid, ParsesAsCheck}}
+use Rattle.json.specs.{Print.print, Token.{Token, begin_object, end_object, begin_array, end_array, key}}
+use Rattle.json.specs.Token.{string, number as number_token, boolean, null, bad}
+use Rattle.trlab_verify.specs.Verdict.{IsLongest, IsAccepted, IsRefused}
+use Rattle.trlab_campaign.specs.{CheckOutput.rejected_line, Output.{Outputs, fault_line}}
+
+-- The numbers that can be explained.
+
+-- is `number` in the range from `range.0` to `range.1`, both included?
+abbrev pub is_within : ℕ → ℕ × ℕ → Bool
+is_within number range = nat_le range.0 number && nat_le number range.1
+
+-- the numbers of the causes that can be explained, as ranges: 1 to 9 for an input's words, lines and size,
+-- 11 to 17 for the text of a program, 21 to 28 and 30 for its bytes, 32, 34, 35 and 37 for roads, 40 for a
+-- rejected standard rule (no input has this cause), and 41 to 52 for the verifier's reasons 1 to 12
+abbrev pub cause_ranges : List (ℕ × ℕ)
+cause_ranges =
+    (1, 9) ∷ (11, 17) ∷ (21, 28) ∷ (30, 30) ∷ (32, 32) ∷ (34, 35) ∷ (37, 37) ∷ (40, 52) ∷ []
+
+-- the numbers of the verifier's reasons to reject a program, as ranges: 1 to 12
+abbrev pub reason_ranges : List (ℕ × ℕ)
+reason_ranges = (1, 12) ∷ []
+
+-- can this number be explained, as the number of a cause or of a reason, depending on the topic?
+abbrev pub is_known : Topic → ℕ → Bool
+is_known Cause number = list_any (is_within number) cause_ranges
+is_known Reason number = list_any (is_within number) reason_ranges
+
+-- Lines of a text, as they are quoted.
+
+-- the quote of a line with its number and an LF, for example `line 2: key 0`; empty if there is no line
+abbrev pub quote_line : ℕ → Option (List ℕ) → List ℕ
+quote_line number None = []
+quote_line number (Some line) =
+    codes "line " ++ (decimal number ++ (codes ": " ++ (quoted line ++ (10 ∷ []))))
+
+-- The kind of input that a text is meant to be.
+
+-- a word is at most one edit away from a name: a byte is inserted, deleted or replaced, or two neighbouring
+-- bytes are swapped. For example, `raod` and `roads` are one edit away from `road`
+abbrev pub IsWithinOneEdit : List ℕ → List ℕ → Type 0
+IsWithinOneEdit word name = damerau nat_eq word name ≤ 1
+
+-- the kinds of input that a text with the unknown first word `word` may be meant as: a job or a sweep if the
+-- word is at most one edit away from `road` or `sweep`, and a check in any case
+abbrev pub MayBeMeantAs : List ℕ → Subject → Type 0
+MayBeMeantAs word Job = IsWithinOneEdit word (codes "road")
+MayBeMeantAs word Sweep = IsWithinOneEdit word (codes "sweep")
+MayBeMeantAs word Check = Unit {0}
+
+-- a text with the lines `line ∷ left` may be meant as `subject`: the kind of input that its first word names,
+-- or if that names none, a kind that `MayBeMeantAs` allows; a text without lines is meant as a check
+abbrev pub IsMeant : List (List ℕ) → Subject → Type 0
+IsMeant [] subject = subject ≡ Check
+IsMeant (line ∷ left) subject =
+    MatchOption (subject_named (head_word line))
+    (MayBeMeantAs (head_word line) subject)
+    (λ named. subject ≡ named)
+
+-- The JSON form of explanations.
+
+-- the text of a token is printable ASCII or LF; only keys, strings and numbers have a text
+abbrev pub HasPlainText : Token → Type 0
+HasPlainText begin_object = ⊤
+HasPlainText end_object = ⊤
+HasPlainText begin_array = ⊤
+HasPlainText end_array = ⊤
+HasPlainText (key s) = All IsPlain s
+HasPlainText (string s) = All IsPlain s
+HasPlainText (number_token s) = All IsPlain s
+HasPlainText (boolean b) = ⊤
+HasPlainText null = ⊤
+HasPlainText bad = ⊤
+
+-- the JSON string for a printed line, without the LF that ends it; null if no line is printed (`line` is
+-- empty)
+abbrev pub answer_token : List ℕ → Token
+answer_token line = if length line == 0 then null else string (take (length line - 1) line)
+
+-- the last tokens of an explanation's object: the member `status`, the exit status (1 if the input is
+-- rejected, otherwise 0); the member `answer`, the line that the command prints; and the end of the object
+abbrev pub object_end : Bool → List ℕ → List Token
+object_end rejected answer =
+    key (codes "status") ∷ number_token (decimal (if rejected then 1 else 0))
+    ∷ key (codes "answer") ∷ answer_token answer ∷ end_object ∷ []
+
+-- `text` is the JSON text of a list of tokens that ends with `object_end`, and an LF
+abbrev pub EndsObject : Bool → List ℕ → List ℕ → Type 0
+EndsObject rejected answer text =
+    (first : List Token) × (text ≡ print (first ++ object_end rejected answer) ++ 10 ∷ [])
+
+-- Explanations: whether an input is rejected, and how the text form begins and the JSON form ends.
 
 -- the blank head: not rejected, with no printed line and no quote
 abbrev pub IsBlankHead : Head → Type 0
@@ -33,13 +113,13 @@ BeginsWith front out = (more : List ℕ) × (out ≡ front ++ more)
 
 -- the head for a text whose first fault is `fault`: rejected, with the line `fault line N cause K` and the
 -- quote of line N, which is empty if the text has no line N
-abbrev pub IsFaultHead : List ℕ → Fault → Head → Type 0
+abbrev pub IsFaultHead : List ℕ → LocatedFault → Head → Type 0
 IsFaultHead text fault head = (head.is_rejected ≡ true) × (head.answer ≡ fault_line fault)
     × (head.quote ≡ quote_line fault.line (line_at fault.line (lines_of text)))
 
 -- the head for the text of a job or a sweep, given the result of reading it: for a valid text, the blank
 -- head; for an invalid text, the head for its fault
-abbrev pub IsTextHead : {A : Type 0} → List ℕ → Result A Fault → Head → Type 0
+abbrev pub IsTextHead : {A : Type 0} → List ℕ → Result A LocatedFault → Head → Type 0
 IsTextHead text (Ok x) head = IsBlankHead head
 IsTextHead text (Err fault) head = IsFaultHead text fault head
 
@@ -55,7 +135,7 @@ IsProgramAnswer check false answer quote = IsAccepted check.program.kind check.p
     × IsLongest check.program.instrs 0 budget × (answer ≡ accepted_line budget))
 IsProgramAnswer check true answer quote =
     (at reason : ℕ) × IsRefused check.program.kind check.program at reason
-    × (answer ≡ refused_line at reason) × (quote ≡ [])
+    × (answer ≡ rejected_line at reason) × (quote ≡ [])
 
 -- the head for the program of a check, given the verdict of the verifier
 abbrev pub IsProgramHead : CheckSaid → Head → Type 0
@@ -63,20 +143,20 @@ IsProgramHead check head = IsProgramAnswer check head.is_rejected head.answer he
 
 -- the head for the text of a check, given the result of reading it: for a valid text, the head for its
 -- program; for an invalid text, the head for its fault
-abbrev pub IsCheckHead : List ℕ → Result CheckSaid Fault → Head → Type 0
+abbrev pub IsCheckHead : List ℕ → Result CheckSaid LocatedFault → Head → Type 0
 IsCheckHead text (Ok check) head = IsProgramHead check head
 IsCheckHead text (Err fault) head = IsFaultHead text fault head
 
 -- the head for a text that is read as a job, a sweep or a check
 abbrev pub IsHeadAs : Subject → List ℕ → Head → Type 0
 IsHeadAs Job text head =
-    (result : Result JobSaid Fault) × ParsesAsJob text result
+    (result : Result JobSaid LocatedFault) × ParsesAsJob text result
     × IsTextHead text result head
 IsHeadAs Sweep text head =
-    (result : Result SweepSaid Fault) × ParsesAsSweep text result
+    (result : Result SweepSaid LocatedFault) × ParsesAsSweep text result
     × IsTextHead text result head
 IsHeadAs Check text head =
-    (result : Result CheckSaid Fault) × ParsesAsCheck text result
+    (result : Result CheckSaid LocatedFault) × ParsesAsCheck text result
     × IsCheckHead text result head
 
 -- a text that is read as a job, a sweep or a check is rejected with `fault`: its first fault, or a

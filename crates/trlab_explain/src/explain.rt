@@ -7,7 +7,7 @@ ghost use Rattle.trlab_campaign.specs.declared.end.End.TheVariants.{DeviceFault,
 ghost use Rattle.trlab_lines.specs.Plain.{IsPlain};
 ghost use Rattle.trlab_verify.specs.Verified.{IsFaultOf};
 ghost use Rattle.trlab_jobs.specs.Check.{Check as CheckSaid};
-ghost use Rattle.trlab_explain.specs.Quotes.{quote_line};
+ghost use Rattle.trlab_explain.specs.Explanations.{quote_line};
 ghost use Rattle.trlab_explain.specs.Explanations.{Explains, HasHead, IsBlankHead, IsRejectedWith, IsHeadAs, IsFaultHead, IsProgramHead, accepted_line};
 
 use crate::explanation::{Explanation, json_form, text_form};
@@ -15,7 +15,7 @@ use crate::meant::subject_of;
 use crate::repair::likely_repair;
 use std::alloc::{AllocError, AllocGlobal, Global};
 use trlab_campaign::{
-    Cause, End, Engine, Sink, Source, push_fault_line, push_refused_line, run_engine, write_output,
+    Cause, End, Engine, Sink, Source, push_fault_line, push_rejected_line, run_engine, write_output,
 };
 use trlab_code::{Code, Kind};
 use trlab_jobs::{Check, Subject, parse_check, parse_job, parse_sweep};
@@ -133,7 +133,7 @@ fn explain_rejected(
         return Err(AllocError);
     };
     explanation.head.is_rejected = true;
-    push_refused_line(&mut explanation.head.answer, at, reason)?;
+    push_rejected_line(&mut explanation.head.answer, at, reason)?;
     add_program(
         &mut explanation.body,
         text,

@@ -2,8 +2,7 @@
 
 ghost use Rattle.std.specs.Prelude.{All, IfOk};
 ghost use Rattle.trlab_lines.specs.Plain.{IsPlain};
-ghost use Rattle.trlab_explain.specs.Json.{EndsObject};
-ghost use Rattle.trlab_explain.specs.Explanations.{BeginsWith, IsBlankHead, text_front};
+ghost use Rattle.trlab_explain.specs.Explanations.{EndsObject, BeginsWith, IsBlankHead, text_front};
 
 use crate::object::Object;
 use std::alloc::Global;

@@ -2,7 +2,7 @@
 
 ghost use Rattle.std.specs.Prelude.{◌≡◌, ◌≢◌, [], IfOk, true};
 ghost use Rattle.trlab_lines.specs.Lines.{lines_of};
-ghost use Rattle.trlab_explain.specs.Meant.{IsMeant, IsWithinOneEdit, MayBeMeantAs};
+ghost use Rattle.trlab_explain.specs.Explanations.{IsMeant, IsWithinOneEdit, MayBeMeantAs};
 
 use std::alloc::Global;
 use strsim::generic_damerau_levenshtein;

@@ -3,7 +3,7 @@
 ghost use Rattle.std.specs.Prelude.{◌≡◌, IfSome, is_some, nat_eq};
 ghost use Rattle.std.specs.List.{find};
 ghost use Rattle.trlab_texts.specs.Causes.{cause_number};
-ghost use Rattle.trlab_explain.specs.Numbers.{is_known};
+ghost use Rattle.trlab_explain.specs.Explanations.{is_known};
 ghost use Rattle.trlab_explain.specs.declared.topics.Topic.TheVariants.{Cause as OfCause};
 
 use trlab_asm::Why;

@@ -6,7 +6,7 @@ ghost use Rattle.json.specs.Reads.{token_of};
 ghost use Rattle.json.specs.Token.{key, number};
 ghost use Rattle.std.specs.Fmt.{decimal};
 ghost use Rattle.trlab_lines.specs.Plain.{IsPlain, all_shown};
-ghost use Rattle.trlab_explain.specs.Json.{HasPlainText, answer_token, object_end};
+ghost use Rattle.trlab_explain.specs.Explanations.{HasPlainText, answer_token, object_end};
 
 use json::{Token, Writer, is_number};
 use std::alloc::{AllocError, Global};
@@ -26,7 +26,7 @@ pub struct Object {
 impl Model for Object {
     ghost use Rattle.std.specs.Prelude.{◌≡◌, [], All, List};
     ghost use Rattle.json.specs.Token.{Token, tokens_code};
-    ghost use Rattle.trlab_explain.specs.Json.{HasPlainText};
+    ghost use Rattle.trlab_explain.specs.Explanations.{HasPlainText};
 
     ghost Value = { List Token };
 

@@ -1,8 +1,7 @@
 //! Repairs are tried before they are shown: each one lets an input get further than its first error.
 
 ghost use Rattle.std.specs.Prelude.{◌≡◌, ◌+◌, ◌≤◌, IfOk, length, IfSome, true};
-ghost use Rattle.trlab_explain.specs.Edits.{edited, GetsFurther, HasFirstFault, IsLaterOrNone};
-ghost use Rattle.trlab_explain.specs.Repairs.{Helps};
+ghost use Rattle.trlab_explain.specs.Repairs.{edited, GetsFurther, HasFirstFault, IsLaterOrNone, Helps};
 ghost use Rattle.trlab_lines.specs.Lines.{lines_of};
 
 use std::alloc::{AllocError, Global};

@@ -4,8 +4,7 @@ ghost use Rattle.std.specs.Prelude.{◌≡◌, ◌++◌, IfOk, OnOk, false, not}
 ghost use Rattle.trlab_campaign.specs.declared.end.End.TheVariants.{Memory};
 ghost use Rattle.trlab_campaign.specs.Ending.{WroteAtEnd, LeavesWriter};
 ghost use Rattle.trlab_campaign.specs.Writers.{AddsNone, bytes_of};
-ghost use Rattle.trlab_explain.specs.Explanations.{BeginsWith, IsNumberPage, topic_front};
-ghost use Rattle.trlab_explain.specs.Numbers.{is_known};
+ghost use Rattle.trlab_explain.specs.Explanations.{BeginsWith, IsNumberPage, topic_front, is_known};
 
 use crate::explain::{Output, plain_bytes, write_explanation};
 use crate::numbers::cause_numbered;

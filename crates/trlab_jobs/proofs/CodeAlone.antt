@@ -1,15 +1,11 @@
 -- A program that is the only line of its text, and the question of a check about a program.
-use Rattle.std.proofs.Common.{◌≡◌, ◌≢◌, ℕ, List, [], ◌∷◌, refl, subst}
-use Rattle.std.specs.Prelude.{Ok, Err}
+use Rattle.std.proofs.Common.{◌≡◌, ◌≢◌, ℕ, List, [], ◌∷◌, refl, subst, Ok, Err}
 use Rattle.trlab_code.specs.Program.{Program}
-use Rattle.trlab_texts.specs.declared.fault.Cause.{Cause}
-use Rattle.trlab_texts.specs.declared.fault.Cause.TheVariants.{Line}
-use Rattle.trlab_texts.specs.declared.fault.TextFault.{TextFault}
-use Rattle.trlab_texts.specs.declared.fault.TextFault.TheVariants.{At, Memory}
-use Rattle.trlab_texts.specs.Reading.{Reports}
+use Rattle.trlab_texts.specs.declared.fault.{Cause.{Cause, TheVariants.Line}, TextFault.TextFault}
+use Rattle.trlab_texts.specs.{declared.fault.TextFault.TheVariants.{At, Memory}, Reading.Reports}
 use Rattle.trlab_texts.specs.Programs.{code_line}
-use Rattle.trlab_jobs.specs.declared.check.Question.{Question}
-use Rattle.trlab_jobs.specs.Check.{check_of, question_of, Check, CheckLinesParseTo, LoneCodeParsesTo, ProgramParsesTo, QuestionParsesTo}
+use Rattle.trlab_jobs.specs.{declared.check.Question.Question, Check.{check_of, question_of, Check}}
+use Rattle.trlab_jobs.specs.Check.{CheckLinesParseTo, LoneCodeParsesTo, ProgramParsesTo, QuestionParsesTo}
 
 -- the line of a program, if no line follows it
 pub code_is_alone : (text : List ℕ) (left : List (List ℕ)) (program : Program) → code_line text (Ok program) → left ≡ [] → LoneCodeParsesTo text left (Ok program)

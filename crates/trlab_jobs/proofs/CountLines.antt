@@ -1,16 +1,14 @@
 -- The counts of cars, line after line.
-use Rattle.std.proofs.Common.{◌≡◌, ◌≢◌, ℕ, ◌+◌, List, [], ◌∷◌, ◌++◌, refl, sym, ◌∙◌, ap, append_assoc, append-nil}
-use Rattle.std.specs.Prelude.{Result, Ok, Err}
-use Rattle.trlab_asm.specs.Results.{◌>>=◌}
-use Rattle.trlab_texts.specs.declared.fault.Cause.{Cause}
-use Rattle.trlab_texts.specs.declared.fault.TextFault.{TextFault}
-use Rattle.trlab_texts.specs.declared.fault.TextFault.TheVariants.{At, Memory}
-use Rattle.trlab_texts.specs.Lines.{Rest}
-use Rattle.trlab_texts.specs.Reading.{Fault, LineParsesTo, line_with_rest, at_line, exactly, Reports}
-use Rattle.trlab_jobs.specs.Counts.{cars_line, counts_from}
+use Rattle.std.proofs.Common.{◌≡◌, ◌≢◌, ℕ, ◌+◌, List, [], ◌∷◌, ◌++◌, refl, sym, ◌∙◌, ap, append_assoc}
+use Rattle.std.proofs.Common.{append-nil, Result, Ok, Err}
+use Rattle.trlab_asm.specs.Operands.{◌>>=◌}
+use Rattle.trlab_texts.specs.declared.fault.{Cause.Cause, TextFault.{TextFault, TheVariants.{At, Memory}}}
+use Rattle.trlab_texts.specs.Reading.{Rest, LocatedFault, LineParsesTo, line_with_rest, at_line, exactly}
+use Rattle.trlab_texts.specs.Reading.{Reports}
+use Rattle.trlab_jobs.specs.Lines.{cars_line, counts_from}
 
 -- counts after others
-abbrev pub behind : List ℕ → Result (List ℕ) Fault → Result (List ℕ) Fault
+abbrev pub behind : List ℕ → Result (List ℕ) LocatedFault → Result (List ℕ) LocatedFault
 behind first said = said >>= λ counts. Ok (first ++ counts)
 
 -- the result for the remaining lines, after the counts that were read, is the result for all lines
@@ -18,12 +16,12 @@ abbrev pub ReadSoFar : ℕ → ℕ → Rest → List ℕ → ℕ → Rest → Ty
 ReadSoFar cells steps begin counts point place =
     behind counts (counts_from cells steps point place.number place.left) ≡ counts_from cells steps 1 begin.number begin.left
 
-behind_more : (first : List ℕ) (count : ℕ) (said : Result (List ℕ) Fault) → behind first (said >>= λ counts. Ok (count ∷ counts)) ≡ behind (first ++ (count ∷ [])) said
+behind_more : (first : List ℕ) (count : ℕ) (said : Result (List ℕ) LocatedFault) → behind first (said >>= λ counts. Ok (count ∷ counts)) ≡ behind (first ++ (count ∷ [])) said
 behind_more first count (Ok counts) = ap Ok (sym (append_assoc first (count ∷ []) counts))
 behind_more first count (Err fault) = refl
 
 -- a result, or another one if it is a fault
-abbrev said_or : ℕ × Rest → Result (ℕ × Rest) Fault → ℕ × Rest
+abbrev said_or : ℕ × Rest → Result (ℕ × Rest) LocatedFault → ℕ × Rest
 said_or other (Ok found) = found
 said_or other (Err fault) = other
 
@@ -35,7 +33,7 @@ line_said number count left after (Ok n) e =
     (ap (λ found. Ok found.0) (sym same), (ap (λ found. found.1.number) same, ap (λ found. found.1.left) same))
 line_said number count left after (Err cause) e = absurd (cc e)
 
-line_wrong : (number : ℕ) (left : List (List ℕ)) (fault : Fault) (says : Result ℕ Cause) → Err fault ≡ line_with_rest number left says → at_line number says ≡ Err fault
+line_wrong : (number : ℕ) (left : List (List ℕ)) (fault : LocatedFault) (says : Result ℕ Cause) → Err fault ≡ line_with_rest number left says → at_line number says ≡ Err fault
 line_wrong number left fault (Ok n) e = absurd (cc e)
 line_wrong number left fault (Err cause) e = cc e
 
@@ -49,7 +47,7 @@ line_more cells steps point number count (text ∷ left) after told =
     rw (said.1.0, said.1.1, sym told.1.0 ∙ said.0) refl
 
 -- a line with a fault
-line_fault : (cells steps point number : ℕ) (left : List (List ℕ)) (fault : Fault) → left ≢ []
+line_fault : (cells steps point number : ℕ) (left : List (List ℕ)) (fault : LocatedFault) → left ≢ []
     → LineParsesTo {A = ℕ} (exactly (cars_line cells steps point)) number left (Err fault) → counts_from cells steps point number left ≡ Err fault
 unfolding counts_from
 line_fault cells steps point number [] fault some told = absurd (some refl)
@@ -70,7 +68,7 @@ pub stopped : (cells steps : ℕ) (begin : Rest) (counts : List ℕ) (point : �
     → Reports {A = ℕ × Rest} (LineParsesTo (exactly (cars_line cells steps point)) place.number place.left) (Err fault)
     → Reports {A = List ℕ} (λ says. says ≡ counts_from cells steps 1 begin.number begin.left) (Err fault)
 stopped cells steps begin counts point place (At line cause) so_far some told =
-    let fault : Fault = record { line = line; cause = cause } in
+    let fault : LocatedFault = record { line = line; cause = cause } in
     sym (ap (behind counts) (line_fault cells steps point place.number place.left fault some told)) ∙ so_far
 stopped cells steps begin counts point place Memory so_far some told = tt
 

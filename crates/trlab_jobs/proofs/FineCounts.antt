@@ -1,16 +1,14 @@
 -- Numbers of cars that fit a sweep.
 use Rattle.std.proofs.Common.{◌≡◌, ℕ, zero, suc, ◌+◌, ◌*◌, ◌<◌, ◌≤◌, List, [], ◌∷◌, length, get_or, arith}
-use Rattle.std.proofs.lemmas.Bool.{ltb-false}
-use Rattle.std.specs.Prelude.{All, Result, Ok, Err, nat_lt, codes}
-use Rattle.trlab_asm.specs.Results.{◌>>=◌}
+use Rattle.std.proofs.Common.{ltb-false, All, Result, Ok, Err, nat_lt, codes}
+use Rattle.trlab_asm.specs.Operands.{◌>>=◌}
 use Rattle.trlab_road.specs.declared.fault.RoadFault.TheVariants.{TooManyCars}
-use Rattle.trlab_texts.specs.declared.fault.Cause.{Cause}
-use Rattle.trlab_texts.specs.declared.fault.Cause.TheVariants.{TooMany, Road, Work}
-use Rattle.trlab_texts.specs.Words.{number_within, word_after}
-use Rattle.trlab_texts.specs.Reading.{Fault, at_line}
-use Rattle.trlab_texts.proofs.Fine.{Fine, FineText, InRange, line_other, road_other, too_many_other, work_other, bind_fine, choose, numbered}
+use Rattle.trlab_texts.specs.declared.fault.Cause.{Cause, TheVariants.{TooMany, Road, Work}}
+use Rattle.trlab_texts.specs.{Words.{number_within, word_after}, Reading.{LocatedFault, at_line}}
+use Rattle.trlab_texts.proofs.Fine.{Fine, FineText, InRange, line_other, road_other, too_many_other}
+use Rattle.trlab_texts.proofs.Fine.{work_other, bind_fine, choose, numbered}
 use Rattle.trlab_jobs.specs.declared.limits.TheConstants.{MAX_CARS, MAX_POINTS, MAX_WORK}
-use Rattle.trlab_jobs.specs.Counts.{admit_cars, cars_line, counts_from, counts}
+use Rattle.trlab_jobs.specs.Lines.{admit_cars, cars_line, counts_from, counts}
 
 -- there is room for a point, and for its cars and steps
 pub record HasRoom (cells steps point count : ℕ) : Type 0 where
@@ -52,7 +50,7 @@ in_front cells steps point count others one more = record { cars = cars_of; poin
     work_of zero inside = let same : point + 0 ≡ point = omega arith in rw same one.work
     work_of (suc i) inside = let same : point + suc i ≡ point + 1 + i = omega arith in rw same (more.work i (omega arith))
 
-line_then : (cells steps point number : ℕ) (said : Result ℕ Cause) (more : Result (List ℕ) Fault) → Fine (HasRoom cells steps point) said → FineText (HaveRoom cells steps (point + 1)) more
+line_then : (cells steps point number : ℕ) (said : Result ℕ Cause) (more : Result (List ℕ) LocatedFault) → Fine (HasRoom cells steps point) said → FineText (HaveRoom cells steps (point + 1)) more
     → FineText (HaveRoom cells steps point) (at_line number said >>= λ count. more >>= λ counts. Ok (count ∷ counts))
 line_then cells steps point number (Ok count) (Ok counts) one rest = in_front cells steps point count counts one rest
 line_then cells steps point number (Ok count) (Err fault) one rest = rest
@@ -70,7 +68,7 @@ pub record AllHaveRoom (cells steps : ℕ) (counts : List ℕ) : Type 0 where
   pub some : 1 ≤ length counts
   pub room : HaveRoom cells steps 1 counts
 
-with_one : (cells steps number : ℕ) (said : Result ℕ Cause) (more : Result (List ℕ) Fault)
+with_one : (cells steps number : ℕ) (said : Result ℕ Cause) (more : Result (List ℕ) LocatedFault)
     → FineText (HaveRoom cells steps 1) (at_line number said >>= λ count. more >>= λ counts. Ok (count ∷ counts))
     → FineText (AllHaveRoom cells steps) (at_line number said >>= λ count. more >>= λ counts. Ok (count ∷ counts))
 with_one cells steps number (Ok count) (Ok counts) room = record { some = omega arith; room = room }

@@ -1,27 +1,24 @@
 -- The values of lines: numbers in their ranges, valid probabilities of a program, and steps in order.
 use Rattle.std.proofs.Common.{◌≡◌, ℕ, ◌<◌, ◌≤◌, Bool, true, false, List, refl, arith, leb-true, ltb-true}
-use Rattle.std.proofs.lemmas.Bool.{eqb-false}
-use Rattle.std.specs.Prelude.{◌==◌, ◌&&◌, ok_or, Result, Ok, Err, nat_le, nat_lt, codes, if◌then◌else◌}
-use Rattle.std.specs.Str.{bytes_eq}
-use Rattle.hex.specs.Hex.{decode_sized}
-use Rattle.hex.specs.declared.error.FromHexError.{FromHexError}
-use Rattle.trlab_bounds.specs.declared.programs.TheConstants.{CERTAIN}
-use Rattle.trlab_bounds.specs.declared.texts.TheConstants.{LONGEST_NUMBER}
-use Rattle.trlab_asm.specs.Results.{◌>>=◌}
-use Rattle.trlab_texts.specs.declared.fault.Cause.{Cause}
-use Rattle.trlab_texts.specs.declared.fault.Cause.TheVariants.{Line, Order, TooMany}
+use Rattle.std.proofs.Common.{◌==◌, ◌&&◌, ok_or, Result, Ok, Err, nat_le, nat_lt, codes, if◌then◌else◌}
+use Rattle.std.proofs.{Common.bytes_eq, lemmas.Bool.eqb-false}
+use Rattle.hex.specs.{Hex.decode_sized, declared.error.FromHexError.FromHexError}
+use Rattle.trlab_bounds.specs.declared.{programs.TheConstants.CERTAIN, texts.TheConstants.LONGEST_NUMBER}
+use Rattle.trlab_asm.specs.Operands.{◌>>=◌}
+use Rattle.trlab_texts.specs.declared.fault.Cause.{Cause, TheVariants.{Line, Order, TooMany}}
 use Rattle.trlab_texts.specs.Words.{number_of, word_after}
-use Rattle.trlab_texts.proofs.Fine.{Anything, Fine, InRange, line_other, key_other, order_other, too_many_other, bind_fine, choose, found_fine, word_fine, within_fine}
-use Rattle.trlab_jobs.specs.declared.rule_line.RuleLine.{RuleLine}
-use Rattle.trlab_jobs.specs.declared.rule_line.RuleLine.TheVariants.{Nasch, Vdr, Rickert, Own}
-use Rattle.trlab_jobs.specs.Job.{key_line, key_of, key_of_hex}
-use Rattle.trlab_jobs.specs.RuleLines.{rule_words, probability_of, rule_with_probabilities, rule_line, later_words, step_of, admit_step, later_line}
+use Rattle.trlab_texts.proofs.Fine.{Anything, Fine, InRange, line_other, key_other, order_other}
+use Rattle.trlab_texts.proofs.Fine.{too_many_other, bind_fine, choose, found_fine, word_fine, within_fine}
+use Rattle.trlab_jobs.specs.declared.rule_line.RuleLine.{RuleLine, TheVariants.{Nasch, Vdr, Rickert, Own}}
+use Rattle.trlab_jobs.specs.Job.{key_line, key_of, decoded_key}
+use Rattle.trlab_jobs.specs.Lines.{rule_words, probability_of, rule_with_probabilities, rule_line}
+use Rattle.trlab_jobs.specs.Lines.{later_words, step_of, admit_step, later_line}
 
 -- a line of fixed words
 pub fixed_fine : (words text : List ℕ) → Fine {A = Unit {0}} Anything (if bytes_eq text words then Ok tt else Err Line)
 fixed_fine words text = choose Anything (bytes_eq text words) (Ok tt) (Err Line) (λ e. tt) (λ e. line_other)
 
-hex_fine : (key : Result (List ℕ) FromHexError) → Fine Anything (key_of_hex key)
+hex_fine : (key : Result (List ℕ) FromHexError) → Fine Anything (decoded_key key)
 hex_fine (Ok key) = tt
 hex_fine (Err fault) = key_other
 

@@ -1,18 +1,13 @@
 -- The lines of a job text, one after another.
-use Rattle.std.proofs.Common.{◌≡◌, ℕ, List, length, refl, subst}
-use Rattle.std.specs.Prelude.{Result, Ok, Err}
+use Rattle.std.proofs.Common.{◌≡◌, ℕ, List, length, refl, subst, Result, Ok, Err}
 use Rattle.trlab_road.specs.Cells.{Cells}
 use Rattle.trlab_rules.specs.Rules.{Programs}
 use Rattle.trlab_step.specs.Run.{Sheet}
-use Rattle.trlab_texts.specs.declared.fault.TextFault.{TextFault}
-use Rattle.trlab_texts.specs.declared.fault.TextFault.TheVariants.{At, Memory}
-use Rattle.trlab_texts.specs.Lines.{Rest, all_lines}
-use Rattle.trlab_texts.specs.Reading.{Reading, ◌>>=◌, ◌>>◌, give, line, exactly, Reports}
-use Rattle.trlab_jobs.specs.Lanes.{lanes}
-use Rattle.trlab_jobs.specs.RuleParts.{rule}
-use Rattle.trlab_jobs.specs.Later.{later_rules}
-use Rattle.trlab_jobs.specs.Job.{Job, job, road_line, key_line, limit_line, steps_line, JobLinesParseTo, ReadingHasResult}
+use Rattle.trlab_texts.specs.declared.fault.TextFault.{TextFault, TheVariants.{At, Memory}}
+use Rattle.trlab_texts.specs.Reading.{Rest, all_lines, Reading, ◌>>=◌, ◌>>◌, give, line, exactly, Reports}
 use Rattle.trlab_texts.proofs.Readings.{goes_on}
+use Rattle.trlab_jobs.specs.Job.{lanes, Job, job, road_line, key_line, limit_line, steps_line}
+use Rattle.trlab_jobs.specs.{Job.{JobLinesParseTo, ReadingHasResult}, RuleParts.{rule, later_rules}}
 
 -- the part of a job that is read after each line
 abbrev pub after_all : List ℕ → Cells → Programs → ℕ → Sheet → Reading Job

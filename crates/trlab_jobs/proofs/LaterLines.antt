@@ -1,15 +1,12 @@
 -- The later rules of a text, line after line.
-use Rattle.std.proofs.Common.{◌≡◌, ◌≢◌, ℕ, zero, suc, ◌+◌, ◌<◌, ◌≤◌, List, [], ◌∷◌, ◌++◌, refl, sym, ap, subst, append_assoc, append-nil}
-use Rattle.std.specs.Prelude.{◌↔◌, IsTrue, Bool, true, false, Result, Ok, Err}
+use Rattle.std.proofs.Common.{◌≡◌, ◌≢◌, ℕ, zero, suc, ◌+◌, ◌<◌, ◌≤◌, List, [], ◌∷◌, ◌++◌, refl, sym, ap, Err}
+use Rattle.std.proofs.Common.{subst, append_assoc, append-nil, ◌↔◌, IsTrue, Bool, true, false, Result, Ok}
 use Rattle.trlab_step.specs.Run.{IsRuleFor, Sheet}
 use Rattle.trlab_rules.specs.Rules.{Programs}
-use Rattle.trlab_texts.specs.declared.fault.TextFault.{TextFault}
-use Rattle.trlab_texts.specs.declared.fault.TextFault.TheVariants.{At, Memory}
-use Rattle.trlab_texts.specs.Lines.{Rest}
-use Rattle.trlab_texts.specs.Reading.{Reading, give, ◌>>=◌, Reports}
-use Rattle.trlab_jobs.specs.Later.{later_rule, to_the_end, later_rules_from, later_rules}
+use Rattle.trlab_texts.specs.declared.fault.TextFault.{TextFault, TheVariants.{At, Memory}}
+use Rattle.trlab_texts.{specs.Reading.{Rest, Reading, give, ◌>>=◌, Reports}, proofs.Readings.{goes_on, stops}}
+use Rattle.trlab_jobs.specs.RuleParts.{later_rule, to_the_end, later_rules_from, later_rules}
 use Rattle.trlab_jobs.specs.Stored.{AreLaterRules}
-use Rattle.trlab_texts.proofs.Readings.{goes_on, stops}
 
 -- later rules after others
 abbrev pub behind : Sheet → Result (Sheet × Rest) TextFault → Result (Sheet × Rest) TextFault

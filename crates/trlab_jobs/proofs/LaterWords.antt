@@ -1,10 +1,10 @@
 -- The words of a later line, part by part.
-use Rattle.std.proofs.Common.{◌≡◌, List, ℕ, Bool, true, false, ap, refl, ◌∙◌}
-use Rattle.std.specs.Prelude.{Option, None, Some, Ok, codes, option_map, option_and_then, if◌then◌else◌}
+use Rattle.std.proofs.Common.{◌≡◌, List, ℕ, Bool, true, false, ap, refl, ◌∙◌, Option, None, Some, Ok, codes}
+use Rattle.std.proofs.Common.{option_map, option_and_then, if◌then◌else◌}
 use Rattle.trlab_texts.specs.Words.{is_word}
-use Rattle.trlab_lines.specs.Cutting.{without_prefix, cut}
-use Rattle.trlab_jobs.specs.RuleLines.{rule_words, rule_with_probabilities, step_and_rule, step_of, admit_step, later_words, later_line}
-use Rattle.trlab_jobs.specs.declared.rule_line.RuleLine.{RuleLine}
+use Rattle.trlab_lines.specs.Lines.{without_prefix, cut}
+use Rattle.trlab_jobs.specs.Lines.{rule_words, rule_with_probabilities, step_and_rule, step_of, admit_step}
+use Rattle.trlab_jobs.specs.{Lines.{later_words, later_line}, declared.rule_line.RuleLine.RuleLine}
 
 -- the words of a rule after a step
 abbrev rule_behind : List ℕ → Option (RuleLine (List ℕ)) → Option (List ℕ × RuleLine (List ℕ))

@@ -1,19 +1,15 @@
 -- A check text has exactly one meaning: a program and a question, or a first fault.
-use Rattle.std.proofs.Common.{ℕ, List, [], ◌∷◌}
-use Rattle.std.specs.Prelude.{Option, None, Some, Result, Ok, Err, IfOk}
-use Rattle.trlab_code.specs.declared.program.Kind.{Kind}
-use Rattle.trlab_code.specs.Program.{Program, IsValidProgram}
+use Rattle.std.proofs.Common.{ℕ, List, [], ◌∷◌, Option, None, Some, Result, Ok, Err, IfOk}
+use Rattle.trlab_code.specs.{declared.program.Kind.Kind, Program.{Program, IsValidProgram}}
 use Rattle.trlab_lines.specs.Lines.{lines_of}
-use Rattle.trlab_asm.specs.Results.{map_ok}
-use Rattle.trlab_texts.specs.declared.fault.Cause.{Cause}
-use Rattle.trlab_texts.specs.declared.fault.Cause.TheVariants.{Line}
-use Rattle.trlab_texts.specs.Reading.{Fault}
-use Rattle.trlab_texts.specs.Programs.{program_after}
-use Rattle.trlab_texts.proofs.Fine.{Fine, FineText, line_other}
+use Rattle.trlab_asm.specs.Operands.{map_ok}
+use Rattle.trlab_texts.specs.{declared.fault.Cause.{Cause, TheVariants.Line}, Reading.LocatedFault}
+use Rattle.trlab_texts.{specs.Programs.program_after, proofs.Fine.{Fine, FineText, line_other}}
 use Rattle.trlab_texts.proofs.OneAnswer.{OneText, agree, said, fails, exact, made, text_one}
 use Rattle.trlab_texts.proofs.OneProgram.{code_one, program_after_fine}
 use Rattle.trlab_jobs.specs.declared.check.Question.{Question}
-use Rattle.trlab_jobs.specs.Check.{check_of, if_no_line_left, lone_program, heading_kind, question_of, Check, CheckLinesParseTo, ParsesAsCheck, HeadedLinesParseTo}
+use Rattle.trlab_jobs.specs.Check.{check_of, if_no_line_left, lone_program, heading_kind, question_of, Check}
+use Rattle.trlab_jobs.specs.Check.{CheckLinesParseTo, ParsesAsCheck, HeadedLinesParseTo}
 use Rattle.trlab_jobs.specs.Laws.{HasSomeResult, HasAtMostOneResult, NeverRefusesStandardRules}
 
 no_more_fine : (left : List (List ℕ)) (program : Program) → IsValidProgram program → FineText IsValidProgram (if_no_line_left left program)
@@ -32,7 +28,7 @@ headed_one None text left = made (lone_program left) (code_one text) (alone_fine
 abbrev pub HasProgram : Check → Type 0
 HasProgram check = IsValidProgram check.program
 
-check_fine : (question : Question) (says : Result Program Fault) → FineText IsValidProgram says → FineText HasProgram (map_ok (check_of question) says)
+check_fine : (question : Question) (says : Result Program LocatedFault) → FineText IsValidProgram says → FineText HasProgram (map_ok (check_of question) says)
 check_fine question (Ok program) is = is
 check_fine question (Err fault) fine = fine
 
@@ -46,7 +42,7 @@ check_text : (text : List ℕ) → OneText HasProgram (ParsesAsCheck text)
 check_text text = text_one (λ t. CheckLinesParseTo (lines_of t)) text (lines_one (lines_of text))
 
 -- a check text has a meaning, and without a fault this is a program
-pub says_program : (text : List ℕ) → (says : Result Check Fault) × (ParsesAsCheck text says × IfOk says HasProgram)
+pub says_program : (text : List ℕ) → (says : Result Check LocatedFault) × (ParsesAsCheck text says × IfOk says HasProgram)
 says_program text = said (check_text text)
 
 pub something : HasSomeResult ParsesAsCheck

@@ -1,20 +1,17 @@
 -- Lanes have exactly one meaning: a legal road, or a first fault.
-use Rattle.std.proofs.Common.{◌≡◌, ℕ, List, ◌∷◌, refl, ◌∙◌, ap}
-use Rattle.std.specs.Prelude.{Option, IfSome, Result, Ok, Err, codes, option_to_list}
-use Rattle.trlab_road.specs.declared.fault.RoadFault.{RoadFault}
-use Rattle.trlab_road.specs.Cells.{Cells}
-use Rattle.trlab_road.specs.Legal.{IsLegal}
-use Rattle.trlab_road.specs.Laws.{PicturesMean}
+use Rattle.std.proofs.Common.{◌≡◌, ℕ, List, ◌∷◌, refl, ◌∙◌, ap, Option, IfSome, Result, Ok, Err, codes}
+use Rattle.std.proofs.Common.{option_to_list}
+use Rattle.trlab_road.specs.{declared.fault.RoadFault.RoadFault, Cells.{Cells, IsLegal}, Laws.PicturesMean}
 use Rattle.trlab_road.proofs.PictureFaults.{something, one_thing}
-use Rattle.trlab_texts.specs.declared.fault.Cause.TheVariants.{Road}
-use Rattle.trlab_texts.specs.Words.{next_word_is}
-use Rattle.trlab_texts.specs.Reading.{Fault, line, exactly, ◌>>=◌}
+use Rattle.trlab_texts.specs.{declared.fault.Cause.TheVariants.Road, Words.next_word_is}
+use Rattle.trlab_texts.specs.Reading.{LocatedFault, line, exactly, ◌>>=◌}
 use Rattle.trlab_texts.proofs.Fine.{Anything, FineText, road_other, word_fine}
 use Rattle.trlab_texts.proofs.OneAnswer.{OneText, OneReading, exact_line, then_one, perhaps_one, before_one}
-use Rattle.trlab_jobs.specs.Lanes.{LanesParseTo, line_of_fault, line_of_last_lane, lane_word, second_lane, road_of, lanes}
+use Rattle.trlab_jobs.specs.Job.{LanesParseTo, line_of_fault, line_of_last_lane, lane_word, second_lane}
+use Rattle.trlab_jobs.specs.Job.{road_of, lanes}
 
 -- the result for pictures, with the line and the error number of a fault
-abbrev in_text : ℕ → ℕ → Result Cells RoadFault → Result Cells Fault
+abbrev in_text : ℕ → ℕ → Result Cells RoadFault → Result Cells LocatedFault
 in_text first last (Ok road) = Ok road
 in_text first last (Err wrong) = Err (record { line = line_of_fault first last wrong; cause = Road wrong })
 
@@ -23,7 +20,7 @@ said_in_text : (first last limit : ℕ) (pictures : List (List ℕ)) (said : Res
 said_in_text first last limit pictures (Ok road) says = ((says.1, says.0), says.1)
 said_in_text first last limit pictures (Err wrong) says = ((wrong, (says.0, (says.1, refl))), road_other wrong)
 
-without_lines : (first last limit : ℕ) (pictures : List (List ℕ)) (says : Result Cells Fault) → LanesParseTo first last limit pictures says
+without_lines : (first last limit : ℕ) (pictures : List (List ℕ)) (says : Result Cells LocatedFault) → LanesParseTo first last limit pictures says
     → (said : Result Cells RoadFault) × (PicturesMean limit pictures said × (says ≡ in_text first last said))
 without_lines first last limit pictures (Ok road) p = (Ok road, ((p.1, p.0), refl))
 without_lines first last limit pictures (Err fault) p = (Err p.0, ((p.1.0, p.1.1.0), ap Err p.1.1.1))

@@ -1,37 +1,31 @@
 -- Rules of texts have exactly one meaning: a rule for the lanes of the road, or a first fault.
-use Rattle.std.proofs.Common.{◌≡◌, ◌≢◌, ℕ, zero, suc, ◌+◌, ◌<◌, ◌≤◌, Bool, true, false, List, [], ◌∷◌, length, refl, sym, ◌∙◌, ap, arith}
-use Rattle.std.proofs.lemmas.Bool.{eqb-false}
-use Rattle.std.specs.Prelude.{Option, None, Some, IfSome, MatchOption, Result, Ok, Err, codes, nat_eq}
-use Rattle.std.specs.Str.{bytes_eq}
-use Rattle.hex.specs.Hex.{decode_of}
-use Rattle.hex.specs.declared.error.FromHexError.{FromHexError}
-use Rattle.trlab_code.specs.declared.program.Kind.{Kind}
-use Rattle.trlab_code.specs.declared.program.Kind.TheVariants.{Motion, Change}
+use Rattle.std.proofs.Common.{◌≡◌, ◌≢◌, ℕ, zero, suc, ◌+◌, ◌<◌, ◌≤◌, Bool, true, false, List, [], ◌∷◌, length}
+use Rattle.std.proofs.Common.{refl, sym, ◌∙◌, ap, arith, Option, None, Some, IfSome, MatchOption, Result, Ok}
+use Rattle.std.proofs.{Common.{Err, codes, nat_eq, bytes_eq}, lemmas.Bool.eqb-false}
+use Rattle.hex.specs.{Hex.decode_of, declared.error.FromHexError.FromHexError}
+use Rattle.trlab_code.specs.declared.program.Kind.{Kind, TheVariants.{Motion, Change}}
 use Rattle.trlab_code.specs.Program.{Program, IsValidProgram}
-use Rattle.trlab_verify.specs.Verified.{CheckedProgram, IsChecked}
-use Rattle.trlab_verify.specs.Verdict.{IsAccepted}
+use Rattle.trlab_verify.specs.{Verified.{CheckedProgram, IsChecked}, Verdict.IsAccepted}
 use Rattle.trlab_verify.proofs.Judged.{some_budget}
-use Rattle.trlab_rules.specs.Rules.{Programs}
-use Rattle.trlab_rules.specs.Standard.{nasch_program, vdr_program, rickert_program}
+use Rattle.trlab_rules.specs.{Rules.Programs, Standard.{nasch_program, vdr_program, rickert_program}}
 use Rattle.trlab_rules.proofs.StandardPrograms.{nasch_is_program, vdr_is_program, rickert_is_program}
 use Rattle.trlab_rules.proofs.Accepted.{nasch_accepted, vdr_accepted, rickert_accepted}
 use Rattle.trlab_step.specs.Run.{IsRuleFor, Sheet}
 use Rattle.trlab_bounds.specs.declared.runs.TheConstants.{MAX_LATER}
-use Rattle.trlab_texts.specs.declared.fault.Cause.{Cause}
-use Rattle.trlab_texts.specs.declared.fault.Cause.TheVariants.{OneLane}
-use Rattle.trlab_texts.specs.Causes.{IsNotStandardRefused}
-use Rattle.trlab_texts.specs.Words.{word_after}
-use Rattle.trlab_texts.specs.Reading.{Reading, line, exactly, give, ◌>>=◌}
-use Rattle.trlab_texts.specs.Programs.{EndSplit, part, split_at_end, heading_line}
-use Rattle.trlab_texts.proofs.Fine.{Anything, Fine, IsOtherFault, line_other, one_lane_other, hex_other, word_fine}
-use Rattle.trlab_texts.proofs.OneAnswer.{OneLine, OneReading, exact, exact_line, then_one, said_one, perhaps_one, of_line_one, part_with}
-use Rattle.trlab_texts.proofs.OneProgram.{checked_one, part_one}
-use Rattle.trlab_jobs.specs.declared.rule_line.RuleLine.{RuleLine}
-use Rattle.trlab_jobs.specs.declared.rule_line.RuleLine.TheVariants.{Nasch, Vdr, Rickert, Own}
-use Rattle.trlab_jobs.specs.RuleLines.{rule_line, later_line}
-use Rattle.trlab_jobs.specs.RuleParts.{VerifiesAs, IsMotionRule, IsTwoProgramRule, IsTwoLaneRule, digits_misplacement, code_misplacement, block_misplacement, part_misplacement, misplacement, change_if_two_lanes, next_is_change, change_part, own_rule, rule_from, rule}
-use Rattle.trlab_jobs.specs.Later.{later_rule, to_the_end, later_rules_from, later_rules}
-use Rattle.trlab_jobs.specs.Stored.{AreLaterRules}
+use Rattle.trlab_texts.specs.{declared.fault.Cause.{Cause, TheVariants.OneLane}, Causes.IsNotStandardRefused}
+use Rattle.trlab_texts.specs.{Words.word_after, Reading.{Reading, line, exactly, give, ◌>>=◌}}
+use Rattle.trlab_texts.{specs.Programs.{EndSplit, part, split_at_end, heading_line}, proofs.Fine.Anything}
+use Rattle.trlab_texts.proofs.Fine.{Fine, IsOtherFault, line_other, one_lane_other, hex_other, word_fine}
+use Rattle.trlab_texts.proofs.OneAnswer.{OneLine, OneReading, exact, exact_line, then_one, said_one}
+use Rattle.trlab_texts.proofs.{OneAnswer.{perhaps_one, of_line_one, part_with}, OneProgram.checked_one}
+use Rattle.trlab_texts.proofs.OneProgram.{part_one}
+use Rattle.trlab_jobs.specs.declared.rule_line.RuleLine.{RuleLine, TheVariants.{Nasch, Vdr, Rickert, Own}}
+use Rattle.trlab_jobs.specs.Lines.{rule_line, later_line}
+use Rattle.trlab_jobs.specs.RuleParts.{VerifiesAs, IsMotionRule, IsTwoProgramRule, IsTwoLaneRule}
+use Rattle.trlab_jobs.specs.RuleParts.{digits_misplacement, code_misplacement, block_misplacement}
+use Rattle.trlab_jobs.specs.RuleParts.{part_misplacement, misplacement, change_if_two_lanes, next_is_change}
+use Rattle.trlab_jobs.specs.RuleParts.{change_part, own_rule, rule_from, rule, later_rule, to_the_end}
+use Rattle.trlab_jobs.specs.{RuleParts.{later_rules_from, later_rules}, Stored.AreLaterRules}
 use Rattle.trlab_jobs.proofs.FineLines.{Chances, rule_line_fine, later_line_fine}
 
 -- a program that the verifier accepts

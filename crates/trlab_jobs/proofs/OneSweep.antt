@@ -1,30 +1,24 @@
 -- A sweep text has exactly one meaning: a sweep that can be run, or a first fault.
-use Rattle.std.proofs.Common.{◌≡◌, ℕ, ◌+◌, ◌-◌, ◌*◌, ◌≤◌, List, length, sym, subst, arith}
-use Rattle.std.specs.Prelude.{All, Result, Ok, Err, IfOk, codes}
+use Rattle.std.proofs.Common.{◌≡◌, ℕ, ◌+◌, ◌-◌, ◌*◌, ◌≤◌, List, length, sym, subst, arith, All, Result, Ok}
+use Rattle.std.proofs.Common.{Err, IfOk, codes}
 use Rattle.trlab_bounds.specs.declared.roads.TheConstants.{MAX_LENGTH, MAX_LANES}
 use Rattle.trlab_bounds.specs.declared.runs.TheConstants.{MAX_STEPS}
-use Rattle.trlab_asm.specs.Results.{map_ok}
-use Rattle.trlab_road.specs.Legal.{LanesFit, LengthFits, LimitFits}
+use Rattle.trlab_asm.specs.Operands.{map_ok}
+use Rattle.trlab_road.specs.Cells.{LanesFit, LengthFits, LimitFits}
 use Rattle.trlab_step.specs.Run.{IsRuleFor}
-use Rattle.trlab_texts.specs.Lines.{Rest, all_lines}
-use Rattle.trlab_texts.specs.Reading.{Fault, line, exactly}
-use Rattle.trlab_texts.proofs.Fine.{Anything, FineText, numbered}
-use Rattle.trlab_texts.proofs.OneAnswer.{OneText, OneReading, agree, said, fails, values, made, exact_line, then_one, said_one, text_one}
-use Rattle.trlab_jobs.specs.declared.limits.TheConstants.{MAX_WORK}
-use Rattle.trlab_jobs.specs.declared.sweep.Shape.{Shape}
-use Rattle.trlab_jobs.specs.declared.sweep.Span.{Span}
-use Rattle.trlab_jobs.specs.RuleParts.{rule}
-use Rattle.trlab_jobs.specs.Job.{key_line, limit_line}
-use Rattle.trlab_jobs.specs.Shapes.{length_line, lanes_line, warm_line, measure_line, shape, span, cell_count, all_steps}
-use Rattle.trlab_jobs.specs.Counts.{counts}
-use Rattle.trlab_jobs.specs.Sweep.{Setup, Sweep, sweep_line, sweep_heading, setup, with_counts, SweepLinesParseTo, ParsesAsSweep}
-use Rattle.trlab_jobs.specs.Stored.{CanSpreadOn, IsStoredSweep}
+use Rattle.trlab_texts.{specs.Reading.{Rest, all_lines, LocatedFault, line, exactly}, proofs.Fine.Anything}
+use Rattle.trlab_texts.proofs.{Fine.{FineText, numbered}, OneAnswer.{OneText, OneReading, agree, said, fails}}
+use Rattle.trlab_texts.proofs.OneAnswer.{values, made, exact_line, then_one, said_one, text_one}
+use Rattle.trlab_jobs.specs.declared.{limits.TheConstants.MAX_WORK, sweep.{Shape.Shape, Span.Span}}
+use Rattle.trlab_jobs.specs.{RuleParts.rule, Job.{key_line, limit_line}, Sweep.{length_line, lanes_line}}
+use Rattle.trlab_jobs.specs.Sweep.{warm_line, measure_line, shape, span, cell_count, all_steps, Setup, Sweep}
+use Rattle.trlab_jobs.specs.Sweep.{sweep_line, sweep_heading, setup, with_counts, SweepLinesParseTo}
+use Rattle.trlab_jobs.specs.{Sweep.ParsesAsSweep, Lines.counts, Stored.{CanSpreadOn, IsStoredSweep}}
 use Rattle.trlab_jobs.specs.Laws.{HasSomeResult, HasAtMostOneResult, NeverRefusesStandardRules}
-use Rattle.trlab_jobs.proofs.FineLines.{fixed_fine}
-use Rattle.trlab_jobs.proofs.FineCounts.{AllHaveRoom, counts_fine}
-use Rattle.trlab_jobs.proofs.SweepLines.{after_limit, after_cells, after_warm, after_key, after_shape, after_rule}
-use Rattle.trlab_jobs.proofs.OneRule.{FewLanes, rule_one}
-use Rattle.trlab_jobs.proofs.OneText.{key_one, limit_one}
+use Rattle.trlab_jobs.proofs.{FineLines.fixed_fine, FineCounts.{AllHaveRoom, counts_fine}}
+use Rattle.trlab_jobs.proofs.SweepLines.{after_limit, after_cells, after_warm, after_key, after_shape}
+use Rattle.trlab_jobs.proofs.{SweepLines.after_rule, OneRule.{FewLanes, rule_one}, OneText.key_one}
+use Rattle.trlab_jobs.proofs.OneText.{limit_one}
 
 -- roads may have this shape
 record IsShape (roads : Shape) : Type 0 where
@@ -93,12 +87,12 @@ stored common cars is all =
       work = subst (λ (k : ℕ). k * all_steps common.span ≤ MAX_WORK) all_points worked;
     }
 
-counts_stored : (common : Setup) (cars : Result (List ℕ) Fault) → IsSetup common → FineText (AllHaveRoom (cell_count common.shape) (all_steps common.span)) cars
+counts_stored : (common : Setup) (cars : Result (List ℕ) LocatedFault) → IsSetup common → FineText (AllHaveRoom (cell_count common.shape) (all_steps common.span)) cars
     → FineText IsStoredSweep (map_ok (λ cars. record { setup = common; cars = cars }) cars)
 counts_stored common (Ok cars) is all = stored common cars is all
 counts_stored common (Err fault) is fine = fine
 
-with_counts_fine : (found : Result (Setup × Rest) Fault) → FineText (λ (x : Setup × Rest). IsSetup x.0) found → FineText IsStoredSweep (with_counts found)
+with_counts_fine : (found : Result (Setup × Rest) LocatedFault) → FineText (λ (x : Setup × Rest). IsSetup x.0) found → FineText IsStoredSweep (with_counts found)
 with_counts_fine (Ok found) is =
     counts_stored found.0 (counts (cell_count found.0.shape) (all_steps found.0.span) found.1.number found.1.left) is
     (counts_fine (cell_count found.0.shape) (all_steps found.0.span) found.1.number found.1.left)
@@ -110,13 +104,13 @@ pub said_stored : (common : Setup) (cars : List ℕ) (at after : Rest) → setup
 said_stored common cars at after says counted =
     let all = counts_fine (cell_count common.shape) (all_steps common.span) after.number after.left in
     stored common cars (values (common, after) (setup_one at).one says)
-    (subst (λ (r : Result (List ℕ) Fault). FineText (AllHaveRoom (cell_count common.shape) (all_steps common.span)) r) (sym counted) all)
+    (subst (λ (r : Result (List ℕ) LocatedFault). FineText (AllHaveRoom (cell_count common.shape) (all_steps common.span)) r) (sym counted) all)
 
 sweep_text : (text : List ℕ) → OneText IsStoredSweep (ParsesAsSweep text)
 sweep_text text = text_one SweepLinesParseTo text (made with_counts (setup_one (all_lines text)).one with_counts_fine)
 
 -- a sweep text has a meaning, and without a fault this can be run
-pub says_stored : (text : List ℕ) → (says : Result Sweep Fault) × (ParsesAsSweep text says × IfOk says IsStoredSweep)
+pub says_stored : (text : List ℕ) → (says : Result Sweep LocatedFault) × (ParsesAsSweep text says × IfOk says IsStoredSweep)
 says_stored text = said (sweep_text text)
 
 pub something : HasSomeResult ParsesAsSweep

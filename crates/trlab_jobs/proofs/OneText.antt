@@ -1,26 +1,20 @@
 -- A job text has exactly one meaning: a job that can be run, or a first fault.
-use Rattle.std.proofs.Common.{◌≡◌, ℕ, List, length, refl, ◌∙◌, ap}
-use Rattle.std.specs.Prelude.{Result, Ok, Err, IfOk, codes}
-use Rattle.trlab_bounds.specs.declared.roads.TheConstants.{MAX_LIMIT}
-use Rattle.trlab_bounds.specs.declared.runs.TheConstants.{MAX_STEPS}
-use Rattle.trlab_road.specs.Cells.{Cells}
-use Rattle.trlab_road.specs.Legal.{IsLegal}
+use Rattle.std.proofs.Common.{◌≡◌, ℕ, List, length, refl, ◌∙◌, ap, Result, Ok, Err, IfOk, codes}
+use Rattle.trlab_bounds.specs.declared.{roads.TheConstants.MAX_LIMIT, runs.TheConstants.MAX_STEPS}
+use Rattle.trlab_road.specs.Cells.{Cells, IsLegal}
 use Rattle.trlab_rules.specs.Rules.{Programs}
 use Rattle.trlab_step.specs.Run.{Sheet}
-use Rattle.trlab_texts.specs.Lines.{Rest, all_lines}
-use Rattle.trlab_texts.specs.Reading.{Fault, Reading, line, exactly}
+use Rattle.trlab_texts.specs.Reading.{Rest, all_lines, LocatedFault, Reading, line, exactly}
 use Rattle.trlab_texts.proofs.Fine.{Anything, FineText, InRange, numbered}
-use Rattle.trlab_texts.proofs.OneAnswer.{OnePart, OneText, OneReading, agree, said, fails, values, exact_line, then_one, said_one, text_one}
-use Rattle.trlab_jobs.specs.Lanes.{lanes}
-use Rattle.trlab_jobs.specs.RuleParts.{rule}
-use Rattle.trlab_jobs.specs.Later.{later_rules}
-use Rattle.trlab_jobs.specs.Job.{Job, job, road_line, key_line, limit_line, steps_line, ReadingHasResult, JobLinesParseTo, ParsesAsJob}
-use Rattle.trlab_jobs.specs.Stored.{IsStoredJob}
-use Rattle.trlab_jobs.specs.Laws.{HasSomeResult, HasAtMostOneResult, NeverRefusesStandardRules}
-use Rattle.trlab_jobs.proofs.FineLines.{fixed_fine, key_line_fine}
-use Rattle.trlab_jobs.proofs.JobLines.{after_road, after_key, after_limit, after_lanes, after_rule, after_steps, after_all}
-use Rattle.trlab_jobs.proofs.OneLanes.{lanes_one}
-use Rattle.trlab_jobs.proofs.OneRule.{FewLanes, rule_one, later_rules_one}
+use Rattle.trlab_texts.proofs.OneAnswer.{OnePart, OneText, OneReading, agree, said, fails, values, exact_line}
+use Rattle.trlab_texts.proofs.OneAnswer.{then_one, said_one, text_one}
+use Rattle.trlab_jobs.specs.Job.{lanes, Job, job, road_line, key_line, limit_line, steps_line}
+use Rattle.trlab_jobs.specs.{Job.{ReadingHasResult, JobLinesParseTo, ParsesAsJob}, RuleParts.rule}
+use Rattle.trlab_jobs.specs.{RuleParts.later_rules, Stored.IsStoredJob, Laws.HasSomeResult}
+use Rattle.trlab_jobs.specs.Laws.{HasAtMostOneResult, NeverRefusesStandardRules}
+use Rattle.trlab_jobs.proofs.{FineLines.{fixed_fine, key_line_fine}, JobLines.{after_road, after_key}}
+use Rattle.trlab_jobs.proofs.JobLines.{after_limit, after_lanes, after_rule, after_steps, after_all}
+use Rattle.trlab_jobs.proofs.{OneLanes.lanes_one, OneRule.{FewLanes, rule_one, later_rules_one}}
 
 pub key_one : OneReading Anything (line (exactly key_line))
 key_one = exact_line key_line key_line_fine
@@ -67,17 +61,17 @@ job_one =
     then_one (lanes limit) (after_lanes key) (lanes_one limit) (lanes_on key))))
 
 -- a result without its end
-abbrev without_rest : {A : Type 0} → Result (A × Rest) Fault → Result A Fault
+abbrev without_rest : {A : Type 0} → Result (A × Rest) LocatedFault → Result A LocatedFault
 without_rest (Ok found) = Ok found.0
 without_rest (Err fault) = Err fault
 
-without_rest_says : {A : Type 0} (P : A → Type 0) (reading : Reading A) (place : Rest) (out : Result (A × Rest) Fault) → reading place out → FineText (λ (found : A × Rest). P found.0) out
+without_rest_says : {A : Type 0} (P : A → Type 0) (reading : Reading A) (place : Rest) (out : Result (A × Rest) LocatedFault) → reading place out → FineText (λ (found : A × Rest). P found.0) out
     → ReadingHasResult reading place (without_rest out) × FineText P (without_rest out)
 without_rest_says P reading place (Ok found) says fine = ((found.1, says), fine)
 without_rest_says P reading place (Err fault) says fine = (says, fine)
 
-with_rest : {A : Type 0} (reading : Reading A) (place : Rest) (says : Result A Fault) → ReadingHasResult reading place says
-    → (out : Result (A × Rest) Fault) × (reading place out × (says ≡ without_rest out))
+with_rest : {A : Type 0} (reading : Reading A) (place : Rest) (says : Result A LocatedFault) → ReadingHasResult reading place says
+    → (out : Result (A × Rest) LocatedFault) × (reading place out × (says ≡ without_rest out))
 with_rest reading place (Ok x) p = (Ok (x, p.0), (p.1, refl))
 with_rest reading place (Err fault) p = (Err fault, (p, refl))
 
@@ -97,7 +91,7 @@ pub job_text : (text : List ℕ) → OneText IsStoredJob (ParsesAsJob text)
 job_text text = text_one JobLinesParseTo text (to_the_end job (all_lines text) (job_one (all_lines text)))
 
 -- a job text has a meaning, and without a fault this can be run
-pub says_plain : (text : List ℕ) → (says : Result Job Fault) × (ParsesAsJob text says × IfOk says IsStoredJob)
+pub says_plain : (text : List ℕ) → (says : Result Job LocatedFault) × (ParsesAsJob text says × IfOk says IsStoredJob)
 says_plain text = said (job_text text)
 
 pub something : HasSomeResult ParsesAsJob

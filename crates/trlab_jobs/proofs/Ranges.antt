@@ -1,8 +1,6 @@
 -- Numbers of lines are in their ranges.
-use Rattle.std.proofs.Common.{ℕ, ◌≤◌, List}
-use Rattle.std.specs.Prelude.{Result, Ok, Err, IfOk}
-use Rattle.trlab_texts.specs.declared.fault.Cause.{Cause}
-use Rattle.trlab_texts.specs.Words.{number_within, word_after}
+use Rattle.std.proofs.Common.{ℕ, ◌≤◌, List, Result, Ok, Err, IfOk}
+use Rattle.trlab_texts.specs.{declared.fault.Cause.Cause, Words.{number_within, word_after}}
 use Rattle.trlab_texts.proofs.Fine.{Fine, InRange, numbered}
 
 above : (low high : ℕ) (r : Result ℕ Cause) → Fine (InRange low high) r → IfOk r (λ n. low ≤ n)

@@ -1,26 +1,22 @@
 -- The result for a rule, from its line and the lines after it.
-use Rattle.std.proofs.Common.{◌≡◌, ◌≤◌, ℕ, Bool, true, false, List, Option, None, Some, arith, ap, refl, subst}
-use Rattle.std.specs.Prelude.{Result, Ok, Err, IfOk, IfSome, MatchOption, MatchResult, IsSome, nat_eq}
+use Rattle.std.proofs.Common.{◌≡◌, ◌≤◌, ℕ, Bool, true, false, List, Option, None, Some, arith, ap, refl}
+use Rattle.std.proofs.Common.{subst, Result, Ok, Err, IfOk, IfSome, MatchOption, MatchResult, IsSome, nat_eq}
 use Rattle.std.proofs.lemmas.Bool.{eqb-false}
-use Rattle.trlab_code.specs.declared.program.Kind.TheVariants.{Motion, Change}
-use Rattle.trlab_code.specs.declared.view.View.{View}
+use Rattle.trlab_code.specs.declared.{program.Kind.TheVariants.{Motion, Change}, view.View.View}
 use Rattle.trlab_code.specs.Program.{Program}
-use Rattle.trlab_rules.specs.declared.standard.StandardFault.{StandardFault}
-use Rattle.trlab_rules.specs.Published.{nasch_speed, vdr_speed, rickert_crosses}
-use Rattle.trlab_rules.specs.Rules.{IsRule, Programs, IsChangeComputing, IsMotionComputing, IsNasch, IsRickert, IsVdr}
+use Rattle.trlab_rules.specs.{declared.standard.StandardFault.StandardFault, Published.nasch_speed}
+use Rattle.trlab_rules.specs.{Published.{vdr_speed, rickert_crosses}, Rules.{IsRule, Programs}}
+use Rattle.trlab_rules.specs.Rules.{IsChangeComputing, IsMotionComputing, IsNasch, IsRickert, IsVdr}
 use Rattle.trlab_rules.specs.Standard.{nasch_program, vdr_program, rickert_program}
 use Rattle.trlab_step.specs.Run.{IsRuleFor}
 use Rattle.trlab_verify.specs.Verified.{CheckedProgram, IsChecked}
-use Rattle.trlab_texts.specs.declared.fault.Cause.TheVariants.{OneLane}
-use Rattle.trlab_texts.specs.declared.fault.TextFault.{TextFault}
+use Rattle.trlab_texts.specs.declared.fault.{Cause.TheVariants.OneLane, TextFault.TextFault}
 use Rattle.trlab_texts.specs.declared.fault.TextFault.TheVariants.{At, Memory}
-use Rattle.trlab_jobs.specs.declared.rule_line.RuleLine.{RuleLine}
-use Rattle.trlab_texts.specs.Lines.{Rest}
-use Rattle.trlab_texts.specs.Reading.{Fault, Reading, line, exactly, give, ◌>>=◌, result_of_line, read_if, Reports}
-use Rattle.trlab_jobs.specs.RuleLines.{later_line, rule_line}
-use Rattle.trlab_jobs.specs.RuleParts.{IsMotionRule, IsTwoLaneRule, VerifiesAs, change_if_two_lanes, next_is_change, change_part, rule, rule_from}
-use Rattle.trlab_jobs.specs.Later.{later_rule}
-use Rattle.trlab_texts.proofs.Readings.{goes_on, stops}
+use Rattle.trlab_texts.specs.Reading.{Rest, LocatedFault, Reading, line, exactly, give, ◌>>=◌, result_of_line}
+use Rattle.trlab_texts.{specs.Reading.{read_if, Reports}, proofs.Readings.{goes_on, stops}}
+use Rattle.trlab_jobs.specs.{declared.rule_line.RuleLine.RuleLine, Lines.{later_line, rule_line}}
+use Rattle.trlab_jobs.specs.RuleParts.{IsMotionRule, IsTwoLaneRule, VerifiesAs, change_if_two_lanes}
+use Rattle.trlab_jobs.specs.RuleParts.{next_is_change, change_part, rule, rule_from, later_rule}
 
 verified : (speed : View → List ℕ → ℕ) (program : Program) (motion : CheckedProgram) → IsMotionComputing speed program motion → IsChecked Motion motion → VerifiesAs Motion program motion
 verified speed program motion is checked = (is.same, (is.accepted, checked))
@@ -113,7 +109,7 @@ change_on_two true lanes place after change two says = absurd cc
 change_on_two false lanes place after change two says = two refl
 
 -- the change program that was read, if there is one
-abbrev read_of : Result (Option CheckedProgram × Rest) Fault → Option CheckedProgram
+abbrev read_of : Result (Option CheckedProgram × Rest) LocatedFault → Option CheckedProgram
 read_of (Ok found) = found.0
 read_of (Err fault) = None
 

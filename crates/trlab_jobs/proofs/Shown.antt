@@ -1,18 +1,15 @@
 -- The result for a road, from its lanes, line by line.
-use Rattle.std.proofs.Common.{◌≡◌, ℕ, List, refl, subst}
-use Rattle.std.specs.Prelude.{Option, Result, Ok, Err}
+use Rattle.std.proofs.Common.{◌≡◌, ℕ, List, refl, subst, Option, Result, Ok, Err}
 use Rattle.trlab_road.specs.Cells.{Cells}
-use Rattle.trlab_texts.specs.declared.fault.TextFault.{TextFault}
-use Rattle.trlab_texts.specs.declared.fault.TextFault.TheVariants.{At, Memory}
-use Rattle.trlab_texts.specs.Lines.{Rest}
-use Rattle.trlab_texts.specs.Reading.{Fault, line, exactly, Reports, before}
-use Rattle.trlab_jobs.specs.Lanes.{lane_word, second_lane, PicturesParseTo, lanes}
+use Rattle.trlab_texts.specs.declared.fault.TextFault.{TextFault, TheVariants.{At, Memory}}
+use Rattle.trlab_texts.specs.Reading.{Rest, LocatedFault, line, exactly, Reports, before}
+use Rattle.trlab_jobs.specs.Job.{lane_word, second_lane, PicturesParseTo, lanes}
 
 -- the result for the pictures, by the line of the first lane
-abbrev PicturesSayAt : ℕ → List ℕ → Option (List ℕ) → ℕ → Result Cells Fault → Type 0
+abbrev PicturesSayAt : ℕ → List ℕ → Option (List ℕ) → ℕ → Result Cells LocatedFault → Type 0
 PicturesSayAt limit picture second first says = PicturesParseTo first limit picture second says
 
-lanes_say : (limit first : ℕ) (place middle behind : Rest) (picture : List ℕ) (second : Option (List ℕ)) (says : Result Cells Fault) → first ≡ place.number
+lanes_say : (limit first : ℕ) (place middle behind : Rest) (picture : List ℕ) (second : Option (List ℕ)) (says : Result Cells LocatedFault) → first ≡ place.number
     → line (exactly lane_word) place (Ok (picture, middle)) → second_lane middle (Ok (second, behind))
     → PicturesParseTo first limit picture second says → lanes limit place (before behind says)
 lanes_say limit first place middle behind picture second says here one two shows =

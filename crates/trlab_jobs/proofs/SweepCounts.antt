@@ -1,14 +1,10 @@
 -- The points of a sweep text, after the part that they share.
-use Rattle.std.proofs.Common.{◌≡◌, ℕ, List, ap}
-use Rattle.std.specs.Prelude.{Ok, Err}
-use Rattle.trlab_asm.specs.Results.{map_ok}
-use Rattle.trlab_texts.specs.declared.fault.TextFault.{TextFault}
-use Rattle.trlab_texts.specs.declared.fault.TextFault.TheVariants.{At, Memory}
-use Rattle.trlab_texts.specs.Lines.{Rest, all_lines}
-use Rattle.trlab_texts.specs.Reading.{Reports}
-use Rattle.trlab_jobs.specs.Shapes.{cell_count, all_steps}
-use Rattle.trlab_jobs.specs.Counts.{counts}
-use Rattle.trlab_jobs.specs.Sweep.{Setup, Sweep, setup, SweepLinesParseTo}
+use Rattle.std.proofs.Common.{◌≡◌, ℕ, List, ap, Ok, Err}
+use Rattle.trlab_asm.specs.Operands.{map_ok}
+use Rattle.trlab_texts.specs.declared.fault.TextFault.{TextFault, TheVariants.{At, Memory}}
+use Rattle.trlab_texts.specs.Reading.{Rest, all_lines, Reports}
+use Rattle.trlab_jobs.specs.Sweep.{cell_count, all_steps, Setup, Sweep, setup, SweepLinesParseTo}
+use Rattle.trlab_jobs.specs.Lines.{counts}
 
 -- the first fault of the points is that of the text
 pub counts_fail : (common : Setup) (text : List ℕ) (at after : Rest) (fault : TextFault) → at ≡ all_lines text → setup at (Ok (common, after))

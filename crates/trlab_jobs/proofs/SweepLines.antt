@@ -1,17 +1,11 @@
 -- The lines of a sweep text before its points, one after another.
-use Rattle.std.proofs.Common.{ℕ, List, refl}
-use Rattle.std.specs.Prelude.{Result, Ok, Err}
+use Rattle.std.proofs.Common.{ℕ, List, refl, Result, Ok, Err}
 use Rattle.trlab_rules.specs.Rules.{Programs}
-use Rattle.trlab_texts.specs.declared.fault.TextFault.{TextFault}
-use Rattle.trlab_texts.specs.Lines.{Rest}
-use Rattle.trlab_texts.specs.Reading.{Reading, ◌>>=◌, give, line, exactly, Reports}
-use Rattle.trlab_jobs.specs.declared.sweep.Shape.{Shape}
-use Rattle.trlab_jobs.specs.declared.sweep.Span.{Span}
-use Rattle.trlab_jobs.specs.Job.{key_line, limit_line}
-use Rattle.trlab_jobs.specs.RuleParts.{rule}
-use Rattle.trlab_jobs.specs.Shapes.{length_line, lanes_line, warm_line, measure_line, shape, span}
-use Rattle.trlab_jobs.specs.Sweep.{Setup, sweep_line, sweep_heading, setup}
-use Rattle.trlab_texts.proofs.Readings.{goes_on, stops}
+use Rattle.trlab_texts.specs.{declared.fault.TextFault.TextFault, Reading.{Rest, Reading, ◌>>=◌, give, line}}
+use Rattle.trlab_texts.{specs.Reading.{exactly, Reports}, proofs.Readings.{goes_on, stops}}
+use Rattle.trlab_jobs.specs.{declared.sweep.{Shape.Shape, Span.Span}, Job.{key_line, limit_line}}
+use Rattle.trlab_jobs.specs.{RuleParts.rule, Sweep.{length_line, lanes_line, warm_line, measure_line, shape}}
+use Rattle.trlab_jobs.specs.Sweep.{span, Setup, sweep_line, sweep_heading, setup}
 
 -- the part that is read after each line of the roads
 abbrev pub after_cells : ℕ → ℕ → Reading Shape

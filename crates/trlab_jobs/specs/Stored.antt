@@ -1,14 +1,10 @@
 -- The guarantees of the code about jobs and sweeps.
 use Rattle.std.specs.Prelude.{ℕ, ◌+◌, ◌*◌, ◌<◌, ◌≤◌, [], ◌∷◌, All, length}
 use Rattle.trlab_bounds.specs.declared.runs.TheConstants.{MAX_STEPS, MAX_LATER}
-use Rattle.trlab_road.specs.Legal.{IsLegal}
+use Rattle.trlab_road.specs.{Cells.IsLegal, Spreading.CanSpread}
 use Rattle.trlab_step.specs.Run.{IsRuleFor, Sheet}
-use Rattle.trlab_road.specs.Spreading.{CanSpread}
-use Rattle.trlab_jobs.specs.declared.limits.TheConstants.{MAX_POINTS, MAX_WORK}
-use Rattle.trlab_jobs.specs.Job.{Job}
-use Rattle.trlab_jobs.specs.declared.sweep.Shape.{Shape}
-use Rattle.trlab_jobs.specs.Shapes.{all_steps}
-use Rattle.trlab_jobs.specs.Sweep.{Sweep}
+use Rattle.trlab_jobs.specs.declared.{limits.TheConstants.{MAX_POINTS, MAX_WORK}, sweep.Shape.Shape}
+use Rattle.trlab_jobs.specs.{Job.Job, Sweep.{all_steps, Sweep}}
 
 -- later rules for roads with `lanes` lanes: their steps increase, are at least `least`, and are below `steps`
 abbrev pub AreLaterRules : ℕ → ℕ → ℕ → Sheet → Type 0

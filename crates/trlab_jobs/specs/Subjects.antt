@@ -1,10 +1,7 @@
 -- The kinds of inputs, and their first words.
-use Rattle.std.specs.Prelude.{ℕ, Bool, List, [], ◌∷◌, codes, map, Option, None, Some, if◌then◌else◌}
-use Rattle.std.specs.List.{list_any}
-use Rattle.std.specs.Str.{bytes_eq}
-use Rattle.std.specs.Char.{to_ascii_lowercase}
-use Rattle.trlab_jobs.specs.declared.subject.Subject.{Subject}
-use Rattle.trlab_jobs.specs.declared.subject.Subject.TheVariants.{Job, Sweep, Check}
+use Rattle.std.specs.Prelude.{ℕ, Bool, List, [], ◌∷◌, codes, map, Option, None, Some, if◌then◌else◌, bytes_eq}
+use Rattle.std.specs.{List.list_any, Char.to_ascii_lowercase}
+use Rattle.trlab_jobs.specs.declared.subject.Subject.{Subject, TheVariants.{Job, Sweep, Check}}
 
 -- whether a word is this name, in small or capital letters
 abbrev pub is_named : List ℕ → List ℕ → Bool

@@ -41,7 +41,7 @@ impl Model for Check {
 
 /// Splits the first line of a check text: with the prefix `notes ` it asks for notes, otherwise only for the
 /// verdict.
-fn question_of<'a>(line: Excerpt<'a>) -> (Question, Excerpt<'a>)
+fn read_question<'a>(line: Excerpt<'a>) -> (Question, Excerpt<'a>)
     ensures { result ≡ question_of line.entry }
 {
     match line.after(b"notes ") {
@@ -106,7 +106,7 @@ fn read_lines(alloc: Global, text: &[u8]) -> Result<Check, Refusal<'_>>
     let Some((first, rest)) = next_line(text) else {
         return Err(Refusal::no_line(1, headings()));
     };
-    let (question, line) = question_of(Excerpt::of(first));
+    let (question, line) = read_question(Excerpt::of(first));
     let code = read_program(alloc, &line, rest)?;
     Ok(Check { question, code })
 }
@@ -118,7 +118,7 @@ fn read_lines(alloc: Global, text: &[u8]) -> Result<Check, Refusal<'_>>
 /// A refusal with the first fault of the text: `TooBig` at line 0 if the text is too long, in which case nothing is
 /// read, and otherwise a cause at its line. The fault is `TextFault::Memory` if an allocation fails.
 pub fn parse_check(alloc: Global, text: &[u8]) -> Result<Check, Refusal<'_>>
-    ensures told { Reports (ParsesAsCheck text.now) result }
+    ensures reported { Reports (ParsesAsCheck text.now) result }
     ensures too_big { TEXT_LIMIT < length text.now → result ≡ Err (TextFault.At 0 Cause.TooBig) }
 {
     if text.len() > TEXT_LIMIT {
@@ -136,7 +136,7 @@ pub fn parse_check(alloc: Global, text: &[u8]) -> Result<Check, Refusal<'_>>
 ///
 /// The fault of [`parse_check`].
 pub fn read_check(alloc: Global, text: &[u8]) -> Result<Check, TextFault>
-    ensures told { Reports (ParsesAsCheck text.now) result }
+    ensures reported { Reports (ParsesAsCheck text.now) result }
     ensures too_big { TEXT_LIMIT < length text.now → result ≡ Err (TextFault.At 0 Cause.TooBig) }
 {
     match parse_check(alloc, text) {

@@ -2,7 +2,7 @@
 
 ghost use Rattle.std.specs.Prelude.{◌≡◌, ◌<◌, ◌≤◌, Err, IfOk, length};
 ghost use Rattle.trlab_jobs.specs.Job.{road_line, key_line, limit_line, steps_line, ParsesAsJob, JobLinesParseTo, ReadingHasResult, job_after};
-ghost use Rattle.trlab_road.specs.Legal.{IsLegal};
+ghost use Rattle.trlab_road.specs.Cells.{IsLegal};
 ghost use Rattle.trlab_texts.specs.Reading.{Reports};
 ghost use Rattle.trlab_jobs.specs.Stored.{IsStoredJob};
 ghost use Rattle.trlab_bounds.specs.declared.texts.TheConstants.{TEXT_LIMIT};
@@ -59,7 +59,7 @@ impl Model for Job {
 }
 
 /// Reads the line `road 1`.
-pub fn road_line(line: &[u8]) -> Result<(), Objection<'_>>
+pub fn read_road_line(line: &[u8]) -> Result<(), Objection<'_>>
     ensures { result ≡ road_line line.now }
 {
     if line == b"road 1".as_slice() {
@@ -70,25 +70,25 @@ pub fn road_line(line: &[u8]) -> Result<(), Objection<'_>>
 }
 
 /// Reads the line `key H`, where H is 64 hexadecimal digits of either case.
-pub fn key_line(line: &[u8]) -> Result<[u8; 32], Objection<'_>>
+pub fn read_key_line(line: &[u8]) -> Result<[u8; 32], Objection<'_>>
     ensures { result ≡ key_line line.now }
 {
     let digits = Excerpt::of(line).word_after(LineName::Key.name_and_space())?;
     match <[u8; 32]>::from_hex(digits.bytes()) {
         Ok(key) => Ok(key),
-        Err(_) => Err(digits.no_key()),
+        Err(_) => Err(digits.not_a_key()),
     }
 }
 
 /// Reads the line `limit n`, where n is the maximum speed, 1 to `MAX_LIMIT` cells per step.
-pub fn limit_line(line: &[u8]) -> Result<u32, Objection<'_>>
+pub fn read_limit_line(line: &[u8]) -> Result<u32, Objection<'_>>
     ensures { result ≡ limit_line line.now }
 {
     Excerpt::number_after(LineName::Limit, 1, MAX_LIMIT, line)
 }
 
 /// Reads the line `steps n`, where n is 0 to `MAX_STEPS`.
-pub fn steps_line(line: &[u8]) -> Result<u32, Objection<'_>>
+pub fn read_steps_line(line: &[u8]) -> Result<u32, Objection<'_>>
     ensures { result ≡ steps_line line.now }
 {
     Excerpt::number_after(LineName::Steps, 0, MAX_STEPS, line)
@@ -97,7 +97,7 @@ pub fn steps_line(line: &[u8]) -> Result<u32, Objection<'_>>
 /// Reads the lines after the lanes: a rule, the number of steps, and rules of later steps.
 fn read_rules(alloc: Global, key: [u8; 32], road: Road, rest: Rest<'_>) -> Result<Job, Refusal<'_>>
     requires { IsLegal road }
-    ensures told { Reports (ReadingHasResult (job_after key road) rest.entry) result }
+    ensures reported { Reports (ReadingHasResult (job_after key road) rest.entry) result }
     ensures stored { IfOk result IsStoredJob }
 {
     let lanes = rule::Lanes {
@@ -105,7 +105,7 @@ fn read_rules(alloc: Global, key: [u8; 32], road: Road, rest: Rest<'_>) -> Resul
         line: rest.line_before(),
     };
     let (first, rest) = rule::rule(alloc, lanes, rest)?;
-    let (steps, rest) = rest.read_line(LineName::Steps, steps_line)?;
+    let (steps, rest) = rest.read_line(LineName::Steps, read_steps_line)?;
     let (later, _) = rule::later_rules(alloc, lanes, steps, rest)?;
     Ok(Job {
         key: Key(key),
@@ -119,12 +119,12 @@ fn read_rules(alloc: Global, key: [u8; 32], road: Road, rest: Rest<'_>) -> Resul
 /// Reads the lines of a job text of at most `TEXT_LIMIT` bytes.
 fn read_lines(alloc: Global, text: &[u8]) -> Result<Job, Refusal<'_>>
     requires { length text.now ≤ TEXT_LIMIT }
-    ensures told { Reports (JobLinesParseTo text.now) result }
+    ensures reported { Reports (JobLinesParseTo text.now) result }
     ensures stored { IfOk result IsStoredJob }
 {
-    let ((), rest) = Rest::start(text).read_line(LineName::Road, road_line)?;
-    let (key, rest) = rest.read_line(LineName::Key, key_line)?;
-    let (limit, rest) = rest.read_line(LineName::Limit, limit_line)?;
+    let ((), rest) = Rest::start(text).read_line(LineName::Road, read_road_line)?;
+    let (key, rest) = rest.read_line(LineName::Key, read_key_line)?;
+    let (limit, rest) = rest.read_line(LineName::Limit, read_limit_line)?;
     let (road, rest) = lane::lanes(alloc, limit, rest)?;
     read_rules(alloc, key, road, rest)
 }
@@ -136,7 +136,7 @@ fn read_lines(alloc: Global, text: &[u8]) -> Result<Job, Refusal<'_>>
 /// A refusal with the first fault of the text: `TooBig` at line 0 if the text is too long, in which case nothing is
 /// read, and otherwise a cause at its line. The fault is `TextFault::Memory` if an allocation fails.
 pub fn parse_job(alloc: Global, text: &[u8]) -> Result<Job, Refusal<'_>>
-    ensures told { Reports (ParsesAsJob text.now) result }
+    ensures reported { Reports (ParsesAsJob text.now) result }
     ensures too_big { TEXT_LIMIT < length text.now → result ≡ Err (TextFault.At 0 Cause.TooBig) }
     ensures stored { IfOk result IsStoredJob }
 {
@@ -155,7 +155,7 @@ pub fn parse_job(alloc: Global, text: &[u8]) -> Result<Job, Refusal<'_>>
 ///
 /// The fault of [`parse_job`].
 pub fn read_job(alloc: Global, text: &[u8]) -> Result<Job, TextFault>
-    ensures told { Reports (ParsesAsJob text.now) result }
+    ensures reported { Reports (ParsesAsJob text.now) result }
     ensures too_big { TEXT_LIMIT < length text.now → result ≡ Err (TextFault.At 0 Cause.TooBig) }
     ensures stored { IfOk result IsStoredJob }
 {

@@ -2,11 +2,11 @@
 
 ghost use Rattle.std.specs.Prelude.{◌≡◌, ◌+◌, ◌∷◌, IfOk, option_map, option_to_list};
 ghost use Rattle.std.specs.Result.{result_map_both};
-ghost use Rattle.trlab_road.specs.Legal.{IsLegal};
+ghost use Rattle.trlab_road.specs.Cells.{IsLegal};
 ghost use Rattle.trlab_road.specs.Pictures.{pictures_of};
-ghost use Rattle.trlab_texts.specs.Wanted.{IsWantedFor};
+ghost use Rattle.trlab_texts.specs.Causes.{IsWantedFor};
 ghost use Rattle.trlab_texts.specs.Reading.{Reports, line, exactly};
-ghost use Rattle.trlab_jobs.specs.Lanes.{lane_word, second_lane, line_of_fault, LanesParseTo, PicturesParseTo, lanes};
+ghost use Rattle.trlab_jobs.specs.Job.{lane_word, second_lane, line_of_fault, LanesParseTo, PicturesParseTo, lanes};
 
 use std::alloc::Global;
 use trlab_bounds::roads::MAX_LENGTH;
@@ -14,7 +14,7 @@ use trlab_road::{Road, RoadFault};
 use trlab_texts::{Cause, Excerpt, LineName, Objection, Refusal, Rest, TextFault, Wanted};
 
 /// Reads the line `lane P`, where P is the picture of a lane.
-fn lane_word(line: &[u8]) -> Result<Excerpt<'_>, Objection<'_>>
+fn read_lane_word(line: &[u8]) -> Result<Excerpt<'_>, Objection<'_>>
     ensures { result ≡ lane_word line.now }
 {
     Excerpt::of(line).word_after(LineName::Lane.name_and_space())
@@ -22,10 +22,10 @@ fn lane_word(line: &[u8]) -> Result<Excerpt<'_>, Objection<'_>>
 
 /// Reads the picture of a lane.
 fn lane(rest: Rest<'_>) -> Result<(Excerpt<'_>, Rest<'_>), Refusal<'_>>
-    ensures told { Reports (line (exactly lane_word) rest.entry) result }
+    ensures reported { Reports (line (exactly lane_word) rest.entry) result }
     ensures next { IfOk result (λ found. found.1.number ≡ rest.entry.number + 1) }
 {
-    rest.read_line(LineName::Lane, lane_word)
+    rest.read_line(LineName::Lane, read_lane_word)
 }
 
 /// Reads the picture of a second lane, if the next line begins with `lane`.
@@ -104,7 +104,7 @@ fn parse_pictures<'a>(
     cells: usize,
     pictures: &[&[u8]],
 ) -> Result<Road, Refusal<'a>>
-    ensures told { Reports (LanesParseTo first last limit (pictures_of pictures.now)) result }
+    ensures reported { Reports (LanesParseTo first last limit (pictures_of pictures.now)) result }
     ensures legal { IfOk result (λ road. IsLegal road) }
 {
     match Road::parse(alloc, limit, pictures) {
@@ -124,7 +124,7 @@ fn road_of<'a>(
     second: Option<Excerpt<'a>>,
 ) -> Result<Road, Refusal<'a>>
     requires { after ≡ first + 1 }
-    ensures told { Reports
+    ensures reported { Reports
         (PicturesParseTo first limit picture.entry second.entry) result }
     ensures legal { IfOk result (λ road. IsLegal road) }
 {
@@ -141,7 +141,7 @@ fn road_of<'a>(
 
 /// Reads the lanes of a road: a line `lane P`, and the next line if it begins with `lane`.
 pub fn lanes(alloc: Global, limit: u32, rest: Rest<'_>) -> Result<(Road, Rest<'_>), Refusal<'_>>
-    ensures told { Reports (lanes limit rest.entry) result }
+    ensures reported { Reports (lanes limit rest.entry) result }
     ensures legal { IfOk result (λ found. IsLegal found.0) }
 {
     let first = rest.number();

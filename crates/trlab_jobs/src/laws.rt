@@ -8,21 +8,21 @@ ghost use Rattle.trlab_jobs.specs.Laws.{LongTextsHaveTheSameResults, NeverRefuse
 ghost use Rattle.trlab_jobs.specs.Sweep.{ParsesAsSweep};
 
 /// Any job text has exactly one result: a job, or its first fault.
-pub fn text_says_one_thing()
-    ensures something { HasSomeResult ParsesAsJob }
-    ensures one_thing { HasAtMostOneResult ParsesAsJob }
+pub fn job_text_has_one_result()
+    ensures some_result { HasSomeResult ParsesAsJob }
+    ensures one_result { HasAtMostOneResult ParsesAsJob }
 {}
 
 /// Any check text has exactly one result: a program and a question, or its first fault.
-pub fn check_says_one_thing()
-    ensures something { HasSomeResult ParsesAsCheck }
-    ensures one_thing { HasAtMostOneResult ParsesAsCheck }
+pub fn check_text_has_one_result()
+    ensures some_result { HasSomeResult ParsesAsCheck }
+    ensures one_result { HasAtMostOneResult ParsesAsCheck }
 {}
 
 /// Any sweep text has exactly one result: a sweep, or its first fault.
-pub fn sweep_says_one_thing()
-    ensures something { HasSomeResult ParsesAsSweep }
-    ensures one_thing { HasAtMostOneResult ParsesAsSweep }
+pub fn sweep_text_has_one_result()
+    ensures some_result { HasSomeResult ParsesAsSweep }
+    ensures one_result { HasAtMostOneResult ParsesAsSweep }
 {}
 
 /// No text is rejected because the verifier rejects a program of a standard rule: it accepts all of them.
@@ -34,7 +34,7 @@ pub fn standard_rules_are_never_refused()
 
 /// All texts longer than `TEXT_LIMIT` have the same result: their only fault is their length. So the first
 /// `TEXT_LIMIT + 1` bytes of a longer text have the result of the whole text.
-pub fn long_texts_say_the_same()
+pub fn long_texts_have_the_same_results()
     ensures job { LongTextsHaveTheSameResults ParsesAsJob }
     ensures sweep { LongTextsHaveTheSameResults ParsesAsSweep }
     ensures check { LongTextsHaveTheSameResults ParsesAsCheck }

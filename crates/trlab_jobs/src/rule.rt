@@ -5,13 +5,13 @@ ghost use Rattle.trlab_bounds.specs.declared.roads.TheConstants.{MAX_LANES};
 ghost use Rattle.trlab_step.specs.Run.{IsRuleFor};
 ghost use Rattle.trlab_texts.specs.Reading.{Reports, ReportsFault, line, exactly};
 ghost use Rattle.trlab_texts.specs.Words.{word_after};
-ghost use Rattle.trlab_jobs.specs.RuleLines.{rule_line, later_line};
+ghost use Rattle.trlab_jobs.specs.Lines.{rule_line, later_line};
 ghost use Rattle.trlab_jobs.specs.RuleParts.{code_misplacement, misplacement, next_is_change, change_if_two_lanes, change_part, own_rule, rule_from, rule};
 ghost use Rattle.std.specs.Result.{result_map_both};
-ghost use Rattle.trlab_jobs.specs.Later.{later_rule, later_rules};
+ghost use Rattle.trlab_jobs.specs.RuleParts.{later_rule, later_rules};
 ghost use Rattle.trlab_jobs.specs.Stored.{AreLaterRules};
 
-use crate::rule_line::{RuleLine, later_line, rule_line};
+use crate::rule_line::{RuleLine, read_later_rule_line, read_rule_line};
 use hex::FromHexError;
 use std::alloc::{AllocError, Global};
 use trlab_bounds::runs::MAX_LATER;
@@ -126,7 +126,7 @@ fn change_part(
 
 /// Reads the programs of `rule own`: a motion program, and optionally a change program.
 fn own_rule(alloc: Global, lanes: Lanes, rest: Rest<'_>) -> Result<(Rule, Rest<'_>), Refusal<'_>>
-    ensures told { Reports (own_rule lanes.count rest.entry) result }
+    ensures reported { Reports (own_rule lanes.count rest.entry) result }
     ensures suits { IfOk result (λ found. IsRuleFor lanes.count found.0) }
 {
     let (motion, rest) = program::accepted_part::<MotionKind>(alloc, rest)?;
@@ -156,7 +156,7 @@ pub fn rule_from(
     line: RuleLine<Chance>,
     rest: Rest<'_>,
 ) -> Result<(Rule, Rest<'_>), Refusal<'_>>
-    ensures told { Reports (rule_from lanes.count number line rest.entry) result }
+    ensures reported { Reports (rule_from lanes.count number line rest.entry) result }
     ensures suits { IfOk result (λ found. IsRuleFor lanes.count found.0) }
 {
     match line {
@@ -175,11 +175,11 @@ pub fn rule_from(
 
 /// Reads a rule: a line `rule ..`, and its programs if it is `rule own`.
 pub fn rule(alloc: Global, lanes: Lanes, rest: Rest<'_>) -> Result<(Rule, Rest<'_>), Refusal<'_>>
-    ensures told { Reports (rule lanes.count rest.entry) result }
+    ensures reported { Reports (rule lanes.count rest.entry) result }
     ensures suits { IfOk result (λ found. IsRuleFor lanes.count found.0) }
 {
     let number = rest.number();
-    let (line, rest) = rest.read_line(LineName::Rule, rule_line)?;
+    let (line, rest) = rest.read_line(LineName::Rule, read_rule_line)?;
     rule_from(alloc, lanes, number, line, rest)
 }
 
@@ -191,12 +191,15 @@ fn read_later_line(
     least: u32,
     rest: Rest<'_>,
 ) -> Result<((u32, RuleLine<Chance>), Rest<'_>), Refusal<'_>>
-    ensures told { Reports (line (exactly (later_line room steps least)) rest.entry) result }
+    ensures reported { Reports (line (exactly (later_line room steps least)) rest.entry) result }
     ensures room { OnOk result (0 < room) }
     ensures rises { IfOk result (λ found. least ≤ found.0.0) }
-    ensures within { IfOk result (λ found. found.0.0 < steps) }
+    ensures in_range { IfOk result (λ found. found.0.0 < steps) }
 {
-    rest.read_line(LineName::At, |text| later_line(room, steps, least, text))
+    rest.read_line(
+        LineName::At,
+        |text| read_later_rule_line(room, steps, least, text),
+    )
 }
 
 /// Reads a later rule. Returns the step from which it applies, the rule and the rest.
@@ -208,10 +211,10 @@ fn later_rule(
     least: u32,
     rest: Rest<'_>,
 ) -> Result<((u32, Rule), Rest<'_>), Refusal<'_>>
-    ensures told { Reports (later_rule room lanes.count steps least rest.entry) result }
+    ensures reported { Reports (later_rule room lanes.count steps least rest.entry) result }
     ensures room { OnOk result (0 < room) }
     ensures rises { IfOk result (λ found. least ≤ found.0.0) }
-    ensures within { IfOk result (λ found. found.0.0 < steps) }
+    ensures in_range { IfOk result (λ found. found.0.0 < steps) }
     ensures suits { IfOk result (λ found. IsRuleFor lanes.count found.0.1) }
 {
     let number = rest.number();
@@ -227,7 +230,7 @@ pub fn later_rules(
     steps: u32,
     mut rest: Rest<'_>,
 ) -> Result<(Vec<(u32, Rule)>, Rest<'_>), Refusal<'_>>
-    ensures told { Reports (later_rules lanes.count steps rest.entry)
+    ensures reported { Reports (later_rules lanes.count steps rest.entry)
         (result_map_both (λ found. (found.0.items, found.1)) (λ fault. fault) result) }
     ensures later { IfOk result (λ found. AreLaterRules lanes.count steps 0 found.0.items) }
 {

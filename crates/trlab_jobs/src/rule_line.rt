@@ -1,7 +1,7 @@
 //! Lines that state rules. All words are checked before the numbers, which are checked from left to right.
 
 ghost use Rattle.std.specs.Prelude.{◌≡◌, ◌<◌, ◌≤◌, IfOk, OnOk, option_map};
-ghost use Rattle.trlab_jobs.specs.RuleLines.{rule_words, probability_of, rule_with_probabilities, rule_line, later_words, admit_step, later_line};
+ghost use Rattle.trlab_jobs.specs.Lines.{rule_words, probability_of, rule_with_probabilities, rule_line, later_words, admit_step, later_line};
 
 use trlab_texts::{Cause, Excerpt, Objection, Quantity, Wanted};
 use trlab_words::{CERTAIN, Chance};
@@ -20,7 +20,7 @@ pub enum RuleLine<T> {
 }
 
 /// The words of a line `rule ..`, if they state a rule.
-fn rule_words<'a>(line: &Excerpt<'a>) -> Option<RuleLine<Excerpt<'a>>>
+fn read_rule_words<'a>(line: &Excerpt<'a>) -> Option<RuleLine<Excerpt<'a>>>
     ensures { result ≡ rule_words line.now }
 {
     if let Some(words) = line.after(b"rule nasch ") {
@@ -49,7 +49,7 @@ fn rule_words<'a>(line: &Excerpt<'a>) -> Option<RuleLine<Excerpt<'a>>>
 }
 
 /// The probability, times 2^31, that a word writes.
-fn probability_of(word: Excerpt<'_>) -> Result<Chance, Objection<'_>>
+fn read_probability(word: Excerpt<'_>) -> Result<Chance, Objection<'_>>
     ensures { result ≡ probability_of word.entry }
 {
     match Chance::new(word.number(0, CERTAIN, Quantity::Probability)?) {
@@ -59,23 +59,21 @@ fn probability_of(word: Excerpt<'_>) -> Result<Chance, Objection<'_>>
 }
 
 /// The numbers of a line `rule ..`, from left to right.
-fn rule_with_probabilities<'a>(
-    words: RuleLine<Excerpt<'a>>,
-) -> Result<RuleLine<Chance>, Objection<'a>>
+fn read_probabilities<'a>(words: RuleLine<Excerpt<'a>>) -> Result<RuleLine<Chance>, Objection<'a>>
     ensures { result ≡ rule_with_probabilities words.entry }
 {
     match words {
         RuleLine::Nasch { brake } => Ok(RuleLine::Nasch {
-            brake: probability_of(brake)?,
+            brake: read_probability(brake)?,
         }),
         RuleLine::Vdr { moving, stopped } => {
-            let moving = probability_of(moving)?;
-            let stopped = probability_of(stopped)?;
+            let moving = read_probability(moving)?;
+            let stopped = read_probability(stopped)?;
             Ok(RuleLine::Vdr { moving, stopped })
         }
         RuleLine::Rickert { brake, crossing } => {
-            let brake = probability_of(brake)?;
-            let crossing = probability_of(crossing)?;
+            let brake = read_probability(brake)?;
+            let crossing = read_probability(crossing)?;
             Ok(RuleLine::Rickert { brake, crossing })
         }
         RuleLine::Own => Ok(RuleLine::Own),
@@ -83,24 +81,24 @@ fn rule_with_probabilities<'a>(
 }
 
 /// Reads a line `rule ..`.
-pub fn rule_line(line: &[u8]) -> Result<RuleLine<Chance>, Objection<'_>>
+pub fn read_rule_line(line: &[u8]) -> Result<RuleLine<Chance>, Objection<'_>>
     ensures { result ≡ rule_line line.now }
 {
-    match rule_words(&Excerpt::of(line)) {
-        Some(words) => rule_with_probabilities(words),
+    match read_rule_words(&Excerpt::of(line)) {
+        Some(words) => read_probabilities(words),
         None => Err(Objection::no_line()),
     }
 }
 
 /// The words of a line `at s rule ..`: the step, and the words of the rule.
-fn later_words<'a>(line: &Excerpt<'a>) -> Option<(Excerpt<'a>, RuleLine<Excerpt<'a>>)>
+fn read_later_words<'a>(line: &Excerpt<'a>) -> Option<(Excerpt<'a>, RuleLine<Excerpt<'a>>)>
     ensures { result ≡ later_words line.now }
 {
     let (step, words) = line.after(b"at ")?.cut(b' ')?;
     if !step.is_word() {
         return None;
     }
-    let rule = rule_words(&words)?;
+    let rule = read_rule_words(&words)?;
     Some((step, rule))
 }
 
@@ -110,7 +108,7 @@ fn admit_step<'a>(room: u32, steps: u32, least: u32, step: u64) -> Result<u32, O
     ensures value { result ≡ admit_step room steps least step }
     ensures room { OnOk result (0 < room) }
     ensures rises { IfOk result (λ from. least ≤ from) }
-    ensures within { IfOk result (λ from. from < steps) }
+    ensures in_range { IfOk result (λ from. from < steps) }
 {
     if room == 0 {
         return Err(Objection::bare(Cause::TooMany));
@@ -124,7 +122,7 @@ fn admit_step<'a>(room: u32, steps: u32, least: u32, step: u64) -> Result<u32, O
 }
 
 /// Reads a line `at s rule ..`. Checks its words, then its numbers, the room for it, and the order of the steps.
-pub fn later_line(
+pub fn read_later_rule_line(
     room: u32,
     steps: u32,
     least: u32,
@@ -133,13 +131,13 @@ pub fn later_line(
     ensures value { result ≡ later_line room steps least line.now }
     ensures room { OnOk result (0 < room) }
     ensures rises { IfOk result (λ at. least ≤ at.0) }
-    ensures within { IfOk result (λ at. at.0 < steps) }
+    ensures in_range { IfOk result (λ at. at.0 < steps) }
 {
-    let Some((step, rule)) = later_words(&Excerpt::of(line)) else {
+    let Some((step, rule)) = read_later_words(&Excerpt::of(line)) else {
         return Err(Objection::no_line());
     };
     let step = step.long_number()?;
-    let rule = rule_with_probabilities(rule)?;
+    let rule = read_probabilities(rule)?;
     let from = admit_step(room, steps, least, step)?;
     Ok((from, rule))
 }

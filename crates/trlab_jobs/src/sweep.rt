@@ -4,18 +4,17 @@ ghost use Rattle.std.specs.Prelude.{◌≡◌, ◌≢◌, ◌<◌, ◌≤◌, []
 ghost use Rattle.trlab_bounds.specs.declared.roads.TheConstants.{MAX_LENGTH, MAX_LANES};
 ghost use Rattle.trlab_bounds.specs.declared.runs.TheConstants.{MAX_STEPS};
 ghost use Rattle.trlab_texts.specs.Reading.{Reports, line, exactly};
-ghost use Rattle.trlab_texts.specs.LineNames.{name_and_space};
-ghost use Rattle.trlab_texts.specs.Words.{number_within, word_after};
-ghost use Rattle.trlab_jobs.specs.Shapes.{shape, span};
+ghost use Rattle.trlab_texts.specs.Words.{name_and_space, number_within, word_after};
+ghost use Rattle.trlab_jobs.specs.Sweep.{shape, span};
 ghost use Rattle.std.specs.Result.{result_map_both};
 ghost use Rattle.trlab_jobs.specs.declared.limits.TheConstants.{MAX_POINTS};
-ghost use Rattle.trlab_jobs.specs.Counts.{admit_cars, cars_line, counts, counts_from};
+ghost use Rattle.trlab_jobs.specs.Lines.{admit_cars, cars_line, counts, counts_from};
 ghost use Rattle.trlab_bounds.specs.declared.texts.TheConstants.{TEXT_LIMIT};
 ghost use Rattle.trlab_jobs.specs.Job.{key_line};
 ghost use Rattle.trlab_jobs.specs.Sweep.{sweep_heading, setup, sweep_line, SweepLinesParseTo, ParsesAsSweep};
 ghost use Rattle.trlab_jobs.specs.Stored.{IsStoredSweep};
 
-use crate::job::key_line;
+use crate::job::read_key_line;
 use crate::limits::{MAX_CARS, MAX_POINTS, MAX_WORK};
 use crate::rule;
 use std::alloc::Global;
@@ -137,7 +136,7 @@ pub struct Span {
 }
 
 /// Reads a line with this name and a number from `low` to `high`.
-fn number_line(name: LineName, low: u32, high: u32, line: &[u8]) -> Result<u32, Objection<'_>>
+fn read_number_line(name: LineName, low: u32, high: u32, line: &[u8]) -> Result<u32, Objection<'_>>
     ensures value { result ≡ number_within low high (word_after (name_and_space name) line.now) }
     ensures low { IfOk result (λ n. low ≤ n) }
     ensures high { IfOk result (λ n. n ≤ high) }
@@ -152,20 +151,20 @@ fn number(
     high: u32,
     rest: Rest<'_>,
 ) -> Result<(u32, Rest<'_>), Refusal<'_>>
-    ensures told { Reports
+    ensures reported { Reports
         (line (exactly (λ text. number_within low high (word_after (name_and_space name) text))) rest.entry) result }
     ensures low { IfOk result (λ found. low ≤ found.0) }
     ensures high { IfOk result (λ found. found.0 ≤ high) }
 {
-    rest.read_line(name, |text| number_line(name, low, high, text))
+    rest.read_line(name, |text| read_number_line(name, low, high, text))
 }
 
 /// Reads the lines `limit n`, `length n` and `lanes n`.
 pub fn read_shape(rest: Rest<'_>) -> Result<(Shape, Rest<'_>), Refusal<'_>>
-    ensures told { Reports (shape rest.entry) result }
+    ensures reported { Reports (shape rest.entry) result }
     ensures cells { IfOk result (λ found. found.0.length ≤ MAX_LENGTH) }
-    ensures some { IfOk result (λ found. 1 ≤ found.0.lanes) }
-    ensures few { IfOk result (λ found. found.0.lanes ≤ MAX_LANES) }
+    ensures at_least_one_lane { IfOk result (λ found. 1 ≤ found.0.lanes) }
+    ensures at_most_max_lanes { IfOk result (λ found. found.0.lanes ≤ MAX_LANES) }
 {
     let (limit, rest) = number(LineName::Limit, 1, MAX_LIMIT, rest)?;
     let (length, rest) = number(LineName::Length, 1, MAX_LENGTH, rest)?;
@@ -182,7 +181,7 @@ pub fn read_shape(rest: Rest<'_>) -> Result<(Shape, Rest<'_>), Refusal<'_>>
 
 /// Reads the lines `warm n` and `measure n`.
 pub fn read_span(rest: Rest<'_>) -> Result<(Span, Rest<'_>), Refusal<'_>>
-    ensures told { Reports (span rest.entry) result }
+    ensures reported { Reports (span rest.entry) result }
     ensures warm { IfOk result (λ found. found.0.warm ≤ MAX_STEPS) }
     ensures measure { IfOk result (λ found. found.0.measure ≤ MAX_STEPS) }
 {
@@ -214,7 +213,7 @@ fn admit_cars<'a>(cells: u32, steps: u32, point: u32, count: u32) -> Result<u32,
 }
 
 /// Reads the line `cars n` of the point with the number `point`, counted from 1. A road has `cells` cells.
-fn cars_line(cells: u32, steps: u32, point: u32, line: &[u8]) -> Result<u32, Objection<'_>>
+fn read_cars_line(cells: u32, steps: u32, point: u32, line: &[u8]) -> Result<u32, Objection<'_>>
     ensures value { result ≡ cars_line cells steps point line.now }
     ensures room { OnOk result (point ≤ MAX_POINTS) }
 {
@@ -230,10 +229,13 @@ fn next_count(
     point: u32,
     rest: Rest<'_>,
 ) -> Result<(u32, Rest<'_>), Refusal<'_>>
-    ensures told { Reports (line (exactly (cars_line cells steps point)) rest.entry) result }
+    ensures reported { Reports (line (exactly (cars_line cells steps point)) rest.entry) result }
     ensures room { OnOk result (point ≤ MAX_POINTS) }
 {
-    rest.read_line(LineName::Cars, |text| cars_line(cells, steps, point, text))
+    rest.read_line(
+        LineName::Cars,
+        |text| read_cars_line(cells, steps, point, text),
+    )
 }
 
 /// Reads the numbers of cars up to the end of the text.
@@ -277,7 +279,7 @@ pub fn counts(
 }
 
 /// Reads the line `sweep 1`.
-fn sweep_line(line: &[u8]) -> Result<(), Objection<'_>>
+fn read_sweep_line(line: &[u8]) -> Result<(), Objection<'_>>
     ensures { result ≡ sweep_line line.now }
 {
     if line == b"sweep 1".as_slice() {
@@ -291,15 +293,15 @@ fn sweep_line(line: &[u8]) -> Result<(), Objection<'_>>
 fn heading(rest: Rest<'_>) -> Result<([u8; 32], Rest<'_>), Refusal<'_>>
     ensures { Reports (sweep_heading rest.entry) result }
 {
-    let ((), rest) = rest.read_line(LineName::Sweep, sweep_line)?;
-    rest.read_line(LineName::Key, key_line)
+    let ((), rest) = rest.read_line(LineName::Sweep, read_sweep_line)?;
+    rest.read_line(LineName::Key, read_key_line)
 }
 
 /// Reads the lines before the points: `sweep 1`, the key, the shape, the rule and the span.
 fn read_setup(alloc: Global, rest: Rest<'_>) -> Result<(Setup, Rest<'_>), Refusal<'_>>
-    ensures told { Reports (setup rest.entry) result }
+    ensures reported { Reports (setup rest.entry) result }
     ensures cells { IfOk result (λ found. found.0.shape.length ≤ MAX_LENGTH) }
-    ensures few { IfOk result (λ found. found.0.shape.lanes ≤ MAX_LANES) }
+    ensures at_most_max_lanes { IfOk result (λ found. found.0.shape.lanes ≤ MAX_LANES) }
     ensures warm { IfOk result (λ found. found.0.span.warm ≤ MAX_STEPS) }
     ensures measure { IfOk result (λ found. found.0.span.measure ≤ MAX_STEPS) }
 {
@@ -325,7 +327,7 @@ fn read_setup(alloc: Global, rest: Rest<'_>) -> Result<(Setup, Rest<'_>), Refusa
 /// Reads the lines of a sweep text of at most `TEXT_LIMIT` bytes.
 fn read_lines(alloc: Global, text: &[u8]) -> Result<Sweep, Refusal<'_>>
     requires { length text.now ≤ TEXT_LIMIT }
-    ensures told { Reports (SweepLinesParseTo text.now) result }
+    ensures reported { Reports (SweepLinesParseTo text.now) result }
     ensures stored { IfOk result IsStoredSweep }
 {
     let (setup, rest) = read_setup(alloc, Rest::start(text))?;
@@ -356,7 +358,7 @@ fn read_lines(alloc: Global, text: &[u8]) -> Result<Sweep, Refusal<'_>>
 /// A refusal with the first fault of the text: `TooBig` at line 0 if the text is too long, in which case nothing is
 /// read, and otherwise a cause at its line. The fault is `TextFault::Memory` if an allocation fails.
 pub fn parse_sweep(alloc: Global, text: &[u8]) -> Result<Sweep, Refusal<'_>>
-    ensures told { Reports (ParsesAsSweep text.now) result }
+    ensures reported { Reports (ParsesAsSweep text.now) result }
     ensures too_big { TEXT_LIMIT < length text.now → result ≡ Err (TextFault.At 0 Cause.TooBig) }
     ensures stored { IfOk result IsStoredSweep }
 {
@@ -375,7 +377,7 @@ pub fn parse_sweep(alloc: Global, text: &[u8]) -> Result<Sweep, Refusal<'_>>
 ///
 /// The fault of [`parse_sweep`].
 pub fn read_sweep(alloc: Global, text: &[u8]) -> Result<Sweep, TextFault>
-    ensures told { Reports (ParsesAsSweep text.now) result }
+    ensures reported { Reports (ParsesAsSweep text.now) result }
     ensures too_big { TEXT_LIMIT < length text.now → result ≡ Err (TextFault.At 0 Cause.TooBig) }
     ensures stored { IfOk result IsStoredSweep }
 {

@@ -11,7 +11,7 @@ use std::sync::Wait;
 use std::sync::atomic::{AtomicBool, AtomicU64, Ordering};
 use std::thread::Threads;
 use trlab_bounds::runs::MAX_WORKERS;
-use trlab_segments::{Gate, step_shared};
+use trlab_segments::{CHANGE_PHASE, Gate, MOTION_PHASE, step_shared};
 use trlab_words::Key;
 
 /// The number of the road whose steps are taken.
@@ -64,10 +64,10 @@ impl Notes {
 
 impl Gate for Notes {
     fn pass(&self, number: u32, worker: u32, phase: u32, segment: u32) {
-        if number != ROAD || worker >= MAX_WORKERS || phase > 1 || segment >= 64 {
+        if number != ROAD || worker >= MAX_WORKERS || phase > MOTION_PHASE || segment >= 64 {
             return;
         }
-        let begun = if phase == 0 {
+        let begun = if phase == CHANGE_PHASE {
             &self.crossed
         } else {
             &self.moved

@@ -1,13 +1,11 @@
 -- Cutting a text after its first line.
-use Rattle.std.proofs.Common.{◌≡◌, ◌==◌, ℕ, suc, ◌+◌, ◌<◌, ◌≤◌, List, [], ◌∷◌, ◌++◌, length, take, drop, get_or, refl, sym, ◌∙◌, ap, subst, arith, Bool, true, false, cond, add-one, nat_lt, drop-cons}
-use Rattle.std.specs.Prelude.{Option, None, Some, unwrap_or}
-use Rattle.std.specs.List.{position, position_or_len}
-use Rattle.std.proofs.lemmas.Bool.{ltb-false, eqb-true, eq-eqb, ne_eqb}
-use Rattle.std.proofs.lemmas.List.{take-append-drop, get_or-take, length-take-le}
-use Rattle.std.proofs.lemmas.List.Quantifiers.{position-Some}
-use Rattle.std.proofs.lemmas.List.Sums.{fails_before_first}
-use Rattle.trlab_lines.specs.Cutting.{split_around, cut}
-use Rattle.trlab_lines.specs.Lines.{lines_of, HasNoLineFeed}
+use Rattle.std.proofs.Common.{◌≡◌, ◌==◌, ℕ, suc, ◌+◌, ◌<◌, ◌≤◌, List, [], ◌∷◌, ◌++◌, length, take, drop}
+use Rattle.std.proofs.Common.{get_or, refl, sym, ◌∙◌, ap, subst, arith, Bool, true, false, cond, add-one}
+use Rattle.std.proofs.Common.{nat_lt, drop-cons, Option, None, Some, unwrap_or, position, ltb-false, eqb-true}
+use Rattle.std.proofs.Common.{eq-eqb, ne_eqb, take-append-drop, get_or-take, length-take-le}
+use Rattle.std.proofs.lemmas.List.{Quantifiers.position-Some, Sums.fails_before_first}
+use Rattle.std.specs.List.{position_or_len}
+use Rattle.trlab_lines.specs.Lines.{split_around, cut, lines_of, HasNoLineFeed}
 
 rest_has_no_end : (c : ℕ) (line : List ℕ) → HasNoLineFeed (c ∷ line) → HasNoLineFeed line
 rest_has_no_end c line none = λ k d inside. none (suc k) d (omega arith)

@@ -1,11 +1,10 @@
 -- The value of digits.
-use Rattle.std.proofs.Common.{◌≡◌, ℕ, ◌+◌, ◌-◌, ◌*◌, ◌^◌, ◌<◌, ◌≤◌, List, length, take, get_or, sym, arith, rules, true}
-use Rattle.std.specs.Char.{digit_value}
-use Rattle.std.specs.Str.Parse.{digits_value}
-use Rattle.std.proofs.lemmas.Str.Parse.{IsNumeralModel, numerals_by_value, digits_value_short, digits_value-take-le, digit_at}
-use Rattle.std.proofs.lemmas.Int.Digits.{digits_value_more}
-use Rattle.std.proofs.lemmas.Bool.Decides.{nat_tests}
-use Rattle.trlab_lines.specs.Numbers.{all_digits}
+use Rattle.std.proofs.Common.{◌≡◌, ℕ, ◌+◌, ◌-◌, ◌*◌, ◌^◌, ◌<◌, ◌≤◌, List, length, take, get_or, sym, arith}
+use Rattle.std.proofs.Common.{rules, true}
+use Rattle.std.proofs.lemmas.Str.Parse.{IsNumeralModel, numerals_by_value, digits_value_short}
+use Rattle.std.proofs.lemmas.{Str.Parse.{digits_value-take-le, digit_at}, Int.Digits.digits_value_more}
+use Rattle.std.{proofs.lemmas.Bool.Decides.nat_tests, specs.{Char.digit_value, Str.Parse.digits_value}}
+use Rattle.trlab_lines.specs.Lines.{all_digits}
 
 pub own : IsNumeralModel (λ ds. all_digits ds ≡ true) (digits_value 10)
 own = numerals_by_value (λ ds. all_digits ds ≡ true) (search rules)

@@ -1,7 +1,6 @@
 -- The digits of numbers are plain text.
 use Rattle.std.proofs.Common.{ℕ, ◌<◌, ◌+◌, ◌%◌, ◌^◌, [], All, arith, decimal, inr}
-use Rattle.std.proofs.lemmas.Fmt.{decimal_by_steps}
-use Rattle.std.proofs.lemmas.List.Elements.{All-cons, All-nil, All-push}
+use Rattle.std.proofs.lemmas.{Fmt.decimal_by_steps, List.Elements.{All-cons, All-nil, All-push}}
 use Rattle.trlab_lines.specs.Plain.{IsPlain}
 
 plain_digit : (n : ℕ) → n < 10 → IsPlain (48 + n)

@@ -1,6 +1,2 @@
 pub mod Lines
-pub mod Cutting
-pub mod Numbers
 pub mod Plain
-pub mod Oddities
-pub mod Places

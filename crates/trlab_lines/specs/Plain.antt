@@ -1,5 +1,6 @@
 -- Plain text: lines of printable ASCII characters, in which other bytes are escaped.
-use Rattle.std.specs.Prelude.{◌≡◌, ◌⊎◌, ℕ, ◌+◌, ◌/◌, ◌%◌, ◌==◌, ◌&&◌, ◌≤◌, not, Bool, List, [], ◌∷◌, ◌++◌, codes, flat_map, length, take, nat_le, nat_lt, if◌then◌else◌}
+use Rattle.std.specs.Prelude.{◌≡◌, ◌⊎◌, ℕ, ◌+◌, ◌/◌, ◌%◌, ◌==◌, ◌&&◌, ◌≤◌, not, Bool, List, [], ◌∷◌, ◌++◌}
+use Rattle.std.specs.Prelude.{codes, flat_map, length, take, nat_le, nat_lt, if◌then◌else◌}
 use Rattle.trlab_lines.specs.declared.page.TheConstants.{MAX_QUOTED}
 
 -- a printable ASCII character, from the space to the tilde

@@ -1,11 +1,10 @@
 //! Lines of a text, the words of a line, and the values of decimal digits.
 
 ghost use Rattle.std.specs.Prelude.{◌≡◌, ◌<◌, [], ◌∷◌, length, MatchOption, IfSome, ◌==◌, not, option_map, ◌≤◌, true};
-ghost use Rattle.trlab_lines.specs.Lines.{lines_of, BeginsWithLine, HasNoLineFeed};
+ghost use Rattle.trlab_lines.specs.Lines.{lines_of, BeginsWithLine, HasNoLineFeed, all_digits, is_numeral};
 ghost use Rattle.std.specs.List.{position};
-ghost use Rattle.trlab_lines.specs.Cutting.{cut, is_blank, without_indent, up_to_blank, only_word, without_comment, label_and_rest, name_and_operands};
+ghost use Rattle.trlab_lines.specs.Lines.{cut, is_blank, without_indent, up_to_blank, only_word, without_comment, label_and_rest, name_and_operands};
 ghost use Rattle.std.specs.Str.Parse.{digits_value};
-ghost use Rattle.trlab_lines.specs.Numbers.{all_digits, is_numeral};
 
 use trlab_bounds::programs::MAX_DIGITS;
 
@@ -150,7 +149,7 @@ pub fn is_numeral(text: &[u8]) -> bool
 /// The value of at most ten decimal digits, which may have leading zeros.
 pub fn digits_value(digits: &[u8]) -> u64
     requires digits { all_digits digits.now ≡ true }
-    requires few { length digits.now ≤ MAX_DIGITS }
+    requires at_most_max_digits { length digits.now ≤ MAX_DIGITS }
     ensures { result ≡ digits_value 10 digits.now }
 {
     let mut value = 0;

@@ -2,7 +2,7 @@
 
 ghost use Rattle.std.specs.Prelude.{IfSome, MatchOption};
 ghost use Rattle.trlab_lines.specs.declared.oddity.Oddity.{Oddity as AnOddity};
-ghost use Rattle.trlab_lines.specs.Oddities.{HasOddity, IsFirstOddity};
+ghost use Rattle.trlab_lines.specs.Lines.{HasOddity, IsFirstOddity};
 
 /// A character that is not allowed in any line outside programs, or an empty line.
 #[derive(Clone, Copy)]

@@ -1,8 +1,7 @@
 //! Places in a text: its lines, by their numbers.
 
 ghost use Rattle.std.specs.Prelude.{◌≡◌, ◌++◌, ◌<◌, ◌^◌, ℕ, List, drop, length, option_map, take};
-ghost use Rattle.trlab_lines.specs.Lines.{line_at, lines_of};
-ghost use Rattle.trlab_lines.specs.Places.{IsPlaceOf};
+ghost use Rattle.trlab_lines.specs.Lines.{line_at, lines_of, IsPlaceOf};
 
 use crate::lines::next_line;
 

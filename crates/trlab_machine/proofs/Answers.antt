@@ -1,8 +1,6 @@
 -- A program has only one answer.
 use Rattle.std.proofs.Common.{◌≡◌, ℕ, zero, suc, refl, ap, List}
-use Rattle.trlab_code.specs.declared.program.Kind.{Kind}
-use Rattle.trlab_code.specs.declared.instruction.Instr.{Instr}
-use Rattle.trlab_code.specs.declared.view.View.{View}
+use Rattle.trlab_code.specs.declared.{program.Kind.Kind, instruction.Instr.Instr, view.View.View}
 use Rattle.trlab_code.specs.Machine.{Answer, MachineState, At, Done, Stuck, start, step, EndsFrom, EndsWith}
 
 module _ (kind : Kind) (code : List Instr) (view : View) (words : List ℕ) (a b : Answer) where

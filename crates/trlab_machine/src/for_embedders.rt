@@ -11,7 +11,7 @@ ghost use Rattle.trlab_code.specs.Program.{IsInRange};
 ghost use Rattle.trlab_code.specs.Views.{IsViewInRange};
 ghost use Rattle.trlab_machine.specs.Answers.{crossing_answer};
 ghost use Rattle.trlab_machine.specs.Stored.{answer_of, number_in, result_number};
-ghost use Rattle.trlab_words.specs.Chances.{happens_on};
+ghost use Rattle.trlab_words.specs.Words.{happens_on};
 
 use crate::columns::REGISTER_COUNT;
 use crate::role::{Role, role_of};
@@ -35,7 +35,7 @@ pub struct Moved {
 pub fn run_motion(program: &Motion, view: MotionView, words: &[u32; WORDS]) -> Moved
     ensures ends { EndsWith OfMotion program.now.program.instrs view words.now
         (Goes result.speed) result.steps }
-    ensures within { result.steps ≤ program.now.budget }
+    ensures in_budget { result.steps ≤ program.now.budget }
     ensures gap { result.speed ≤ view.gap }
     ensures limit { result.speed ≤ view.limit }
 {
@@ -69,7 +69,7 @@ pub struct Chosen {
 pub fn run_change(program: &Change, view: ChangeView, words: &[u32; WORDS]) -> Chosen
     ensures ends { EndsWith OfChange program.now.program.instrs view words.now
         (crossing_answer result.cross) result.steps }
-    ensures within { result.steps ≤ program.now.budget }
+    ensures in_budget { result.steps ≤ program.now.budget }
     ensures side { IsTrue result.cross → IsTrue view.side }
 {
     let seen = view.get();
@@ -107,12 +107,12 @@ pub fn run(
     words: &[u32; WORDS],
 ) -> RunResult
     requires safe { IsSafe kind instrs.now budget }
-    requires few { length instrs.now ≤ MAX_INSTRUCTIONS }
+    requires at_most_max_instructions { length instrs.now ≤ MAX_INSTRUCTIONS }
     requires in_range { All IsInRange instrs.now }
     requires seen { IsViewInRange view.now }
     ensures ends { EndsWith kind instrs.now view.now words.now
         (answer_of kind result.answer) result.steps }
-    ensures within { result.steps ≤ budget }
+    ensures in_budget { result.steps ≤ budget }
 {
     let mut registers = [0; REGISTER_COUNT];
     let mut pc = 0;

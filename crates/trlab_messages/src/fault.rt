@@ -132,7 +132,7 @@ fn problem_at(body: &Body, fault: &Fault<'_>) -> Problem {
 
 /// Adds the first error of an input, and a repair if one helps.
 pub fn add_fault(body: &mut Body, fault: &Fault<'_>, repair: Option<Repair>) {
-    if fault.cause != Cause::TooBig {
+    if fault.cause != Cause::TooBig && !fault.place.text.is_empty() {
         body.intro = intro_of(fault.subject);
     }
     if let Cause::Verdict(reason) = fault.cause {

@@ -94,6 +94,31 @@ fn add_table<W: ObjectWriter>(out: &mut W, table: &[Known]) {
     out.token(Ok(Token::EndArray));
 }
 
+/// Adds an edit: its line, its span in the line and the replacement.
+fn add_edit<W: ObjectWriter>(out: &mut W, line_number: u32, removed: ByteSpan, replacement: &[u8]) {
+    out.token(Ok(Token::BeginObject));
+    add_count(out, "line", u64::from(line_number));
+    add_span(out, Some(removed));
+    let mut words = Draft::new(out.alloc());
+    write!(words, "{}", Shown(replacement));
+    add_string(out, "replacement", words.text());
+    out.token(Ok(Token::EndObject));
+}
+
+/// Adds the edits that replace each of two neighbouring lines by the other one.
+fn add_swap<W: ObjectWriter>(out: &mut W, line_number: u32, first: &[u8], second: &[u8]) {
+    let upper = ByteSpan {
+        start: 0,
+        length: second.len(),
+    };
+    let lower = ByteSpan {
+        start: 0,
+        length: first.len(),
+    };
+    add_edit(out, line_number, upper, first);
+    add_edit(out, line_number.saturating_add(1), lower, second);
+}
+
 /// Adds a repair: an edit with its line, its span and the replacement, or another command that reads the input.
 fn add_repair<W: ObjectWriter>(out: &mut W, found: &RepairInWords) {
     out.token(Ok(Token::BeginObject));
@@ -106,17 +131,16 @@ fn add_repair<W: ObjectWriter>(out: &mut W, found: &RepairInWords) {
         Change::Edited(edit) => {
             begin_member(out, "command", Token::Null);
             begin_member(out, "edits", Token::BeginArray);
-            out.token(Ok(Token::BeginObject));
-            add_count(out, "line", u64::from(found.line_number));
-            let removed = ByteSpan {
-                start: found.before,
-                length: edit.removed,
-            };
-            add_span(out, Some(removed));
-            let mut replacement = Draft::new(out.alloc());
-            write!(replacement, "{}", Shown(&edit.inserted));
-            add_string(out, "replacement", replacement.text());
-            out.token(Ok(Token::EndObject));
+            match edit.swapped_lines() {
+                Some((first, second)) => add_swap(out, found.line_number, first, second),
+                None => {
+                    let removed = ByteSpan {
+                        start: found.before,
+                        length: edit.removed,
+                    };
+                    add_edit(out, found.line_number, removed, &edit.inserted);
+                }
+            }
             out.token(Ok(Token::EndArray));
         }
     }

@@ -86,6 +86,15 @@ pub fn count_probabilities(rule: &[u8]) -> Option<usize> {
     }
 }
 
+/// How many values follow the name of a line; `None` if that depends on them.
+pub fn count_values(name: LineName) -> Option<usize> {
+    match name {
+        LineName::Motion | LineName::Change | LineName::End => Some(0),
+        LineName::Rule | LineName::At => None,
+        _ => Some(1),
+    }
+}
+
 /// The rest of a line after the word `rule`, if that is one of its first three words.
 pub fn after_rule(line: &[u8]) -> Option<&[u8]> {
     let mut left = line;

@@ -9,6 +9,7 @@ use crate::problem::line::push_line_problem;
 use crate::problem::program::{push_program_problem, word_span};
 use crate::sentence::{Draft, Quoted};
 use trlab_asm::Why;
+use trlab_lines::bytes_at;
 use trlab_road::RoadFault;
 use trlab_texts::word::long_number;
 use trlab_texts::{Cause, Wanted};
@@ -48,10 +49,12 @@ fn push_digits_problem(found: &mut Draft, word: &[u8], is_key: bool) {
     }
     match first_non_hex_digit(word) {
         Some(before) => {
+            let digit = Quoted(bytes_at(word, before, 1));
             let place = before.saturating_add(1);
+            let line = if is_key { "of the key" } else { "after `code`" };
             write!(
                 found,
-                "character {place} after `key` or `code` is not a hexadecimal digit."
+                "`{digit}` (character {place} {line}) is not a hexadecimal digit."
             )
         }
         None => write!(found, "{count} digits, an odd number: each byte takes two."),
@@ -67,6 +70,22 @@ fn push_cells_problem(found: &mut Draft, line: &[u8], first: u32) {
         write!(
             found,
             "the first lane has {first} cells, this one has {cells}."
+        );
+    }
+}
+
+/// Adds the number of steps that too many points of `steps` steps need.
+fn push_work_problem(found: &mut Draft, points: u32, steps: u32) {
+    let needed = u64::from(points).saturating_mul(u64::from(steps));
+    if points == 1 {
+        write!(
+            found,
+            "this point needs {needed} steps; the maximum is 500000."
+        );
+    } else {
+        write!(
+            found,
+            "the first {points} points need {needed} steps; the maximum is 500000."
         );
     }
 }
@@ -128,13 +147,7 @@ pub fn describe_problem(found: &mut Draft, fault: &Fault<'_>) {
             found,
             "the step must be at least {least} and below {steps}."
         ),
-        Wanted::Work { points, steps } => {
-            let needed = u64::from(*points).saturating_mul(u64::from(*steps));
-            write!(
-                found,
-                "the {points} points up to here need {needed} steps; the maximum is 500000."
-            )
-        }
+        Wanted::Work { points, steps } => push_work_problem(found, *points, *steps),
         Wanted::Cells { first } => push_cells_problem(found, line, *first),
         Wanted::Speed { limit } => push_speed_problem(found, fault, *limit),
         Wanted::Nothing => {

@@ -1,6 +1,6 @@
 //! The verifier's reasons, in words.
 
-use trlab_code::Kind;
+use trlab_code::{Instr, Kind};
 use trlab_notes::Reason;
 
 pub fn reason_meaning(reason: Reason) -> &'static str {
@@ -29,7 +29,7 @@ pub fn advice(reason: Reason, kind: Kind) -> &'static str {
     match (reason, kind) {
         (Reason::Unreachable, _) => "delete it, or make the jump above it conditional.",
         (Reason::WrongProgram, Kind::Motion) =>
-            "a motion program sees only its own lane and ends with `go`; use `gap`.",
+            "a motion program sees only its own lane, so use `gap`; it ends with `go`, not with `cross` or `stay`.",
         (Reason::WrongProgram, Kind::Change) =>
             "a change program ends with `cross` or `stay`; choose speeds in the motion program.",
         (Reason::MaybeUnset, _) =>
@@ -49,5 +49,16 @@ pub fn advice(reason: Reason, kind: Kind) -> &'static str {
             "cap the speed just before `go`: `get` the limit, then `min`.",
         (Reason::MaybeOccupied, _) =>
             "check the side cell first: `side r0`, `jfalse r0, no`, `cross`, `no: stay`.",
+    }
+}
+
+/// Advice like that of [`advice`], for a program that is rejected at this instruction.
+pub fn advice_at(reason: Reason, kind: Kind, instr: Option<Instr>) -> &'static str {
+    match (reason, kind, instr) {
+        (Reason::WrongProgram, Kind::Motion, Some(Instr::Cross | Instr::Stay)) =>
+            "end a motion program with `go`: only change programs end with `cross` or `stay`.",
+        (Reason::WrongProgram, Kind::Motion, Some(_)) =>
+            "a motion program sees only its own lane: use `gap`.",
+        _ => advice(reason, kind),
     }
 }

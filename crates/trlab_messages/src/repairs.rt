@@ -3,7 +3,7 @@
 use crate::sentence::{Draft, Shown};
 use std::alloc::Global;
 use trlab_jobs::Subject;
-use trlab_lines::{Place, bytes_at};
+use trlab_lines::{Place, bytes_at, cut};
 
 /// A change of a text: some bytes are replaced.
 pub struct Edit {
@@ -23,6 +23,17 @@ impl Drop for Edit {
             removed: _removed,
             inserted: _inserted,
         } = self;
+    }
+}
+
+impl Edit {
+    /// Two neighbouring lines in their new order, if the edit swaps them.
+    pub fn swapped_lines(&self) -> Option<(&[u8], &[u8])> {
+        if self.removed == 0 {
+            None
+        } else {
+            cut(&self.inserted, b'\n')
+        }
     }
 }
 
@@ -109,6 +120,9 @@ fn push_edit(how: &mut Draft, place: &Place<'_>, before: usize, edit: &Edit) {
         write!(how, "At the end, add the line `{line}`.");
     } else if edit.removed == 0 && edit.inserted.last() == Some(&b'\n') {
         write!(how, "Above line {number}, add the line `{line}`.");
+    } else if edit.swapped_lines().is_some() {
+        let below = number.saturating_add(1);
+        write!(how, "Swap lines {number} and {below}.");
     } else if edit.inserted.is_empty() && before == 0 && edit.removed >= length.max(1) {
         write!(how, "Delete line {number}.");
     } else if before == 0 && edit.removed == length {

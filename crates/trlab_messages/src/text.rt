@@ -48,10 +48,12 @@ fn push_facts(text: &mut Draft, body: &Body) {
         text.push_line("What the verifier knows before each instruction:");
     }
     for known in &body.table {
-        // An empty line, because at the target of a jump the facts do not follow from the instruction above.
         text.push_str("\n");
+        text.push_lines("before ", "", &known.instruction);
+        if known.facts.is_empty() {
+            text.push_line("    nothing");
+        }
         text.push_lines("    ", "    ", &known.facts);
-        text.push_lines("", "", &known.instruction);
     }
 }
 

@@ -7,12 +7,12 @@ use trlab_code::Kind;
 use trlab_notes::Reason;
 use trlab_texts::Cause;
 
-/// Adds the last line of a page.
-fn push_end(text: &mut Draft, all: &str) {
-    writeln!(
-        text,
-        "To find it in your file: `trlab explain < FILE`. All {all}: docs/ERRORS.md."
-    );
+/// Adds the last line of a page; without the first sentence if no input has this number.
+fn push_end(text: &mut Draft, all: &str, can_occur: bool) {
+    if can_occur {
+        text.push_str("To find it in your file: `trlab explain < FILE`. ");
+    }
+    writeln!(text, "All {all}: docs/ERRORS.md.");
 }
 
 fn push_advice(text: &mut Draft, reason: Reason) {
@@ -39,12 +39,12 @@ pub fn push_cause(text: &mut Draft, cause: Cause) {
     if !check.is_empty() {
         writeln!(text, "Check: {check}");
     }
-    push_end(text, "causes");
+    push_end(text, "causes", cause != Cause::StandardRefused);
 }
 
 /// Adds the page of a reason, after its number.
 pub fn push_reason(text: &mut Draft, reason: Reason) {
     text.push_line(reason_meaning(reason));
     push_advice(text, reason);
-    push_end(text, "reasons");
+    push_end(text, "reasons", true);
 }

@@ -1,11 +1,9 @@
 -- Rows of bits as levels.
-use Rattle.std.proofs.Common.{◌≡◌, ℕ, ◌/◌, ◌*◌, ◌^◌, ◌%◌, ◌-◌, ◌<◌, min, max, arith, ◌∙◌, bit_and, bit_or, Bool, true, false, nat_eq, cond}
-use Rattle.std.specs.Int.{bit_at}
-use Rattle.std.proofs.lemmas.Bool.{eqb-true, eqb-false}
-use Rattle.std.proofs.lemmas.Nat.Bits.{bit_at_and, bit_at_or, bit_at-lt, bit_at_set_same, bit_at_set_other, bit_at_clear_same, bit_at_clear_other, shr_and_one}
-use Rattle.std.proofs.Common.{w16}
-use Rattle.trlab_notes.specs.declared.rows.LevelRow.{LevelRow}
-use Rattle.trlab_notes.specs.Rows.{level_in}
+use Rattle.std.proofs.Common.{◌≡◌, ℕ, ◌/◌, ◌*◌, ◌^◌, ◌%◌, ◌-◌, ◌<◌, min, max, arith, ◌∙◌, bit_and, bit_or}
+use Rattle.std.proofs.{Common.{Bool, true, false, nat_eq, cond, eqb-true, w16}, lemmas.Bool.eqb-false}
+use Rattle.std.proofs.lemmas.Nat.Bits.{bit_at_and, bit_at_or, bit_at-lt, bit_at_set_same, bit_at_set_other}
+use Rattle.std.{proofs.lemmas.Nat.Bits.{bit_at_clear_same, bit_at_clear_other, shr_and_one}, specs.Int.bit_at}
+use Rattle.trlab_notes.specs.{declared.rows.LevelRow.LevelRow, Rows.level_in}
 
 -- bits and levels as numbers
 some_level : (a b c : ℕ) → a < 2 → b < 2 → c ≡ max a b → c ≡ min (max a (2 * b)) 1

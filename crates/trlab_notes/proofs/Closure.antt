@@ -1,25 +1,24 @@
 -- The closure of a note is as strong as the note: every result that is computed from it is the same.
-use Rattle.std.proofs.Common.{◌≡◌, ◌∙◌, ℕ, ◌-◌, ◌&&◌, refl, sym, ap, subst, arith, min, max, [], ◌∷◌, ◌++◌, Bool, true, false, Option, Some, None, nat_eq, cond}
+use Rattle.std.proofs.Common.{◌≡◌, ◌∙◌, ℕ, ◌-◌, ◌&&◌, refl, sym, ap, subst, arith, min, max, [], ◌∷◌, ◌++◌}
+use Rattle.std.proofs.Common.{Bool, true, false, Option, Some, None, nat_eq, cond}
 use mathlib.Core.Path.{fun_ext}
-use Rattle.trlab_code.specs.declared.program.Kind.{Kind}
-use Rattle.trlab_code.specs.declared.instruction.Input.TheVariants.{Limit, Gap}
-use Rattle.trlab_code.specs.declared.instruction.Instr.{Instr}
-use Rattle.trlab_code.specs.declared.instruction.Instr.TheVariants.{Get, Copy, Add, Sub, Div, Min, Max, JumpLess, JumpAtMost, JumpTrue, JumpFalse, Go}
-use Rattle.trlab_code.specs.declared.instruction.Register.{Register}
-use Rattle.trlab_code.specs.declared.instruction.Input.{Input}
-use Rattle.trlab_code.specs.declared.instruction.Variable.{Variable}
+use Rattle.trlab_code.specs.declared.{program.Kind.Kind, instruction.Input.{Input, TheVariants.{Limit, Gap}}}
+use Rattle.trlab_code.specs.declared.instruction.Instr.{Instr, TheVariants.{Get, Copy, Add, Sub, Div, Min}}
+use Rattle.trlab_code.specs.declared.instruction.Instr.TheVariants.{Max, JumpLess, JumpAtMost, JumpTrue}
+use Rattle.trlab_code.specs.declared.instruction.{Instr.TheVariants.{JumpFalse, Go}, Register.Register}
+use Rattle.trlab_code.specs.{declared.instruction.Variable.Variable, Machine.update, Flow.destination}
 use Rattle.trlab_code.specs.declared.instruction.Variable.TheVariants as variable
-use Rattle.trlab_code.specs.Machine.{update}
-use Rattle.trlab_code.specs.Flow.{destination}
-use Rattle.trlab_notes.specs.declared.reasons.Reason.TheVariants as why
-use Rattle.trlab_notes.specs.declared.note.AbstractValue.{AbstractValue}
-use Rattle.trlab_notes.specs.declared.note.AbstractValue.TheVariants.{Nothing, Between, Implies}
-use Rattle.trlab_notes.specs.Notes.{Note, same_variable, low, high, value_with_side, level_between, known_level, closure, maybe_closure}
-use Rattle.trlab_notes.specs.Transfer.{assign_destination, sharpen, slacken, least_difference, assign, assign_result, result_value, result_to, to_result, chain, refine_order, refine_flag, next_note, jump_note}
-use Rattle.trlab_notes.specs.Order.{join, join_values, IsNoStronger, IsNoMorePrecise}
-use Rattle.trlab_notes.specs.Reasons.{form_checks, first_reason, reason_against, may_be_too_large, may_be_below_zero, may_be_above, may_be_occupied}
-use Rattle.trlab_notes.proofs.Order.{same_note}
+use Rattle.trlab_notes.specs.declared.note.AbstractValue.{AbstractValue, TheVariants.{Unknown, Between}}
+use Rattle.trlab_notes.specs.{declared.note.AbstractValue.TheVariants.Implies, Notes.{Note, same_variable}}
+use Rattle.trlab_notes.specs.Notes.{low, high, value_with_side, level_between, known_level, closure}
+use Rattle.trlab_notes.specs.Notes.{maybe_closure, join, join_values, IsNoStronger, IsNoMorePrecise}
+use Rattle.trlab_notes.specs.Transfer.{assign_destination, sharpen, slacken, least_difference, assign}
+use Rattle.trlab_notes.specs.Transfer.{assign_result, result_value, result_to, to_result, chain, refine_order}
+use Rattle.trlab_notes.specs.{Transfer.{refine_flag, next_note, jump_note}, Reasons.form_checks}
+use Rattle.trlab_notes.specs.Reasons.{first_reason, reason_against, may_be_too_large, may_be_below_zero}
+use Rattle.trlab_notes.{specs.Reasons.{may_be_above, may_be_occupied}, proofs.Order.same_note}
 use Rattle.trlab_notes.proofs.Tables.{note_same, level_same, known_twice, both_known, known_unfolds}
+use Rattle.trlab_notes.specs.declared.reasons.Reason.TheVariants as why
 
 pub known_settled : (m : Note) (x y : Variable) → known_level (closure m) x y ≡ known_level m x y
 unfolding known_level closure
@@ -94,9 +93,9 @@ module _ (m : Note) where
   known_more : (s t : AbstractValue) (same : Bool) (l c : ℕ) → level_between s t same (max (level_between s t same l) c) ≡ level_between s t same (max l c)
   known_more (Between a b) (Between u v) true l c = refl
   known_more (Between a b) (Between u v) false l c = omega arith
-  known_more (Between a b) Nothing same l c = refl
+  known_more (Between a b) Unknown same l c = refl
   known_more (Between a b) (Implies i) same l c = refl
-  known_more Nothing t same l c = refl
+  known_more Unknown t same l c = refl
   known_more (Implies i) t same l c = refl
 
   learnt_settled : (p q : Variable) (k : ℕ) → closure (refine_order (closure m) p q k) ≡ closure (refine_order m p q k)

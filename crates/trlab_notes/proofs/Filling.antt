@@ -1,10 +1,8 @@
 -- Loops that fill a row variable by variable, or a table row by row: the part that is correct grows by one.
-use Rattle.std.proofs.Common.{◌≡◌, ℕ, ◌+◌, ◌<◌, ◌∙◌, List, length, set, Bool, true, false, nat_eq, cond, refl, arith}
-use Rattle.std.proofs.lemmas.Bool.{eqb-true, eqb-false}
-use Rattle.std.proofs.lemmas.List.{get_or-set_same, get_or-set_other}
+use Rattle.std.proofs.Common.{◌≡◌, ℕ, ◌+◌, ◌<◌, ◌∙◌, List, length, set, Bool, true, false, nat_eq, cond, refl}
+use Rattle.std.proofs.{Common.{arith, eqb-true, get_or-set_same, get_or-set_other}, lemmas.Bool.eqb-false}
 use Rattle.trlab_bounds.specs.declared.programs.TheConstants.{VARIABLES}
-use Rattle.trlab_notes.specs.declared.rows.LevelRow.{LevelRow}
-use Rattle.trlab_notes.specs.Rows.{level_in, level_of}
+use Rattle.trlab_notes.specs.{declared.rows.LevelRow.LevelRow, Rows.{level_in, level_of}}
 
 level_at_variable : (level : ℕ → ℕ) (x v u y : ℕ) (same : Bool) → nat_eq y x ≡ same → v ≡ level x → (y < x → u ≡ level y) → y < x + 1 → cond same v u ≡ level y
 level_at_variable level x v u y true eb e old lt = let same : y ≡ x = eqb-true y x eb in rw same e

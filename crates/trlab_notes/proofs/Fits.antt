@@ -1,15 +1,14 @@
 -- When values fit a note: values that fit a note before an instruction fit the notes that it sends on.
-use Rattle.std.proofs.Common.{◌≡◌, ℕ, zero, suc, ◌+◌, ◌-◌, ◌≤◌, ◌&&◌, ◌||◌, min, max, refl, sym, ap, subst, arith, Bool, true, false, IsTrue, nat_eq, cond, ◌∙◌}
-use Rattle.trlab_notes.specs.declared.note.AbstractValue.{AbstractValue}
-use Rattle.trlab_notes.specs.declared.note.AbstractValue.TheVariants.{Nothing, Between, Implies}
-use Rattle.trlab_code.specs.declared.instruction.Register.{Register}
-use Rattle.trlab_code.specs.declared.instruction.Variable.{Variable}
-use Rattle.trlab_code.specs.declared.instruction.Variable.TheVariants as variable
+use Rattle.std.proofs.Common.{◌≡◌, ℕ, zero, suc, ◌+◌, ◌-◌, ◌≤◌, ◌&&◌, ◌||◌, min, max, refl, sym, ap, subst}
+use Rattle.std.proofs.Common.{arith, Bool, true, false, IsTrue, nat_eq, cond, ◌∙◌}
+use Rattle.trlab_notes.specs.declared.note.AbstractValue.{AbstractValue, TheVariants.{Unknown, Between}}
+use Rattle.trlab_notes.specs.{declared.note.AbstractValue.TheVariants.Implies, Notes.{Note, same_variable}}
+use Rattle.trlab_notes.specs.Notes.{with_side, value_with_side, implies, level_between, known_level}
+use Rattle.trlab_notes.specs.{Notes.{join_values, join}, Transfer.{assign, sharpen, slacken, chain}}
+use Rattle.trlab_notes.{specs.Transfer.{refine_order, refine_flag}, proofs.Variables.same_is}
+use Rattle.trlab_code.specs.declared.instruction.{Register.Register, Variable.Variable}
 use Rattle.trlab_code.specs.Machine.{Value, Unset, Number, Flag, Store, update, variable_number}
-use Rattle.trlab_notes.specs.Notes.{Note, same_variable, with_side, value_with_side, implies, level_between, known_level}
-use Rattle.trlab_notes.specs.Transfer.{assign, sharpen, slacken, chain, refine_order, refine_flag}
-use Rattle.trlab_notes.specs.Order.{join_values, join}
-use Rattle.trlab_notes.proofs.Variables.{same_is}
+use Rattle.trlab_code.specs.declared.instruction.Variable.TheVariants as variable
 
 -- a level k means that m is at most n if it is 1, and below n if it is 2
 abbrev pub Ahead : ℕ → ℕ → ℕ → Type 0
@@ -17,7 +16,7 @@ Ahead k m n = 1 ≤ k → m + k ≤ suc n
 
 -- an abstract value fits a value, where `side` states whether the side cell is empty
 abbrev pub FitsSaid : Bool → AbstractValue → Value → Type 0
-FitsSaid side Nothing v = Unit {0}
+FitsSaid side Unknown v = Unit {0}
 FitsSaid side (Between lo hi) (Number n) = (lo ≤ n) × (n ≤ hi)
 FitsSaid side (Between lo hi) (Flag b) = ⊥
 FitsSaid side (Between lo hi) Unset = ⊥
@@ -36,9 +35,9 @@ pub known_fits : (side : Bool) (sx sy : AbstractValue) (same : Bool) (level m n 
     FitsSaid side sy (Number n) → Ahead level m n → (same ≡ true → m ≡ n) → Ahead (level_between sx sy same level) m n
 known_fits side (Between lx hx) (Between ly hy) true level m n fx fy l e = λ p. let q : m ≡ n = e refl in omega arith
 known_fits side (Between lx hx) (Between ly hy) false level m n fx fy l e = λ p. grind arith
-known_fits side Nothing sy same level m n fx fy l e = λ p. omega arith
+known_fits side Unknown sy same level m n fx fy l e = λ p. omega arith
 known_fits side (Implies i) sy same level m n fx fy l e = λ p. omega arith
-known_fits side (Between lx hx) Nothing same level m n fx fy l e = λ p. omega arith
+known_fits side (Between lx hx) Unknown same level m n fx fy l e = λ p. omega arith
 known_fits side (Between lx hx) (Implies i) same level m n fx fy l e = λ p. omega arith
 
 -- a sharpened level is correct after one side has decreased, or the other increased
@@ -68,9 +67,9 @@ chained_right (suc i) k (suc j) w x y z a b c d = λ p. grind arith
 
 pub known_same : (sx sy : AbstractValue) (level m n : ℕ) → m ≡ n → Ahead (level_between sx sy true level) m n
 known_same (Between a b) (Between c d) level m n e = λ p. omega arith
-known_same (Between a b) Nothing level m n e = λ p. omega arith
+known_same (Between a b) Unknown level m n e = λ p. omega arith
 known_same (Between a b) (Implies i) level m n e = λ p. omega arith
-known_same Nothing sy level m n e = λ p. omega arith
+known_same Unknown sy level m n e = λ p. omega arith
 known_same (Implies i) sy level m n e = λ p. omega arith
 
 pub number_is : (m n : ℕ) → Number m ≡ Number n → m ≡ n
@@ -123,7 +122,7 @@ at_said side t e = subst (λ w. FitsSaid side t w) e
 -- the abstract value that is read of a variable fits its value
 pub with_side_fits : (side known_side : Bool) (t : AbstractValue) (v : Value) → (IsTrue known_side → IsTrue side) →
     FitsSaid side t v → FitsSaid side (with_side known_side t) v
-with_side_fits side k Nothing v h f = tt
+with_side_fits side k Unknown v h f = tt
 with_side_fits side k (Between lo hi) v h f = f
 with_side_fits side k (Implies imp) Unset h f = f
 with_side_fits side k (Implies imp) (Number n) h f = f
@@ -143,10 +142,10 @@ both_left side (Implies p) (Implies q) (Number n) f = f
 both_left side (Implies true) (Implies true) (Flag t) f = f
 both_left side (Implies true) (Implies false) (Flag t) f = λ h. absurd (cc h)
 both_left side (Implies false) (Implies q) (Flag t) f = λ h. absurd (cc h)
-both_left side Nothing b v f = tt
-both_left side (Between a b) Nothing v f = tt
+both_left side Unknown b v f = tt
+both_left side (Between a b) Unknown v f = tt
 both_left side (Between a b) (Implies q) v f = tt
-both_left side (Implies p) Nothing v f = tt
+both_left side (Implies p) Unknown v f = tt
 both_left side (Implies p) (Between c d) v f = tt
 
 pub both_right : (side : Bool) (a b : AbstractValue) (v : Value) → FitsSaid side b v → FitsSaid side (join_values a b) v
@@ -157,10 +156,10 @@ both_right side (Implies p) (Implies q) Unset f = f
 both_right side (Implies p) (Implies q) (Number n) f = f
 both_right side (Implies true) (Implies q) (Flag t) f = f
 both_right side (Implies false) (Implies q) (Flag t) f = λ h. absurd (cc h)
-both_right side Nothing b v f = tt
-both_right side (Between a b) Nothing v f = tt
+both_right side Unknown b v f = tt
+both_right side (Between a b) Unknown v f = tt
 both_right side (Between a b) (Implies q) v f = tt
-both_right side (Implies p) Nothing v f = tt
+both_right side (Implies p) Unknown v f = tt
 both_right side (Implies p) (Between c d) v f = tt
 
 -- two equal variables have the same number
@@ -203,9 +202,9 @@ known_max : (sx sy : AbstractValue) (same : Bool) (j k m n : ℕ) → Ahead (lev
     Ahead (level_between sx sy same (max j k)) m n
 known_max (Between a b) (Between c d) true j k m n f g = f
 known_max (Between a b) (Between c d) false j k m n f g = λ p. grind arith
-known_max (Between a b) Nothing same j k m n f g = f
+known_max (Between a b) Unknown same j k m n f g = f
 known_max (Between a b) (Implies i) same j k m n f g = f
-known_max Nothing sy same j k m n f g = f
+known_max Unknown sy same j k m n f g = f
 known_max (Implies i) sy same j k m n f g = f
 
 pub learnt_fits : (side : Bool) (note : Note) (s : Store) (p q : Variable) (k a b : ℕ) → Fits side note s → s p ≡ Number a →
@@ -219,7 +218,7 @@ learnt_fits side note s p q k a b fits ep eq k1 h = record {
 
 imp_true : (side : Bool) (t : AbstractValue) → FitsSaid side t (Flag true) → IsTrue (implies t) → IsTrue side
 imp_true side (Implies imp) f h = f h refl
-imp_true side Nothing f h = absurd (cc h)
+imp_true side Unknown f h = absurd (cc h)
 imp_true side (Between a b) f h = absurd (cc h)
 
 pub either_true : (side p q : Bool) → (IsTrue p → IsTrue side) → (IsTrue q → IsTrue side) → IsTrue (p || q) → IsTrue side

@@ -1,26 +1,25 @@
 -- Conclusions from a note also follow from each note that is at least as strong.
-use Rattle.std.proofs.Common.{◌≡◌, ℕ, ◌≤◌, ◌||◌, not, refl, arith, List, [], ◌∷◌, Bool, true, false, IsTrue, Option, Some, None, cond}
-use Rattle.std.proofs.lemmas.Bool.{or_parts}
-use Rattle.std.proofs.Math.Nat.{mul-le-mul_right}
-use Rattle.trlab_code.specs.declared.program.Kind.{Kind}
-use Rattle.trlab_code.specs.declared.instruction.Input.{Input}
-use Rattle.trlab_code.specs.declared.instruction.Input.TheVariants.{Limit, Gap}
-use Rattle.trlab_code.specs.declared.instruction.Instr.{Instr}
-use Rattle.trlab_code.specs.declared.instruction.Instr.TheVariants.{Num, Get, Side, Draw, Copy, Add, Sub, Mul, Div, Min, Max, Not, And, Or, JumpLess, JumpAtMost, JumpTrue, JumpFalse, Go, Cross}
-use Rattle.trlab_code.specs.declared.instruction.Register.{Register}
-use Rattle.trlab_code.specs.declared.instruction.Variable.{Variable}
+use Rattle.std.proofs.Common.{◌≡◌, ℕ, ◌≤◌, ◌||◌, not, refl, arith, List, [], ◌∷◌, Bool, true, false, IsTrue}
+use Rattle.std.proofs.{Common.{Option, Some, None, cond, mul-le-mul_right}, lemmas.Bool.or_parts}
+use Rattle.trlab_code.specs.declared.{program.Kind.Kind, instruction.Input.{Input, TheVariants.{Limit, Gap}}}
+use Rattle.trlab_code.specs.declared.instruction.Instr.{Instr, TheVariants.{Num, Get, Side, Draw, Copy, Add}}
+use Rattle.trlab_code.specs.declared.instruction.Instr.TheVariants.{Sub, Mul, Div, Min, Max, Not, And, Or}
+use Rattle.trlab_code.specs.declared.instruction.Instr.TheVariants.{JumpLess, JumpAtMost, JumpTrue, JumpFalse}
+use Rattle.trlab_code.specs.declared.instruction.{Instr.TheVariants.{Go, Cross}, Register.Register}
+use Rattle.trlab_code.specs.{declared.instruction.Variable.Variable, Machine.update, Flow.destination}
 use Rattle.trlab_code.specs.declared.instruction.Variable.TheVariants as variable
-use Rattle.trlab_code.specs.Machine.{update}
-use Rattle.trlab_code.specs.Flow.{destination}
-use Rattle.trlab_notes.specs.declared.note.AbstractValue.{AbstractValue}
-use Rattle.trlab_notes.specs.Notes.{Note, same_variable, with_side, value_with_side, low, high, implies, level_between, known_level}
-use Rattle.trlab_notes.specs.Transfer.{assign_destination, assign, assign_result, result_value, result_to, to_result, refine_order, refine_flag, next_note, jump_note}
-use Rattle.trlab_notes.specs.Order.{IsNoMorePrecise, IsNoStronger, AreNoStronger}
-use Rattle.trlab_notes.specs.Reasons.{any_register, is_nothing, is_range, is_flag, numbers_of, operands_of, some_unset, some_of_wrong_type, may_be_too_large, may_be_below_zero, may_be_above, may_be_occupied, flags_of, values_of, reason_against}
-use Rattle.trlab_notes.specs.declared.reasons.Reason.{Reason}
-use Rattle.trlab_notes.proofs.Steps.{IsClear}
-use Rattle.trlab_notes.proofs.Order.{Wider, wider, known_up, Closed, On}
-use Rattle.trlab_notes.proofs.Growth.{sharper_up, just_below_up, least_gap_up, chained_up, low_up, high_down, told_twice, learnt_level, implies_up, trust_side, more_side, div_mono, or_up, and_up, still_set, still_range, still_flag, both_false, still_positive}
+use Rattle.trlab_notes.specs.{declared.{note.AbstractValue.AbstractValue, reasons.Reason.Reason}, Notes.Note}
+use Rattle.trlab_notes.specs.Notes.{same_variable, with_side, value_with_side, low, high, implies}
+use Rattle.trlab_notes.specs.Notes.{level_between, known_level, IsNoMorePrecise, IsNoStronger, AreNoStronger}
+use Rattle.trlab_notes.specs.Transfer.{assign_destination, assign, assign_result, result_value, result_to}
+use Rattle.trlab_notes.specs.Transfer.{to_result, refine_order, refine_flag, next_note, jump_note}
+use Rattle.trlab_notes.specs.Reasons.{any_register, is_unknown, is_range, is_flag, numbers_of, operands_of}
+use Rattle.trlab_notes.specs.Reasons.{some_unset, some_of_wrong_type, may_be_too_large, may_be_below_zero}
+use Rattle.trlab_notes.specs.Reasons.{may_be_above, may_be_occupied, flags_of, values_of, reason_against}
+use Rattle.trlab_notes.proofs.{Steps.IsClear, Order.{Wider, wider, known_up, Closed, On}, Growth.sharper_up}
+use Rattle.trlab_notes.proofs.Growth.{just_below_up, least_gap_up, chained_up, low_up, high_down, told_twice}
+use Rattle.trlab_notes.proofs.Growth.{learnt_level, implies_up, trust_side, more_side, div_mono, or_up}
+use Rattle.trlab_notes.proofs.Growth.{and_up, still_set, still_range, still_flag, both_false, still_positive}
 
 module _ (V : Variable → Type 0) (closed : Closed V) where
   -- a write: if its abstract value and levels are weaker, so is the note
@@ -106,17 +105,17 @@ module _ (V : Variable → Type 0) (closed : Closed V) where
       lo : low (m.values (variable.Register a)) ≤ low (n.values (variable.Register a))
       hi : high (n.values (variable.Register a)) ≤ high (m.values (variable.Register a))
 
-    reads : (r : Register) → is_nothing (m.values (variable.Register r)) ≡ false → is_flag (m.values (variable.Register r)) ≡ false → Reads r
+    reads : (r : Register) → is_unknown (m.values (variable.Register r)) ≡ false → is_flag (m.values (variable.Register r)) ≡ false → Reads r
     reads r p q = record { lo = low_up _ _ (wide_at (variable.Register r) (at_reg r)); hi = high_down _ _ p q (wide_at (variable.Register r) (at_reg r)) }
 
-    two_numbers : (a b : Register) (rest : Bool) → (any_register is_nothing m (a ∷ b ∷ []) || rest) ≡ false →
+    two_numbers : (a b : Register) (rest : Bool) → (any_register is_unknown m (a ∷ b ∷ []) || rest) ≡ false →
         (any_register is_flag m (a ∷ b ∷ []) || false) ≡ false → Reads a × Reads b
     two_numbers a b rest h k =
         let h1 = or_parts _ _ (or_parts _ _ h).0 in
         let k1 = or_parts _ _ (or_parts _ _ k).0 in
         (reads a h1.0 k1.0, reads b (or_parts _ _ h1.1).0 (or_parts _ _ k1.1).0)
 
-    one_number : (a : Register) (rest : Bool) → (any_register is_nothing m (a ∷ []) || rest) ≡ false →
+    one_number : (a : Register) (rest : Bool) → (any_register is_unknown m (a ∷ []) || rest) ≡ false →
         (any_register is_flag m (a ∷ []) || false) ≡ false → Reads a
     one_number a rest h k = reads a (or_parts _ _ (or_parts _ _ h).0).0 (or_parts _ _ (or_parts _ _ k).0).0
 
@@ -198,12 +197,12 @@ module _ (V : Variable → Type 0) (closed : Closed V) where
     jump_up (JumpTrue a t) = trusted_up m n a f
     jump_up i = f
 
-    sets : (xs : List Register) → any_register is_nothing m xs ≡ false → any_register is_nothing n xs ≡ false
+    sets : (xs : List Register) → any_register is_unknown m xs ≡ false → any_register is_unknown n xs ≡ false
     unfolding value_with_side
     sets [] h = refl
     sets (x ∷ xs) h = let e = or_parts _ _ h in both_false _ _ (still_set m.side n.side _ _ (f.values (variable.Register x) (at_reg x)) e.0) (sets xs e.1)
 
-    ranges_stay : (xs : List Register) → any_register is_nothing m xs ≡ false → any_register is_flag m xs ≡ false → any_register is_flag n xs ≡ false
+    ranges_stay : (xs : List Register) → any_register is_unknown m xs ≡ false → any_register is_flag m xs ≡ false → any_register is_flag n xs ≡ false
     unfolding value_with_side
     ranges_stay [] h g = refl
     ranges_stay (x ∷ xs) h g =
@@ -211,7 +210,7 @@ module _ (V : Variable → Type 0) (closed : Closed V) where
         let d = or_parts _ _ g in
         both_false _ _ (still_range m.side n.side _ _ (f.values (variable.Register x) (at_reg x)) e.0 d.0) (ranges_stay xs e.1 d.1)
 
-    flags_stay : (xs : List Register) → any_register is_nothing m xs ≡ false → any_register is_range m xs ≡ false → any_register is_range n xs ≡ false
+    flags_stay : (xs : List Register) → any_register is_unknown m xs ≡ false → any_register is_range m xs ≡ false → any_register is_range n xs ≡ false
     unfolding value_with_side
     flags_stay [] h g = refl
     flags_stay (x ∷ xs) h g =

@@ -1,15 +1,13 @@
 -- The order of notes is reflexive and transitive, and a join is the strongest note that is no stronger than
 -- two.
 use Rattle.std.proofs.Common.{rules, ℕ, ◌≤◌, ◌&&◌, ◌||◌, refl, arith, Bool, true, false, IsTrue}
-use Rattle.trlab_code.specs.declared.instruction.Register.{Register}
-use Rattle.trlab_code.specs.declared.instruction.Input.TheVariants.{Limit, Gap}
+use Rattle.trlab_code.specs.declared.instruction.{Register.Register, Input.TheVariants.{Limit, Gap}}
 use Rattle.trlab_code.specs.declared.instruction.Variable.{Variable}
 use Rattle.trlab_code.specs.declared.instruction.Variable.TheVariants as variable
-use Rattle.trlab_notes.specs.declared.note.AbstractValue.{AbstractValue}
-use Rattle.trlab_notes.specs.declared.note.AbstractValue.TheVariants.{Nothing, Between, Implies}
-use Rattle.trlab_notes.specs.Notes.{Note, same_variable, with_side, value_with_side, level_between, known_level}
-use Rattle.trlab_notes.specs.Order.{join_values, join, IsNoMorePrecise, IsNoStronger}
-use Rattle.trlab_notes.proofs.Fits.{and_left, and_right}
+use Rattle.trlab_notes.specs.declared.note.AbstractValue.{AbstractValue, TheVariants.{Unknown, Between}}
+use Rattle.trlab_notes.specs.{declared.note.AbstractValue.TheVariants.Implies, Notes.{Note, same_variable}}
+use Rattle.trlab_notes.specs.Notes.{with_side, value_with_side, level_between, known_level, join_values, join}
+use Rattle.trlab_notes.{specs.Notes.{IsNoMorePrecise, IsNoStronger}, proofs.Fits.{and_left, and_right}}
 
 -- if the first value has a range, the second has a range within it
 abbrev pub Wider : AbstractValue → AbstractValue → Type 0
@@ -18,10 +16,10 @@ Wider (Between lo hi) _ = ⊥
 Wider _ _ = Unit {0}
 
 pub wider : (p q : Bool) (s t : AbstractValue) → IsNoMorePrecise (with_side p s) (with_side q t) → Wider s t
-wider p q Nothing t h = tt
+wider p q Unknown t h = tt
 wider p q (Implies i) t h = tt
 wider p q (Between a b) (Between c d) h = h
-wider p q (Between a b) Nothing h = h
+wider p q (Between a b) Unknown h = h
 wider p q (Between a b) (Implies i) h = h
 
 -- wider ranges and a smaller level mean less knowledge
@@ -29,13 +27,13 @@ pub known_up : (sx sy tx ty : AbstractValue) (same : Bool) (j k : ℕ) → Wider
     level_between sx sy same j ≤ level_between tx ty same k
 known_up (Between a b) (Between c d) (Between e f) (Between g h) true j k p q l = omega arith
 known_up (Between a b) (Between c d) (Between e f) (Between g h) false j k p q l = grind arith
-known_up (Between a b) (Between c d) Nothing ty same j k p q l = absurd p
+known_up (Between a b) (Between c d) Unknown ty same j k p q l = absurd p
 known_up (Between a b) (Between c d) (Implies i) ty same j k p q l = absurd p
-known_up (Between a b) (Between c d) (Between e f) Nothing same j k p q l = absurd q
+known_up (Between a b) (Between c d) (Between e f) Unknown same j k p q l = absurd q
 known_up (Between a b) (Between c d) (Between e f) (Implies i) same j k p q l = absurd q
-known_up (Between a b) Nothing tx ty same j k p q l = omega arith
+known_up (Between a b) Unknown tx ty same j k p q l = omega arith
 known_up (Between a b) (Implies i) tx ty same j k p q l = omega arith
-known_up Nothing sy tx ty same j k p q l = omega arith
+known_up Unknown sy tx ty same j k p q l = omega arith
 known_up (Implies i) sy tx ty same j k p q l = omega arith
 
 -- the same if the level is at most the known level
@@ -43,31 +41,31 @@ pub known_from : (sx sy tx ty : AbstractValue) (same : Bool) (j k : ℕ) → Wid
     level_between sx sy same j ≤ level_between tx ty same k
 known_from (Between a b) (Between c d) (Between e f) (Between g h) true j k p q l = omega arith
 known_from (Between a b) (Between c d) (Between e f) (Between g h) false j k p q l = grind arith
-known_from (Between a b) (Between c d) Nothing ty same j k p q l = absurd p
+known_from (Between a b) (Between c d) Unknown ty same j k p q l = absurd p
 known_from (Between a b) (Between c d) (Implies i) ty same j k p q l = absurd p
-known_from (Between a b) (Between c d) (Between e f) Nothing same j k p q l = absurd q
+known_from (Between a b) (Between c d) (Between e f) Unknown same j k p q l = absurd q
 known_from (Between a b) (Between c d) (Between e f) (Implies i) same j k p q l = absurd q
-known_from (Between a b) Nothing tx ty same j k p q l = omega arith
+known_from (Between a b) Unknown tx ty same j k p q l = omega arith
 known_from (Between a b) (Implies i) tx ty same j k p q l = omega arith
-known_from Nothing sy tx ty same j k p q l = omega arith
+known_from Unknown sy tx ty same j k p q l = omega arith
 known_from (Implies i) sy tx ty same j k p q l = omega arith
 
 no_more_same : (s : AbstractValue) → IsNoMorePrecise s s
-no_more_same Nothing = tt
+no_more_same Unknown = tt
 no_more_same (Between a b) = (omega arith, omega arith)
 no_more_same (Implies i) = λ h. h
 
 no_more_twice : (r s t : AbstractValue) → IsNoMorePrecise r s → IsNoMorePrecise s t → IsNoMorePrecise r t
-no_more_twice Nothing s t p q = tt
+no_more_twice Unknown s t p q = tt
 no_more_twice (Between a b) (Between c d) (Between e f) p q = (omega arith, omega arith)
-no_more_twice (Between a b) (Between c d) Nothing p q = q
+no_more_twice (Between a b) (Between c d) Unknown p q = q
 no_more_twice (Between a b) (Between c d) (Implies i) p q = q
-no_more_twice (Between a b) Nothing t p q = absurd p
+no_more_twice (Between a b) Unknown t p q = absurd p
 no_more_twice (Between a b) (Implies i) t p q = absurd p
 no_more_twice (Implies i) (Implies j) (Implies k) p q = λ h. q (p h)
-no_more_twice (Implies i) (Implies j) Nothing p q = q
+no_more_twice (Implies i) (Implies j) Unknown p q = q
 no_more_twice (Implies i) (Implies j) (Between c d) p q = q
-no_more_twice (Implies i) Nothing t p q = absurd p
+no_more_twice (Implies i) Unknown t p q = absurd p
 no_more_twice (Implies i) (Between c d) t p q = absurd p
 
 pub same_note : (m : Note) → IsNoStronger m m
@@ -82,22 +80,22 @@ through l m n f g = record {
 
 -- a join is no stronger than either note
 both_first : (p q : Bool) (s t : AbstractValue) → IsNoMorePrecise (with_side (p && q) (join_values (with_side p s) (with_side q t))) (with_side p s)
-both_first p q Nothing t = tt
+both_first p q Unknown t = tt
 both_first p q (Between a b) (Between c d) = (omega arith, omega arith)
-both_first p q (Between a b) Nothing = tt
+both_first p q (Between a b) Unknown = tt
 both_first p q (Between a b) (Implies j) = tt
-both_first p q (Implies i) Nothing = tt
+both_first p q (Implies i) Unknown = tt
 both_first p q (Implies i) (Between c d) = tt
 both_first p q (Implies true) (Implies j) = λ h. refl
 both_first true q (Implies false) (Implies j) = λ h. refl
 both_first false q (Implies false) (Implies j) = λ h. h
 
 both_second : (p q : Bool) (s t : AbstractValue) → IsNoMorePrecise (with_side (p && q) (join_values (with_side p s) (with_side q t))) (with_side q t)
-both_second p q Nothing t = tt
+both_second p q Unknown t = tt
 both_second p q (Between a b) (Between c d) = (omega arith, omega arith)
-both_second p q (Between a b) Nothing = tt
+both_second p q (Between a b) Unknown = tt
 both_second p q (Between a b) (Implies j) = tt
-both_second p q (Implies i) Nothing = tt
+both_second p q (Implies i) Unknown = tt
 both_second p q (Implies i) (Between c d) = tt
 both_second p q (Implies i) (Implies true) = λ h. refl
 both_second true true (Implies i) (Implies false) = λ h. refl
@@ -106,11 +104,11 @@ both_second p q (Implies i) (Implies false) = λ h. search (rules, h)
 -- and as strong as each note that is no stronger than the two
 both_most : (r p q : Bool) (u s t : AbstractValue) → (IsTrue r → IsTrue p) → (IsTrue r → IsTrue q) → IsNoMorePrecise (with_side r u) (with_side p s) →
     IsNoMorePrecise (with_side r u) (with_side q t) → IsNoMorePrecise (with_side r u) (with_side (p && q) (join_values (with_side p s) (with_side q t)))
-both_most r p q Nothing s t f g h k = tt
+both_most r p q Unknown s t f g h k = tt
 both_most r p q (Between a b) (Between c d) (Between e f) _ _ h k = (omega arith, omega arith)
-both_most r p q (Between a b) Nothing t f g h k = absurd h
+both_most r p q (Between a b) Unknown t f g h k = absurd h
 both_most r p q (Between a b) (Implies i) t f g h k = absurd h
-both_most r p q (Between a b) (Between c d) Nothing f g h k = absurd k
+both_most r p q (Between a b) (Between c d) Unknown f g h k = absurd k
 both_most r p q (Between a b) (Between c d) (Implies i) f g h k = absurd k
 both_most r p q (Implies i) (Implies j) (Implies l) f g h k = λ e. and_or _ _ (p && q) (h e) (k e)
   where
@@ -118,9 +116,9 @@ both_most r p q (Implies i) (Implies j) (Implies l) f g h k = λ e. and_or _ _ (
     and_or true true c x y = refl
     and_or true false c x y = absurd (cc y)
     and_or false b c x y = absurd (cc x)
-both_most r p q (Implies i) Nothing t f g h k = absurd h
+both_most r p q (Implies i) Unknown t f g h k = absurd h
 both_most r p q (Implies i) (Between c d) t f g h k = absurd h
-both_most r p q (Implies i) (Implies j) Nothing f g h k = absurd k
+both_most r p q (Implies i) (Implies j) Unknown f g h k = absurd k
 both_most r p q (Implies i) (Implies j) (Between c d) f g h k = absurd k
 
 and_both : (p q : Bool) → IsTrue p → IsTrue q → IsTrue (p && q)
@@ -154,13 +152,13 @@ level_known : (sx sy tx ty : AbstractValue) (same : Bool) (j k : ℕ) → Wider 
     level_between sx sy same j ≤ level_between tx ty same k
 level_known (Between a b) (Between c d) (Between e f) (Between g h) true j k p q l = omega arith
 level_known (Between a b) (Between c d) (Between e f) (Between g h) false j k p q l = grind arith
-level_known (Between a b) (Between c d) Nothing ty same j k p q l = absurd p
+level_known (Between a b) (Between c d) Unknown ty same j k p q l = absurd p
 level_known (Between a b) (Between c d) (Implies i) ty same j k p q l = absurd p
-level_known (Between a b) (Between c d) (Between e f) Nothing same j k p q l = absurd q
+level_known (Between a b) (Between c d) (Between e f) Unknown same j k p q l = absurd q
 level_known (Between a b) (Between c d) (Between e f) (Implies i) same j k p q l = absurd q
-level_known (Between a b) Nothing tx ty same j k p q l = omega arith
+level_known (Between a b) Unknown tx ty same j k p q l = omega arith
 level_known (Between a b) (Implies i) tx ty same j k p q l = omega arith
-level_known Nothing sy tx ty same j k p q l = omega arith
+level_known Unknown sy tx ty same j k p q l = omega arith
 level_known (Implies i) sy tx ty same j k p q l = omega arith
 
 pub join_most : (l m n : Note) → IsNoStronger l m → IsNoStronger l n → IsNoStronger l (join m n)
@@ -206,6 +204,6 @@ module _ (V : Variable → Type 0) (closed : Closed V) where
   }
 
 -- an empty note is no stronger than any other
-pub blank_least : (n : Note) → IsNoStronger (record { values = λ x. Nothing; level = λ x y. 0; side = false }) n
+pub blank_least : (n : Note) → IsNoStronger (record { values = λ x. Unknown; level = λ x y. 0; side = false }) n
 unfolding value_with_side known_level
 blank_least n = record { values = λ x. tt; order = λ x y. omega arith; beside = λ h. absurd (cc h) }

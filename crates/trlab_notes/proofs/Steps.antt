@@ -1,29 +1,31 @@
 -- An instruction without a fault, on values that fit its note, is not stuck, and the new values fit the notes
 -- that it sends on.
-use Rattle.std.proofs.Common.{◌≡◌, ◌≢◌, ℕ, zero, suc, ◌+◌, ◌-◌, ◌*◌, ◌/◌, ◌<◌, ◌≤◌, ◌&&◌, ◌||◌, not, min, max, refl, sym, ap, subst, arith, List, [], ◌∷◌, Bool, true, false, IsTrue, Option, Some, None, nat_eq, nat_lt, nat_le, cond, ◌∙◌}
-use Rattle.std.proofs.lemmas.Bool.{or_parts, le-leb, ltb-true, ltb-false, leb-true, leb-false}
-use Rattle.std.proofs.Math.Nat.{mul-le-mul_right, div-le_self}
-use Rattle.trlab_code.specs.declared.program.Kind.{Kind}
-use Rattle.trlab_code.specs.declared.program.Kind.TheVariants.{Motion, Change}
-use Rattle.trlab_code.specs.declared.instruction.Register.{Register}
-use Rattle.trlab_code.specs.declared.instruction.Input.{Input}
-use Rattle.trlab_code.specs.declared.instruction.Input.TheVariants.{Limit, Gap}
-use Rattle.trlab_code.specs.declared.instruction.Instr.{Instr}
-use Rattle.trlab_code.specs.declared.instruction.Instr.TheVariants.{Num, Get, Side, Draw, Copy, Add, Sub, Mul, Div, Min, Max, Not, And, Or, Jump, JumpLess, JumpAtMost, JumpTrue, JumpFalse, Go, Cross, Stay}
-use Rattle.trlab_code.specs.declared.view.View.{View}
-use Rattle.trlab_notes.specs.declared.note.AbstractValue.{AbstractValue}
-use Rattle.trlab_notes.specs.declared.note.AbstractValue.TheVariants.{Nothing, Between, Implies}
-use Rattle.trlab_code.specs.declared.instruction.Variable.{Variable}
+use Rattle.std.proofs.Common.{◌≡◌, ◌≢◌, ℕ, zero, suc, ◌+◌, ◌-◌, ◌*◌, ◌/◌, ◌<◌, ◌≤◌, ◌&&◌, ◌||◌, not, min, max}
+use Rattle.std.proofs.Common.{refl, sym, ap, subst, arith, List, [], ◌∷◌, Bool, true, false, IsTrue, Option}
+use Rattle.std.proofs.Common.{Some, None, nat_eq, nat_lt, nat_le, cond, ◌∙◌, le-leb, ltb-true, ltb-false}
+use Rattle.std.proofs.{Common.{leb-true, leb-false, mul-le-mul_right, div-le_self}, lemmas.Bool.or_parts}
+use Rattle.trlab_code.specs.declared.program.Kind.{Kind, TheVariants.{Motion, Change}}
+use Rattle.trlab_code.specs.declared.instruction.{Register.Register, Input.{Input, TheVariants.{Limit, Gap}}}
+use Rattle.trlab_code.specs.declared.instruction.Instr.{Instr, TheVariants.{Num, Get, Side, Draw, Copy, Add}}
+use Rattle.trlab_code.specs.declared.instruction.Instr.TheVariants.{Sub, Mul, Div, Min, Max, Not, And, Or}
+use Rattle.trlab_code.specs.declared.instruction.Instr.TheVariants.{Jump, JumpLess, JumpAtMost, JumpTrue}
+use Rattle.trlab_code.specs.declared.instruction.Instr.TheVariants.{JumpFalse, Go, Cross, Stay}
+use Rattle.trlab_code.specs.{declared.{instruction.Variable.Variable, view.View.View}, Machine.{Value, Unset}}
+use Rattle.trlab_code.specs.Machine.{Number, Flag, Store, seen, update, Effect, Writes, Falls, Jumps, Ends}
+use Rattle.trlab_code.specs.Machine.{Sticks, effect, on_number, on_flag, on_any, write_u32, jump_if, allows}
+use Rattle.trlab_code.specs.{Machine.{allows_input, start, Goes, Crosses}, Flow.{target, is_end, on_target}}
 use Rattle.trlab_code.specs.declared.instruction.Variable.TheVariants as variable
-use Rattle.trlab_code.specs.Machine.{Value, Unset, Number, Flag, Store, seen, update, Effect, Writes, Falls, Jumps, Ends, Sticks, effect, on_number, on_flag, on_any, write_u32, jump_if, allows, allows_input, start, Goes, Crosses}
-use Rattle.trlab_code.specs.Flow.{target, is_end, on_target}
+use Rattle.trlab_notes.specs.declared.note.AbstractValue.{AbstractValue, TheVariants.{Unknown, Between}}
+use Rattle.trlab_notes.specs.declared.{note.AbstractValue.TheVariants.Implies, reasons.Reason.Reason}
+use Rattle.trlab_notes.specs.{Notes.{Note, value_with_side, low, high, implies, known_level}, Transfer.assign}
+use Rattle.trlab_notes.specs.Transfer.{sharpen, slacken, least_difference, next_note, jump_note}
+use Rattle.trlab_notes.specs.Reasons.{is_of_kind, reason_against, any_register, is_unknown, is_range, is_flag}
+use Rattle.trlab_notes.specs.Reasons.{some_unset, some_of_wrong_type, falls_out, may_be_too_large}
+use Rattle.trlab_notes.specs.Reasons.{may_be_below_zero, may_be_above, may_be_occupied}
+use Rattle.trlab_notes.proofs.Fits.{number_is, Ahead, FitsSaid, Fits, sharper_right, sharper_less, just_right}
+use Rattle.trlab_notes.proofs.Fits.{ahead_max, written_fits, told_fits, learnt_fits, trusted_fits, and_left}
+use Rattle.trlab_notes.proofs.{Fits.{and_right, either_true}, Growth.div_mono}
 use Rattle.trlab_bounds.specs.declared.programs.TheConstants.{MAX_NUMBER}
-use Rattle.trlab_notes.specs.Notes.{Note, value_with_side, low, high, implies, known_level}
-use Rattle.trlab_notes.specs.Transfer.{assign, sharpen, slacken, least_difference, next_note, jump_note}
-use Rattle.trlab_notes.specs.Reasons.{is_of_kind, reason_against, any_register, is_nothing, is_range, is_flag, some_unset, some_of_wrong_type, falls_out, may_be_too_large, may_be_below_zero, may_be_above, may_be_occupied}
-use Rattle.trlab_notes.specs.declared.reasons.Reason.{Reason}
-use Rattle.trlab_notes.proofs.Fits.{number_is, Ahead, FitsSaid, Fits, sharper_right, sharper_less, just_right, ahead_max, written_fits, told_fits, learnt_fits, trusted_fits, and_left, and_right, either_true}
-use Rattle.trlab_notes.proofs.Growth.{div_mono}
 
 abbrev none : Variable → ℕ
 none y = 0
@@ -77,24 +79,24 @@ pub record Operand (m : Note) (s : Store) (a : Variable) : Type 0 where
   pub least : low (m.values a) ≤ n
   pub most : n ≤ high (m.values a)
 
-number_there : (side : Bool) (t : AbstractValue) (v : Value) → is_nothing t ≡ false → is_flag t ≡ false → FitsSaid side t v →
+number_there : (side : Bool) (t : AbstractValue) (v : Value) → is_unknown t ≡ false → is_flag t ≡ false → FitsSaid side t v →
     (n : ℕ) × (v ≡ Number n) × (low t ≤ n) × (n ≤ high t)
-number_there side Nothing v p q f = absurd (cc p)
+number_there side Unknown v p q f = absurd (cc p)
 number_there side (Implies i) v p q f = absurd (cc q)
 number_there side (Between lo hi) Unset p q f = absurd f
 number_there side (Between lo hi) (Flag b) p q f = absurd f
 number_there side (Between lo hi) (Number n) p q f = (n, refl, f.0, f.1)
 
-flag_there : (side : Bool) (t : AbstractValue) (v : Value) → is_nothing t ≡ false → is_range t ≡ false → FitsSaid side t v →
+flag_there : (side : Bool) (t : AbstractValue) (v : Value) → is_unknown t ≡ false → is_range t ≡ false → FitsSaid side t v →
     (b : Bool) × (v ≡ Flag b)
-flag_there side Nothing v p q f = absurd (cc p)
+flag_there side Unknown v p q f = absurd (cc p)
 flag_there side (Between lo hi) v p q f = absurd (cc q)
 flag_there side (Implies i) Unset p q f = absurd f
 flag_there side (Implies i) (Number n) p q f = absurd f
 flag_there side (Implies i) (Flag b) p q f = (b, refl)
 
-value_there : (side : Bool) (t : AbstractValue) (v : Value) → is_nothing t ≡ false → FitsSaid side t v → v ≢ Unset
-value_there side Nothing v p f = absurd (cc p)
+value_there : (side : Bool) (t : AbstractValue) (v : Value) → is_unknown t ≡ false → FitsSaid side t v → v ≢ Unset
+value_there side Unknown v p f = absurd (cc p)
 value_there side (Between lo hi) Unset p f = absurd f
 value_there side (Between lo hi) (Flag b) p f = absurd f
 value_there side (Between lo hi) (Number n) p f = λ e. cc e
@@ -125,7 +127,7 @@ if_both P false e f p q = q refl
 
 imp_flag : (side : Bool) (t : AbstractValue) (b : Bool) → FitsSaid side t (Flag b) → IsTrue (implies t) → IsTrue b → IsTrue side
 imp_flag side (Implies imp) b f h k = f h k
-imp_flag side Nothing b f h k = absurd (cc h)
+imp_flag side Unknown b f h k = absurd (cc h)
 imp_flag side (Between lo hi) b f h k = absurd (cc h)
 
 pub both_true : (p q : Bool) → p ≡ true → q ≡ true → (p && q) ≡ true
@@ -154,7 +156,7 @@ kind_allows kind own i h = and_first (allows kind i) _ h
     and_first false q e = e
 
 module _ (side : Bool) (m : Note) (s : Store) (fits : Fits side m s) where
-  one : (a : Variable) → is_nothing (m.values a) ≡ false → is_flag (m.values a) ≡ false → Operand m s a
+  one : (a : Variable) → is_unknown (m.values a) ≡ false → is_flag (m.values a) ≡ false → Operand m s a
   one a p q = let h = number_there side (m.values a) (s a) p q (fits.each a) in record { n = h.0; value = h.1; least = h.2; most = h.3 }
 
   writes_number : (d : Register) (r lo hi : ℕ) (below above : Variable → ℕ) → lo ≤ r → r ≤ hi →
@@ -241,7 +243,7 @@ module _ (side : Bool) (m : Note) (s : Store) (fits : Fits side m s) where
   flag_told a b e h k = imp_flag side (value_with_side m a) b (subst (λ w. FitsSaid side (value_with_side m a) w) e (told_fits side m s fits a)) h k
 
   -- the operands of an instruction without a fault
-  two_numbers : (a b : Register) (rest : Bool) → (any_register is_nothing m (a ∷ b ∷ []) || rest) ≡ false →
+  two_numbers : (a b : Register) (rest : Bool) → (any_register is_unknown m (a ∷ b ∷ []) || rest) ≡ false →
       (any_register is_flag m (a ∷ b ∷ []) || false) ≡ false → Operand m s (variable.Register a) × Operand m s (variable.Register b)
   two_numbers a b rest h k =
       let h0 = or_parts _ _ h in
@@ -250,19 +252,19 @@ module _ (side : Bool) (m : Note) (s : Store) (fits : Fits side m s) where
       let k1 = or_parts _ _ k0.0 in
       (one (variable.Register a) h1.0 k1.0, one (variable.Register b) (or_parts _ _ h1.1).0 (or_parts _ _ k1.1).0)
 
-  one_number : (a : Register) (rest : Bool) → (any_register is_nothing m (a ∷ []) || rest) ≡ false →
+  one_number : (a : Register) (rest : Bool) → (any_register is_unknown m (a ∷ []) || rest) ≡ false →
       (any_register is_flag m (a ∷ []) || false) ≡ false → Operand m s (variable.Register a)
   one_number a rest h k = one (variable.Register a) (or_parts _ _ (or_parts _ _ h).0).0 (or_parts _ _ (or_parts _ _ k).0).0
 
-  flag_at : (a : Register) → is_nothing (m.values (variable.Register a)) ≡ false → is_range (m.values (variable.Register a)) ≡ false →
+  flag_at : (a : Register) → is_unknown (m.values (variable.Register a)) ≡ false → is_range (m.values (variable.Register a)) ≡ false →
       (b : Bool) × (s (variable.Register a) ≡ Flag b)
   flag_at a h k = flag_there side (m.values (variable.Register a)) (s (variable.Register a)) h k (fits.each (variable.Register a))
 
-  one_flag : (a : Register) (rest : Bool) → (any_register is_nothing m (a ∷ []) || rest) ≡ false → any_register is_range m (a ∷ []) ≡ false →
+  one_flag : (a : Register) (rest : Bool) → (any_register is_unknown m (a ∷ []) || rest) ≡ false → any_register is_range m (a ∷ []) ≡ false →
       (b : Bool) × (s (variable.Register a) ≡ Flag b)
   one_flag a rest h k = flag_at a (or_parts _ _ (or_parts _ _ h).0).0 (or_parts _ _ k).0
 
-  two_flags : (a b : Register) (rest : Bool) → (any_register is_nothing m (a ∷ b ∷ []) || rest) ≡ false →
+  two_flags : (a b : Register) (rest : Bool) → (any_register is_unknown m (a ∷ b ∷ []) || rest) ≡ false →
       any_register is_range m (a ∷ b ∷ []) ≡ false → ((p : Bool) × (s (variable.Register a) ≡ Flag p)) × ((p : Bool) × (s (variable.Register b) ≡ Flag p))
   two_flags a b rest h k =
       let h1 = or_parts _ _ (or_parts _ _ h).0 in

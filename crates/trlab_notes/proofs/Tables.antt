@@ -1,38 +1,36 @@
 -- Two notes are equal if they agree on all variables.
-use Rattle.std.proofs.Common.{◌≡◌, ℕ, zero, suc, ◌<◌, ◌≤◌, refl, sym, ap, subst, arith, List, [], length, Bool, true, false, IsTrue, nat_eq, cond, ◌&&◌, ◌||◌, get_or, ◌∙◌, min, max, set, get_or-set_same, get_or-set_other}
-use Rattle.std.proofs.lemmas.Nat.Bits.{bit_at-lt}
-use Rattle.trlab_code.specs.declared.program.Kind.{Kind}
+use Rattle.std.proofs.Common.{◌≡◌, ℕ, zero, suc, ◌<◌, ◌≤◌, refl, sym, ap, subst, arith, List, [], length}
+use Rattle.std.proofs.Common.{Bool, true, false, IsTrue, nat_eq, cond, ◌&&◌, ◌||◌, get_or, ◌∙◌, min, max, set}
+use Rattle.std.proofs.{Common.{get_or-set_same, get_or-set_other, eqb-true}, lemmas.Nat.Bits.bit_at-lt}
+use Rattle.std.proofs.lemmas.Bool.{eqb-false}
+use Rattle.trlab_code.specs.declared.{program.Kind.Kind, instruction.Register.Register}
+use Rattle.trlab_code.specs.declared.instruction.Input.TheVariants.{Speed, Limit, Headspeed}
+use Rattle.trlab_code.specs.{declared.instruction.Variable.Variable, Machine.{variable_number, update}}
+use Rattle.trlab_code.specs.declared.instruction.Variable.TheVariants as variable
 use mathlib.Core.Path.{fun_ext}
 use Rattle.trlab_notes.proofs.Variables.{below as below_variables, at_numbers}
-use Rattle.std.proofs.lemmas.Bool.{eqb-true, eqb-false}
-use Rattle.trlab_notes.specs.declared.note.AbstractValue.{AbstractValue}
-use Rattle.trlab_notes.specs.declared.note.AbstractValue.TheVariants.{Nothing, Between, Implies}
-use Rattle.trlab_notes.specs.declared.rows.StoredNote.{StoredNote}
-use Rattle.trlab_notes.specs.declared.rows.LevelRow.{LevelRow}
-use Rattle.trlab_notes.specs.Notes.{Note, same_variable, with_side, value_with_side, level_between, known_level, range_level, implies, closure, entry, entry_values, entry_level}
-use Rattle.trlab_notes.specs.Transfer.{assign, chain, refine_order, refine_flag}
-use Rattle.trlab_notes.specs.Order.{IsNoMorePrecise, IsNoStronger, join, join_values}
-use Rattle.trlab_notes.specs.Rows.{level_of, level_at, known_level_from, AreValidLevels, IncludesRanges, IsTransposed}
-use Rattle.trlab_notes.specs.Stored.{note_of}
+use Rattle.trlab_notes.specs.declared.note.AbstractValue.{AbstractValue, TheVariants.{Unknown, Between}}
+use Rattle.trlab_notes.specs.declared.{note.AbstractValue.TheVariants.Implies, rows.StoredNote.StoredNote}
+use Rattle.trlab_notes.specs.{declared.rows.LevelRow.LevelRow, Notes.{Note, same_variable, with_side}}
+use Rattle.trlab_notes.specs.Notes.{value_with_side, level_between, known_level, range_level, implies}
+use Rattle.trlab_notes.specs.Notes.{closure, entry, entry_values, entry_level, IsNoMorePrecise, IsNoStronger}
+use Rattle.trlab_notes.specs.{Notes.{join, join_values}, Transfer.{assign, chain, refine_order, refine_flag}}
+use Rattle.trlab_notes.specs.Rows.{level_of, level_at, known_level_from, AreValidLevels, IncludesRanges}
+use Rattle.trlab_notes.specs.{Rows.IsTransposed, Stored.note_of}
 use Rattle.trlab_bounds.specs.declared.programs.TheConstants.{VARIABLES}
-use Rattle.trlab_code.specs.declared.instruction.Register.{Register}
-use Rattle.trlab_code.specs.declared.instruction.Input.TheVariants.{Speed, Limit, Headspeed}
-use Rattle.trlab_code.specs.declared.instruction.Variable.{Variable}
-use Rattle.trlab_code.specs.declared.instruction.Variable.TheVariants as variable
-use Rattle.trlab_code.specs.Machine.{variable_number, update}
 
 pub note_same : (m n : Note) → m.values ≡ n.values → m.level ≡ n.level → m.side ≡ n.side → m ≡ n
 note_same m n p q r = λ i. record { values = p i; level = q i; side = r i }
 
 said_set : (l : List AbstractValue) (d : ℕ) (v : AbstractValue) → d < length l → (x : ℕ) (b : Bool) → nat_eq x d ≡ b →
-    get_or (set l d v) x Nothing ≡ cond b v (get_or l x Nothing)
-said_set l d v h x true e = let p : x ≡ d = eqb-true x d e in subst (λ z. get_or (set l d v) z Nothing ≡ v) (sym p) (get_or-set_same l d v Nothing h)
-said_set l d v h x false e = get_or-set_other l d x v Nothing (eqb-false x d e)
+    get_or (set l d v) x Unknown ≡ cond b v (get_or l x Unknown)
+said_set l d v h x true e = let p : x ≡ d = eqb-true x d e in subst (λ z. get_or (set l d v) z Unknown ≡ v) (sym p) (get_or-set_same l d v Unknown h)
+said_set l d v h x false e = get_or-set_other l d x v Unknown (eqb-false x d e)
 
 -- a note that is stored in this form
 abbrev pub made : List AbstractValue → List LevelRow → Bool → Note
 made values rows side = record {
-  values = λ x. get_or values (variable_number x) Nothing;
+  values = λ x. get_or values (variable_number x) Unknown;
   level = λ x y. level_of rows (variable_number x) (variable_number y);
   side = side;
 }
@@ -51,7 +49,7 @@ unfolding known_level
 known_is values rows side h x y = h (variable_number x) (variable_number y) (below_variables x) (below_variables y)
 
 -- a note is stored if the abstract values are the same and the rows have its known levels
-pub closure_is : (values : List AbstractValue) (rows : List LevelRow) (side : Bool) (m : Note) → ((x : Variable) → get_or values (variable_number x) Nothing ≡ m.values x) →
+pub closure_is : (values : List AbstractValue) (rows : List LevelRow) (side : Bool) (m : Note) → ((x : Variable) → get_or values (variable_number x) Unknown ≡ m.values x) →
     ((x y : Variable) → level_of rows (variable_number x) (variable_number y) ≡ known_level m x y) → side ≡ m.side → made values rows side ≡ closure m
 unfolding closure
 closure_is values rows side m hs hl e = note_same _ _ (fun_ext hs) (level_same _ _ hl) e
@@ -74,7 +72,7 @@ stored_two a x y = let e = known_is a.values a.rows a.side a.ranges x y in let h
 pub stored_same : (a : StoredNote) → note_of a ≡ closure (note_of a)
 stored_same a = stored_is_closed a.values a.rows a.side a.ranges
 
-pub trust_is : (a : StoredNote) (r : Register) (side : Bool) → side ≡ (a.side || implies (get_or a.values (variable_number (variable.Register r)) Nothing)) →
+pub trust_is : (a : StoredNote) (r : Register) (side : Bool) → side ≡ (a.side || implies (get_or a.values (variable_number (variable.Register r)) Unknown)) →
     made a.values a.rows side ≡ closure (refine_flag (note_of a) r)
 unfolding refine_flag known_level
 trust_is a r side e = closure_is a.values a.rows side _ (λ x. refl) (λ x y. sym (a.ranges (variable_number x) (variable_number y) (below_variables x) (below_variables y))) e
@@ -86,23 +84,23 @@ max_twice l r = omega arith
 pub known_twice : (s t : AbstractValue) (same : Bool) (level : ℕ) → level_between s t same (level_between s t same level) ≡ level_between s t same level
 known_twice (Between a b) (Between c d) true level = refl
 known_twice (Between a b) (Between c d) false level = max_twice level _
-known_twice (Between a b) Nothing same level = refl
+known_twice (Between a b) Unknown same level = refl
 known_twice (Between a b) (Implies i) same level = refl
-known_twice Nothing t same level = refl
+known_twice Unknown t same level = refl
 known_twice (Implies i) t same level = refl
 
 -- rows of known levels contain the ranges
 pub rows_tell : (values : List AbstractValue) (rows : List LevelRow) (level : ℕ → ℕ → ℕ) →
-    ((x y : ℕ) → x < VARIABLES → y < VARIABLES → level_of rows x y ≡ level_between (get_or values x Nothing) (get_or values y Nothing) (nat_eq x y) (level x y)) →
+    ((x y : ℕ) → x < VARIABLES → y < VARIABLES → level_of rows x y ≡ level_between (get_or values x Unknown) (get_or values y Unknown) (nat_eq x y) (level x y)) →
     IncludesRanges values rows
 rows_tell values rows level h x y lx ly =
     let e = h x y lx ly in
-    ap (level_between (get_or values x Nothing) (get_or values y Nothing) (nat_eq x y)) e ∙ known_twice (get_or values x Nothing) (get_or values y Nothing) (nat_eq x y) (level x y) ∙ sym e
+    ap (level_between (get_or values x Unknown) (get_or values y Unknown) (nat_eq x y)) e ∙ known_twice (get_or values x Unknown) (get_or values y Unknown) (nat_eq x y) (level x y) ∙ sym e
 
 -- the note with these abstract values and these levels
 pub new_is : (values : List AbstractValue) (rows : List LevelRow) (levels : ℕ → ℕ → ℕ) (side : Bool) →
-    ((x y : ℕ) → x < VARIABLES → y < VARIABLES → level_of rows x y ≡ level_between (get_or values x Nothing) (get_or values y Nothing) (nat_eq x y) (levels x y)) →
-    made values rows side ≡ closure (record { values = λ x. get_or values (variable_number x) Nothing; level = λ x y. levels (variable_number x) (variable_number y); side = side })
+    ((x y : ℕ) → x < VARIABLES → y < VARIABLES → level_of rows x y ≡ level_between (get_or values x Unknown) (get_or values y Unknown) (nat_eq x y) (levels x y)) →
+    made values rows side ≡ closure (record { values = λ x. get_or values (variable_number x) Unknown; level = λ x y. levels (variable_number x) (variable_number y); side = side })
 unfolding known_level
 new_is values rows levels side h =
     closure_is values rows side _ (λ x. refl) (λ x y. h (variable_number x) (variable_number y) (below_variables x) (below_variables y)) refl
@@ -119,22 +117,22 @@ pub both_known : (s u t v : AbstractValue) (p q same : Bool) (j k : ℕ) → lev
     level_between (join_values (with_side p s) (with_side q u)) (join_values (with_side p t) (with_side q v)) same (min j k) ≡ min j k
 both_known (Between a b) (Between e f) (Between c d) (Between g h) p q true j k x y = omega (arith, x, y)
 both_known (Between a b) (Between e f) (Between c d) (Between g h) p q false j k x y = lesser j k _ _ _ x y (range_less b (max b f) c (min c g) (omega arith) (omega arith)) (range_less f (max b f) g (min c g) (omega arith) (omega arith))
-both_known (Between a b) (Between e f) (Between c d) Nothing p q same j k x y = omega (arith, y)
+both_known (Between a b) (Between e f) (Between c d) Unknown p q same j k x y = omega (arith, y)
 both_known (Between a b) (Between e f) (Between c d) (Implies i) p q same j k x y = omega (arith, y)
-both_known (Between a b) (Between e f) Nothing v p q same j k x y = omega (arith, x)
-both_known (Between a b) (Between e f) (Implies i) Nothing p q same j k x y = omega (arith, x)
+both_known (Between a b) (Between e f) Unknown v p q same j k x y = omega (arith, x)
+both_known (Between a b) (Between e f) (Implies i) Unknown p q same j k x y = omega (arith, x)
 both_known (Between a b) (Between e f) (Implies i) (Between g h) p q same j k x y = omega (arith, x)
 both_known (Between a b) (Between e f) (Implies i) (Implies l) p q same j k x y = omega (arith, x)
-both_known (Between a b) Nothing t v p q same j k x y = omega (arith, y)
+both_known (Between a b) Unknown t v p q same j k x y = omega (arith, y)
 both_known (Between a b) (Implies l) t v p q same j k x y = omega (arith, y)
-both_known Nothing u t v p q same j k x y = omega (arith, x)
-both_known (Implies i) Nothing t v p q same j k x y = omega (arith, x)
+both_known Unknown u t v p q same j k x y = omega (arith, x)
+both_known (Implies i) Unknown t v p q same j k x y = omega (arith, x)
 both_known (Implies i) (Between e f) t v p q same j k x y = omega (arith, x)
 both_known (Implies i) (Implies l) t v p q same j k x y = omega (arith, x)
 
 -- the variables of a join are those of both notes
 abbrev SaidByBoth : StoredNote → StoredNote → List AbstractValue → Type 0
-SaidByBoth a b values = (x : ℕ) → x < VARIABLES → get_or values x Nothing ≡ join_values (with_side a.side (get_or a.values x Nothing)) (with_side b.side (get_or b.values x Nothing))
+SaidByBoth a b values = (x : ℕ) → x < VARIABLES → get_or values x Unknown ≡ join_values (with_side a.side (get_or a.values x Unknown)) (with_side b.side (get_or b.values x Unknown))
 
 -- and its levels are the smaller ones
 abbrev LevelsOfBoth : StoredNote → StoredNote → List LevelRow → Type 0
@@ -151,7 +149,7 @@ join_is a b values rows side hs hl e =
 
 pub join_tells : (a b : StoredNote) (values : List AbstractValue) (rows : List LevelRow) → SaidByBoth a b values → LevelsOfBoth a b rows → IncludesRanges values rows
 join_tells a b values rows hs hl x y lx ly =
-    rw (hs x lx, hs y ly, hl x y lx ly) (both_known (get_or a.values x Nothing) (get_or b.values x Nothing) (get_or a.values y Nothing) (get_or b.values y Nothing) a.side b.side (nat_eq x y) (level_of a.rows x y) (level_of b.rows x y) (a.ranges x y lx ly) (b.ranges x y lx ly))
+    rw (hs x lx, hs y ly, hl x y lx ly) (both_known (get_or a.values x Unknown) (get_or b.values x Unknown) (get_or a.values y Unknown) (get_or b.values y Unknown) a.side b.side (nat_eq x y) (level_of a.rows x y) (level_of b.rows x y) (a.ranges x y lx ly) (b.ranges x y lx ly))
 
 -- the columns have the smaller levels if the rows have them
 pub join_back : (a b : StoredNote) (rows columns : List LevelRow) →
@@ -178,14 +176,14 @@ pub join_itself_tells : (a : StoredNote) (values : List AbstractValue) → SaidB
 join_itself_tells a values h = join_tells a a values a.rows h (λ x y lx ly. least (level_of a.rows x y))
 
 -- the rows after a write
-module _ (a : StoredNote) (d : ℕ) (s : AbstractValue) (to from : ℕ → ℕ) (rows : List LevelRow) (row column : ℕ → ℕ) (inside : d < VARIABLES) (variables : length a.values ≡ VARIABLES) (hr : (y : ℕ) → y < VARIABLES → row y ≡ level_between (get_or (set a.values d s) d Nothing) (get_or (set a.values d s) y Nothing) (nat_eq d y) (to y)) (hc : (x : ℕ) → x < VARIABLES → column x ≡ level_between (get_or (set a.values d s) x Nothing) (get_or (set a.values d s) d Nothing) (nat_eq x d) (from x)) (h : (x y : ℕ) → x < VARIABLES → y < VARIABLES → level_of rows x y ≡ cond (nat_eq x d) (row y) (cond (nat_eq y d) (column x) (level_of a.rows x y))) where
+module _ (a : StoredNote) (d : ℕ) (s : AbstractValue) (to from : ℕ → ℕ) (rows : List LevelRow) (row column : ℕ → ℕ) (inside : d < VARIABLES) (variables : length a.values ≡ VARIABLES) (hr : (y : ℕ) → y < VARIABLES → row y ≡ level_between (get_or (set a.values d s) d Unknown) (get_or (set a.values d s) y Unknown) (nat_eq d y) (to y)) (hc : (x : ℕ) → x < VARIABLES → column x ≡ level_between (get_or (set a.values d s) x Unknown) (get_or (set a.values d s) d Unknown) (nat_eq x d) (from x)) (h : (x y : ℕ) → x < VARIABLES → y < VARIABLES → level_of rows x y ≡ cond (nat_eq x d) (row y) (cond (nat_eq y d) (column x) (level_of a.rows x y))) where
   abbrev level : ℕ → ℕ → ℕ
   level x y = cond (nat_eq x d) (to y) (cond (nat_eq y d) (from x) (level_of a.rows x y))
 
   abbrev now : ℕ → AbstractValue
-  now x = get_or (set a.values d s) x Nothing
+  now x = get_or (set a.values d s) x Unknown
 
-  other : (x : ℕ) → nat_eq x d ≡ false → now x ≡ get_or a.values x Nothing
+  other : (x : ℕ) → nat_eq x d ≡ false → now x ≡ get_or a.values x Unknown
   other x e = said_set a.values d s (omega (arith, inside, variables)) x false e
 
   after_level : (x y : ℕ) → x < VARIABLES → y < VARIABLES → (b c : Bool) → nat_eq x d ≡ b → nat_eq y d ≡ c →
@@ -208,8 +206,8 @@ module _ (a : StoredNote) (d : ℕ) (s : AbstractValue) (to from : ℕ → ℕ) 
       is_below : (x : Variable) → variable_number x < VARIABLES
       is_below = below_variables
 
-      said_now : (x : Variable) → now (variable_number x) ≡ cond (nat_eq (variable_number x) (variable_number (variable.Register r))) s (get_or a.values (variable_number x) Nothing)
-      said_now x = said_set a.values d s (omega (arith, inside, variables)) (variable_number x) (nat_eq (variable_number x) d) refl ∙ ap (λ k. cond (nat_eq (variable_number x) k) s (get_or a.values (variable_number x) Nothing)) ed
+      said_now : (x : Variable) → now (variable_number x) ≡ cond (nat_eq (variable_number x) (variable_number (variable.Register r))) s (get_or a.values (variable_number x) Unknown)
+      said_now x = said_set a.values d s (omega (arith, inside, variables)) (variable_number x) (nat_eq (variable_number x) d) refl ∙ ap (λ k. cond (nat_eq (variable_number x) k) s (get_or a.values (variable_number x) Unknown)) ed
 
       at : (x y : Variable) → level_between (now (variable_number x)) (now (variable_number y)) (nat_eq (variable_number x) (variable_number y)) (level (variable_number x) (variable_number y))
           ≡ known_level (assign (note_of a) r s below above) x y
@@ -220,7 +218,7 @@ pub corner : (s : AbstractValue) (d j k : ℕ) → level_between s s (nat_eq d d
 corner s d j k = at s (nat_eq d d) (grind arith)
   where
     at : (s : AbstractValue) (b : Bool) → b ≡ true → level_between s s b j ≡ level_between s s b k
-    at Nothing b e = refl
+    at Unknown b e = refl
     at (Implies i) b e = refl
     at (Between a c) true e = refl
     at (Between a c) false e = absurd (cc e)
@@ -253,13 +251,13 @@ vanish : (same : Bool) (l c : ℕ) → 0 ≡ l → c ≡ 0 → cond same l (max 
 vanish true l c h e = sym h
 vanish false l c h e = omega (arith, h, e)
 
-to_nothing : (v : AbstractValue) (c : Bool) (m : ℕ) → level_between v Nothing c m ≡ 0
-to_nothing Nothing c m = refl
+to_nothing : (v : AbstractValue) (c : Bool) (m : ℕ) → level_between v Unknown c m ≡ 0
+to_nothing Unknown c m = refl
 to_nothing (Between a b) c m = refl
 to_nothing (Implies i) c m = refl
 
 to_flag : (v : AbstractValue) (f c : Bool) (m : ℕ) → level_between v (Implies f) c m ≡ 0
-to_flag Nothing f c m = refl
+to_flag Unknown f c m = refl
 to_flag (Between a b) f c m = refl
 to_flag (Implies i) f c m = refl
 
@@ -270,9 +268,9 @@ learn_level (Between x y) (Between z w) u v false b c l i j k n m h p q = keep l
   where
     keep : (l r c : ℕ) → max l r ≡ l → max l c ≡ max (max l c) r
     keep l r c h = omega (arith, h)
-learn_level (Between x y) Nothing u v same b c l i j k n m h p q = vanish same l _ h (ap (chain i k) (q ∙ to_nothing v c m) ∙ chain_zero i k)
+learn_level (Between x y) Unknown u v same b c l i j k n m h p q = vanish same l _ h (ap (chain i k) (q ∙ to_nothing v c m) ∙ chain_zero i k)
 learn_level (Between x y) (Implies f) u v same b c l i j k n m h p q = vanish same l _ h (ap (chain i k) (q ∙ to_flag v f c m) ∙ chain_zero i k)
-learn_level Nothing t u v same b c l i j k n m h p q = vanish same l _ h (ap (λ z. chain z k j) p)
+learn_level Unknown t u v same b c l i j k n m h p q = vanish same l _ h (ap (λ z. chain z k j) p)
 learn_level (Implies f) t u v same b c l i j k n m h p q = vanish same l _ h (ap (λ z. chain z k j) p)
 
 swap : (l : ℕ → ℕ → ℕ) (x y c : ℕ) (b d : Bool) → nat_eq y x ≡ b → nat_eq x y ≡ d →
@@ -287,20 +285,20 @@ module _ (a : StoredNote) (p q k : ℕ) (rows : List LevelRow) (lp : p < VARIABL
   abbrev more : ℕ → ℕ → ℕ
   more x y = max (level_of a.rows x y) (chain (level_of a.columns p x) k (level_of a.rows q y))
 
-  learn_known : (x y : ℕ) → x < VARIABLES → y < VARIABLES → level_of rows x y ≡ level_between (get_or a.values x Nothing) (get_or a.values y Nothing) (nat_eq x y) (more x y)
+  learn_known : (x y : ℕ) → x < VARIABLES → y < VARIABLES → level_of rows x y ≡ level_between (get_or a.values x Unknown) (get_or a.values y Unknown) (nat_eq x y) (more x y)
   learn_known x y lx ly =
       h x y lx ly ∙ swap (level_of a.rows) x y _ (nat_eq y x) (nat_eq x y) refl refl
-      ∙ learn_level (get_or a.values x Nothing) (get_or a.values y Nothing) (get_or a.values p Nothing) (get_or a.values q Nothing) (nat_eq x y) (nat_eq x p) (nat_eq q y) (level_of a.rows x y) (level_of a.columns p x) (level_of a.rows q y) k (level_of a.rows x p) (level_of a.rows q y) (a.ranges x y lx ly) (a.transposed x p lx lp ∙ sym (a.ranges x p lx lp)) (sym (a.ranges q y lq ly))
+      ∙ learn_level (get_or a.values x Unknown) (get_or a.values y Unknown) (get_or a.values p Unknown) (get_or a.values q Unknown) (nat_eq x y) (nat_eq x p) (nat_eq q y) (level_of a.rows x y) (level_of a.columns p x) (level_of a.rows q y) k (level_of a.rows x p) (level_of a.rows q y) (a.ranges x y lx ly) (a.transposed x p lx lp ∙ sym (a.ranges x p lx lp)) (sym (a.ranges q y lq ly))
 
   pub learn_tells : IncludesRanges a.values rows
   learn_tells = rows_tell a.values rows more learn_known
 
   module _ (u v : Variable) (eu : p ≡ variable_number u) (ev : q ≡ variable_number v) where
-    known_refined : (x y : Variable) → known_level (refine_order (note_of a) u v k) x y ≡ level_between (get_or a.values (variable_number x) Nothing) (get_or a.values (variable_number y) Nothing) (same_variable x y) (more (variable_number x) (variable_number y))
+    known_refined : (x y : Variable) → known_level (refine_order (note_of a) u v k) x y ≡ level_between (get_or a.values (variable_number x) Unknown) (get_or a.values (variable_number y) Unknown) (same_variable x y) (more (variable_number x) (variable_number y))
     unfolding refine_order
     known_refined x y =
         known_unfolds (refine_order (note_of a) u v k) x y
-        ∙ alike (get_or a.values (variable_number x) Nothing) (get_or a.values (variable_number y) Nothing) (same_variable x y) (level_of a.rows (variable_number x) (variable_number y))
+        ∙ alike (get_or a.values (variable_number x) Unknown) (get_or a.values (variable_number y) Unknown) (same_variable x y) (level_of a.rows (variable_number x) (variable_number y))
         (known_is a.values a.rows a.side a.ranges x u ∙ sym (ap (level_of a.rows (variable_number x)) eu) ∙ sym (a.transposed (variable_number x) p (below_variables x) lp))
         (known_is a.values a.rows a.side a.ranges v y ∙ sym (ap (λ z. level_of a.rows z (variable_number y)) ev))
       where
@@ -334,18 +332,18 @@ learn_back a p q k rows columns h g x y lx ly =
 abbrev AreEntryLevels : List (List ℕ) → Type 0
 AreEntryLevels levels = (x y : Variable) → get_or (get_or levels (variable_number x) []) (variable_number y) 0 ≡ entry_level x y
 
-pub entry_is : (kind : Kind) (values : List AbstractValue) (levels : List (List ℕ)) → ((x : Variable) → get_or values (variable_number x) Nothing ≡ entry_values kind x) →
+pub entry_is : (kind : Kind) (values : List AbstractValue) (levels : List (List ℕ)) → ((x : Variable) → get_or values (variable_number x) Unknown ≡ entry_values kind x) →
     AreEntryLevels levels →
-    closure (record { values = λ x. get_or values (variable_number x) Nothing; level = λ x y. get_or (get_or levels (variable_number x) []) (variable_number y) 0; side = false }) ≡ closure (entry kind)
+    closure (record { values = λ x. get_or values (variable_number x) Unknown; level = λ x y. get_or (get_or levels (variable_number x) []) (variable_number y) 0; side = false }) ≡ closure (entry kind)
 unfolding entry
 entry_is kind values levels h k = ap closure (note_same _ _ (fun_ext h) (level_same _ _ k) refl)
 
 entry_small : (s t : AbstractValue) (same : Bool) (l : ℕ) → l ≤ 1 → level_between s t same l ≤ 2
 entry_small (Between a b) (Between c d) true l h = omega arith
 entry_small (Between a b) (Between c d) false l h = grind arith
-entry_small (Between a b) Nothing same l h = omega arith
+entry_small (Between a b) Unknown same l h = omega arith
 entry_small (Between a b) (Implies i) same l h = omega arith
-entry_small Nothing t same l h = omega arith
+entry_small Unknown t same l h = omega arith
 entry_small (Implies i) t same l h = omega arith
 
 entry_one : (x y : Variable) → entry_level x y ≤ 1
@@ -362,7 +360,7 @@ entry_fits values levels h x y lx ly =
 
 -- a note is no stronger than another if its tables contain no more
 pub no_stronger : (m n : StoredNote) →
-    ((x : ℕ) → x < VARIABLES → IsNoMorePrecise (with_side m.side (get_or m.values x Nothing)) (with_side n.side (get_or n.values x Nothing))) →
+    ((x : ℕ) → x < VARIABLES → IsNoMorePrecise (with_side m.side (get_or m.values x Unknown)) (with_side n.side (get_or n.values x Unknown))) →
     ((x y : ℕ) → x < VARIABLES → y < VARIABLES → level_of m.rows x y ≤ level_of n.rows x y) → (IsTrue m.side → IsTrue n.side) →
     IsNoStronger (note_of m) (note_of n)
 unfolding value_with_side
@@ -373,9 +371,9 @@ no_stronger m n f g h = record {
 }
 
 pub no_stronger_said : (m n : StoredNote) → IsNoStronger (note_of m) (note_of n) → (x : ℕ) → x < VARIABLES →
-    IsNoMorePrecise (with_side m.side (get_or m.values x Nothing)) (with_side n.side (get_or n.values x Nothing))
+    IsNoMorePrecise (with_side m.side (get_or m.values x Unknown)) (with_side n.side (get_or n.values x Unknown))
 unfolding value_with_side
-no_stronger_said m n h = at_numbers (λ x. IsNoMorePrecise (with_side m.side (get_or m.values x Nothing)) (with_side n.side (get_or n.values x Nothing))) h.values
+no_stronger_said m n h = at_numbers (λ x. IsNoMorePrecise (with_side m.side (get_or m.values x Unknown)) (with_side n.side (get_or n.values x Unknown))) h.values
 
 pub no_stronger_levels : (m n : StoredNote) → IsNoStronger (note_of m) (note_of n) → (x y : ℕ) → x < VARIABLES → y < VARIABLES → level_of m.rows x y ≤ level_of n.rows x y
 no_stronger_levels m n h x y lx ly =

@@ -1,5 +1,4 @@
 pub mod Notes
-pub mod Order
 pub mod Transfer
 pub mod Reasons
 pub mod Rows

@@ -1,15 +1,16 @@
--- Notes: the verifier's knowledge of the values before an instruction, on every path that leads there.
-use Rattle.std.specs.Prelude.{ℕ, ◌||◌, max, Bool, true, false, Option, Some, None, nat_eq, nat_lt, nat_le, if◌then◌else◌}
-use Rattle.trlab_code.specs.declared.program.Kind.{Kind}
-use Rattle.trlab_code.specs.declared.instruction.Input.{Input}
-use Rattle.trlab_code.specs.declared.instruction.Input.TheVariants.{Speed, Limit, Gap, SideGap, SideBack, Lane, Headspeed}
-use Rattle.trlab_code.specs.declared.instruction.Variable.{Variable}
+-- Notes, the verifier's knowledge before an instruction, and their order by strength.
+use Rattle.std.specs.Prelude.{ℕ, ◌||◌, max, Bool, true, false, Option, Some, None, nat_eq, nat_lt, nat_le}
+use Rattle.std.specs.Prelude.{if◌then◌else◌, ◌≤◌, ◌&&◌, min, IsTrue}
+use Rattle.trlab_code.specs.declared.{program.Kind.Kind, instruction.Input.Input}
+use Rattle.trlab_code.specs.declared.instruction.Input.TheVariants.{Speed, Limit, Gap, SideGap, SideBack}
+use Rattle.trlab_code.specs.declared.instruction.{Input.TheVariants.{Lane, Headspeed}, Variable.Variable}
+use Rattle.trlab_code.specs.Machine.{variable_number, allows_input}
 use Rattle.trlab_code.specs.declared.instruction.Variable.TheVariants as variable
 use Rattle.trlab_bounds.specs.declared.roads.TheConstants.{MAX_LIMIT, MAX_GAP}
-use Rattle.trlab_code.specs.Machine.{variable_number, allows_input}
-use Rattle.trlab_notes.specs.declared.note.TheConstants.{AT_MOST, BELOW}
-use Rattle.trlab_notes.specs.declared.note.AbstractValue.{AbstractValue}
-use Rattle.trlab_notes.specs.declared.note.AbstractValue.TheVariants.{Nothing, Between, Implies}
+use Rattle.trlab_notes.specs.declared.note.{TheConstants.{AT_MOST, BELOW}, AbstractValue.AbstractValue}
+use Rattle.trlab_notes.specs.declared.note.AbstractValue.TheVariants.{Unknown, Between, Implies}
+
+-- Notes: the verifier's knowledge of the values before an instruction, on every path that leads there.
 
 -- a note, which is an abstract state: the abstract value of each variable, the level of each variable to
 -- each, and whether the side cell is known to be empty. The level of x to y is BELOW = 2 if x is known to
@@ -26,7 +27,7 @@ same_variable x y = nat_eq (variable_number x) (variable_number y)
 -- an abstract value refined by `side`: if the side cell is known to be empty, each flag implies that it is;
 -- other abstract values stay as they are
 abbrev pub with_side : Bool → AbstractValue → AbstractValue
-with_side side Nothing = Nothing
+with_side side Unknown = Unknown
 with_side side (Between lo hi) = Between lo hi
 with_side side (Implies implied) = Implies (implied || side)
 
@@ -91,8 +92,8 @@ input_range Headspeed = Between 0 MAX_LIMIT
 -- the abstract value of a variable at the start of a program of kind `kind`: inputs that the program may read
 -- have their ranges, and nothing is known of registers and other inputs
 abbrev pub entry_values : Kind → Variable → AbstractValue
-entry_values kind (variable.Register r) = Nothing
-entry_values kind (variable.Input k) = if allows_input kind k then input_range k else Nothing
+entry_values kind (variable.Register r) = Unknown
+entry_values kind (variable.Input k) = if allows_input kind k then input_range k else Unknown
 
 -- the level of one variable to another at the start of a program: speed and headspeed are at most the limit,
 -- and nothing else is known
@@ -104,3 +105,45 @@ entry_level _ _ = 0
 -- the entry note: the knowledge at the start of every program of kind `kind`
 unfoldable pub entry : Kind → Note
 entry kind = record { values = entry_values kind; level = entry_level; side = false }
+
+-- The order of notes by strength, and the join of two notes.
+
+-- an abstract value is no more precise than another: it is `Unknown`; or a range that contains the other
+-- range, as `Between 0 9` contains `Between 2 5`; or a flag that implies an empty side cell only if the other
+-- flag does
+abbrev pub IsNoMorePrecise : AbstractValue → AbstractValue → Type 0
+IsNoMorePrecise Unknown other = Unit {0}
+IsNoMorePrecise (Between lo hi) (Between least most) = (lo ≤ least) × (most ≤ hi)
+IsNoMorePrecise (Implies implied) (Implies other) = IsTrue implied → IsTrue other
+IsNoMorePrecise _ _ = ⊥
+
+-- note m is no stronger than note n: it knows no more of the values, of the order and of the side cell
+pub record IsNoStronger (m n : Note) : Type 0 where
+  pub values : (x : Variable) → IsNoMorePrecise (value_with_side m x) (value_with_side n x)
+  pub order : (x y : Variable) → known_level m x y ≤ known_level n x y
+  pub beside : IsTrue m.side → IsTrue n.side
+
+-- of two notes, either of which may be missing, the first is no stronger than the second; if one is missing,
+-- so is the other
+abbrev pub AreNoStronger : Option Note → Option Note → Type 0
+AreNoStronger None None = Unit {0}
+AreNoStronger (Some m) (Some n) = IsNoStronger m n
+AreNoStronger _ _ = ⊥
+
+-- the common knowledge of two abstract values: the range from the smaller lower end of two ranges to the
+-- larger upper end, for example `Between 0 9` for `Between 0 3` and `Between 5 9`, and `Between 5 9` for the
+-- empty range `Between 5 3` and `Between 7 9`; a flag that implies an empty side cell if both flags do;
+-- otherwise `Unknown`
+abbrev pub join_values : AbstractValue → AbstractValue → AbstractValue
+join_values (Between lo hi) (Between least most) = Between (min lo least) (max hi most)
+join_values (Implies implied) (Implies other) = Implies (implied && other)
+join_values _ _ = Unknown
+
+-- the join of notes m and n, the strongest note that is no stronger than either: their common knowledge of
+-- the values, the order and the side cell
+unfoldable pub join : Note → Note → Note
+join m n = record {
+  values = λ x. join_values (value_with_side m x) (value_with_side n x);
+  level = λ x y. min (known_level m x y) (known_level n x y);
+  side = m.side && n.side;
+}

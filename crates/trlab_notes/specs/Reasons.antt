@@ -1,24 +1,19 @@
 -- The reasons to reject an instruction, from the note before it.
-use Rattle.std.specs.Prelude.{ℕ, suc, ◌+◌, ◌*◌, ◌&&◌, ◌||◌, not, List, [], ◌∷◌, ◌++◌, Bool, true, false, Option, Some, None, nat_eq, nat_lt, nat_le, if◌then◌else◌}
-use Rattle.std.specs.List.{list_any}
-use Rattle.trlab_code.specs.declared.program.Kind.{Kind}
-use Rattle.trlab_code.specs.declared.instruction.Register.{Register}
-use Rattle.trlab_code.specs.declared.instruction.Input.{Input}
-use Rattle.trlab_code.specs.declared.instruction.Input.TheVariants.{Limit, Gap}
+use Rattle.std.specs.Prelude.{ℕ, suc, ◌+◌, ◌*◌, ◌&&◌, ◌||◌, not, List, [], ◌∷◌, ◌++◌, Bool, true, false}
+use Rattle.std.specs.{Prelude.{Option, Some, None, nat_eq, nat_lt, nat_le, if◌then◌else◌}, List.list_any}
+use Rattle.trlab_code.specs.{declared.program.Kind.Kind, Machine.allows, Flow.{target, on_target, falls}}
+use Rattle.trlab_code.specs.declared.instruction.{Register.Register, Instr.TheVariants.{JumpFalse, Go, Cross}}
+use Rattle.trlab_code.specs.declared.instruction.{Input.{Input, TheVariants.{Limit, Gap}}, Instr.Instr}
+use Rattle.trlab_code.specs.declared.instruction.Instr.TheVariants.{Add, Sub, Mul, Div, Min, Max, Not, And}
+use Rattle.trlab_code.specs.declared.instruction.Instr.TheVariants.{Or, Copy, JumpLess, JumpAtMost, JumpTrue}
 use Rattle.trlab_code.specs.declared.instruction.Variable.TheVariants as variable
-use Rattle.trlab_code.specs.declared.instruction.Instr.{Instr}
-use Rattle.trlab_code.specs.declared.instruction.Instr.TheVariants.{Add, Sub, Mul, Div, Min, Max, Not, And, Or, Copy, JumpLess, JumpAtMost, JumpTrue, JumpFalse, Go, Cross}
 use Rattle.trlab_bounds.specs.declared.programs.TheConstants.{MAX_NUMBER}
-use Rattle.trlab_code.specs.Machine.{allows}
-use Rattle.trlab_code.specs.Flow.{target, on_target, falls}
 use Rattle.trlab_notes.specs.declared.note.AbstractValue.{AbstractValue}
-use Rattle.trlab_notes.specs.declared.note.AbstractValue.TheVariants.{Nothing, Between, Implies}
-use Rattle.trlab_notes.specs.declared.reasons.Operands.{Operands}
-use Rattle.trlab_notes.specs.declared.reasons.Operands.TheVariants as read
-use Rattle.trlab_notes.specs.declared.reasons.Reason.{Reason}
-use Rattle.trlab_notes.specs.declared.reasons.Reason.TheVariants as why
-use Rattle.trlab_notes.specs.Notes.{Note, known_level}
+use Rattle.trlab_notes.specs.declared.note.AbstractValue.TheVariants.{Unknown, Between, Implies}
+use Rattle.trlab_notes.specs.{declared.reasons.{Operands.Operands, Reason.Reason}, Notes.{Note, known_level}}
 use Rattle.trlab_notes.specs.Transfer.{register_value, most, register_level}
+use Rattle.trlab_notes.specs.declared.reasons.Operands.TheVariants as read
+use Rattle.trlab_notes.specs.declared.reasons.Reason.TheVariants as why
 
 -- the number of a reason, 1 to 12, in the order in which reasons are tested
 abbrev pub reason_number : Reason → ℕ
@@ -77,9 +72,9 @@ values_of (read.Value a) = a ∷ []
 values_of _ = []
 
 -- is nothing known of a value? Then it may be unset
-abbrev pub is_nothing : AbstractValue → Bool
-is_nothing Nothing = true
-is_nothing _ = false
+abbrev pub is_unknown : AbstractValue → Bool
+is_unknown Unknown = true
+is_unknown _ = false
 
 -- is a value known to be a number?
 abbrev pub is_range : AbstractValue → Bool
@@ -98,9 +93,9 @@ any_register test note registers = list_any (λ a. test (register_value note a))
 -- may an operand of the instruction be unset, by the note before it?
 abbrev pub some_unset : Note → Instr → Bool
 some_unset note instr =
-    any_register is_nothing note (numbers_of (operands_of instr))
-    || (any_register is_nothing note (flags_of (operands_of instr))
-    || any_register is_nothing note (values_of (operands_of instr)))
+    any_register is_unknown note (numbers_of (operands_of instr))
+    || (any_register is_unknown note (flags_of (operands_of instr))
+    || any_register is_unknown note (values_of (operands_of instr)))
 
 -- is an operand of the instruction a flag instead of a number, or a number instead of a flag, by the note
 -- before it?

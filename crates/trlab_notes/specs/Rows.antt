@@ -2,13 +2,9 @@
 use Rattle.std.specs.Prelude.{◌≡◌, ℕ, ◌*◌, ◌<◌, ◌≤◌, max, List, [], nat_eq, slice_index, slice_index_or}
 use Rattle.std.specs.Int.{bit_at}
 use Rattle.trlab_bounds.specs.declared.programs.TheConstants.{VARIABLES}
-use Rattle.trlab_code.specs.declared.instruction.Variable.{Variable}
-use Rattle.trlab_code.specs.Machine.{variable_number}
-use Rattle.trlab_notes.specs.declared.note.TheConstants.{BELOW}
-use Rattle.trlab_notes.specs.declared.note.AbstractValue.{AbstractValue}
-use Rattle.trlab_notes.specs.declared.note.AbstractValue.TheVariants.{Nothing}
-use Rattle.trlab_notes.specs.declared.rows.LevelRow.{LevelRow}
-use Rattle.trlab_notes.specs.Notes.{level_between}
+use Rattle.trlab_code.specs.{declared.instruction.Variable.Variable, Machine.variable_number}
+use Rattle.trlab_notes.specs.{declared.{note.TheConstants.BELOW, rows.LevelRow.LevelRow}, Notes.level_between}
+use Rattle.trlab_notes.specs.declared.note.AbstractValue.{AbstractValue, TheVariants.Unknown}
 
 -- the level to variable y in a row, which encodes the levels of one variable to all as bits: 2 (below) if bit
 -- y of `below` is 1, 1 (at most) if only bit y of `at_most` is 1, otherwise 0
@@ -25,10 +21,10 @@ level_of rows x y = level_in (slice_index_or rows x (record { at_most = 0; below
 abbrev pub level_at : List (List ℕ) → ℕ → ℕ → ℕ
 level_at levels x y = slice_index (slice_index_or levels x []) y
 
--- the abstract value of variable x in an array of the abstract values of all variables; `Nothing` if the
+-- the abstract value of variable x in an array of the abstract values of all variables; `Unknown` if the
 -- array has no entry for x
 abbrev pub value_in : List AbstractValue → Variable → AbstractValue
-value_in values x = slice_index_or values (variable_number x) Nothing
+value_in values x = slice_index_or values (variable_number x) Unknown
 
 -- the level of variable x to variable y in an array whose entries list the levels of each variable to all
 -- variables as numbers
@@ -39,7 +35,7 @@ levels_in levels x y = level_at levels (variable_number x) (variable_number y)
 -- variables, and the level of x to y in a note
 abbrev pub known_level_from : List AbstractValue → ℕ → ℕ → ℕ → ℕ
 known_level_from values x y level =
-    level_between (slice_index_or values x Nothing) (slice_index_or values y Nothing) (nat_eq x y) level
+    level_between (slice_index_or values x Unknown) (slice_index_or values y Unknown) (nat_eq x y) level
 
 -- with these abstract values and levels each known level is at most BELOW, the largest level
 abbrev pub AreValidLevels : List AbstractValue → List (List ℕ) → Type 0

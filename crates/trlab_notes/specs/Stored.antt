@@ -1,9 +1,7 @@
 -- How the code keeps notes: as arrays in the order of the variables' numbers.
 use Rattle.std.specs.Prelude.{ℕ, List, Option, Some, None, slice_index_or}
 use Rattle.trlab_code.specs.Machine.{variable_number}
-use Rattle.trlab_notes.specs.declared.rows.StoredNote.{StoredNote}
-use Rattle.trlab_notes.specs.Notes.{Note}
-use Rattle.trlab_notes.specs.Rows.{level_of, value_in}
+use Rattle.trlab_notes.specs.{declared.rows.StoredNote.StoredNote, Notes.Note, Rows.{level_of, value_in}}
 
 -- the note that the code keeps as `stored`
 abbrev pub note_of : StoredNote → Note

@@ -1,17 +1,17 @@
 -- The abstract semantics of instructions: the note after an instruction on each path, from the note before
 -- it.
-use Rattle.std.specs.Prelude.{ℕ, zero, suc, ◌+◌, ◌-◌, ◌*◌, ◌/◌, ◌&&◌, ◌||◌, min, max, Bool, true, false, Option, Some, None, nat_le, if◌then◌else◌}
-use Rattle.trlab_code.specs.declared.instruction.Register.{Register}
-use Rattle.trlab_code.specs.declared.instruction.Variable.{Variable}
-use Rattle.trlab_code.specs.declared.instruction.Variable.TheVariants as variable
-use Rattle.trlab_code.specs.declared.instruction.Instr.{Instr}
-use Rattle.trlab_code.specs.declared.instruction.Instr.TheVariants.{Num, Get, Side, Draw, Copy, Add, Sub, Mul, Div, Min, Max, Not, And, Or, Jump, JumpLess, JumpAtMost, JumpTrue, JumpFalse, Go, Cross, Stay}
-use Rattle.trlab_bounds.specs.declared.programs.TheConstants.{MAX_NUMBER}
-use Rattle.trlab_code.specs.Machine.{update}
+use Rattle.std.specs.Prelude.{ℕ, zero, suc, ◌+◌, ◌-◌, ◌*◌, ◌/◌, ◌&&◌, ◌||◌, min, max, Bool, true, false}
+use Rattle.std.specs.Prelude.{Option, Some, None, nat_le, if◌then◌else◌}
+use Rattle.trlab_code.specs.declared.instruction.{Register.Register, Variable.Variable, Instr.Instr}
+use Rattle.trlab_code.specs.declared.instruction.Instr.TheVariants.{Num, Get, Side, Draw, Copy, Add, Sub, Mul}
+use Rattle.trlab_code.specs.declared.instruction.Instr.TheVariants.{Div, Min, Max, Not, And, Or, Jump}
+use Rattle.trlab_code.specs.declared.instruction.Instr.TheVariants.{JumpLess, JumpAtMost, JumpTrue, JumpFalse}
+use Rattle.trlab_code.specs.{declared.instruction.Instr.TheVariants.{Go, Cross, Stay}, Machine.update}
 use Rattle.trlab_code.specs.Flow.{destination}
-use Rattle.trlab_notes.specs.declared.note.TheConstants.{AT_MOST, BELOW}
-use Rattle.trlab_notes.specs.declared.note.AbstractValue.{AbstractValue}
-use Rattle.trlab_notes.specs.declared.note.AbstractValue.TheVariants.{Nothing, Between, Implies}
+use Rattle.trlab_code.specs.declared.instruction.Variable.TheVariants as variable
+use Rattle.trlab_bounds.specs.declared.programs.TheConstants.{MAX_NUMBER}
+use Rattle.trlab_notes.specs.declared.note.{TheConstants.{AT_MOST, BELOW}, AbstractValue.AbstractValue}
+use Rattle.trlab_notes.specs.declared.note.AbstractValue.TheVariants.{Unknown, Between, Implies}
 use Rattle.trlab_notes.specs.Notes.{Note, same_variable, value_with_side, low, high, implies, known_level}
 
 -- the abstract value of register a in a note
@@ -59,7 +59,7 @@ slacken k hi = if nat_le BELOW k && nat_le hi 1 then AT_MOST else 0
 abbrev pub least_difference : ℕ → ℕ
 least_difference k = if nat_le BELOW k then 1 else 0
 
--- the abstract value of the result of an instruction, from the note before it; `Nothing` if it has no result
+-- the abstract value of the result of an instruction, from the note before it; `Unknown` if it has no result
 abbrev pub result_value : Note → Instr → AbstractValue
 result_value note (Num d n) = Between n n
 result_value note (Get d k) = value_with_side note (variable.Input k)
@@ -78,14 +78,14 @@ result_value note (Max d a b) = Between (max (least note a) (least note b)) (max
 result_value note (Not d a) = Implies false
 result_value note (And d a b) = Implies (flag_implies note a || flag_implies note b)
 result_value note (Or d a b) = Implies (flag_implies note a && flag_implies note b)
-result_value note (Jump t) = Nothing
-result_value note (JumpLess a b t) = Nothing
-result_value note (JumpAtMost a b t) = Nothing
-result_value note (JumpTrue a t) = Nothing
-result_value note (JumpFalse a t) = Nothing
-result_value note (Go a) = Nothing
-result_value note Cross = Nothing
-result_value note Stay = Nothing
+result_value note (Jump t) = Unknown
+result_value note (JumpLess a b t) = Unknown
+result_value note (JumpAtMost a b t) = Unknown
+result_value note (JumpTrue a t) = Unknown
+result_value note (JumpFalse a t) = Unknown
+result_value note (Go a) = Unknown
+result_value note Cross = Unknown
+result_value note Stay = Unknown
 
 -- the level of an instruction's result to variable y, from the note before it; 0 if nothing is known of it,
 -- or the result is a flag

@@ -5,8 +5,7 @@
 ghost use Rattle.std.specs.Prelude.{◌≡◌, ℕ, None};
 ghost use Rattle.trlab_code.specs.declared.instruction.Instr.{Instr};
 ghost use Rattle.trlab_code.specs.declared.program.Kind.{Kind as AKind};
-ghost use Rattle.trlab_notes.specs.Notes.{Note};
-ghost use Rattle.trlab_notes.specs.Order.{IsNoStronger, AreNoStronger, join};
+ghost use Rattle.trlab_notes.specs.Notes.{Note, IsNoStronger, AreNoStronger, join};
 ghost use Rattle.trlab_notes.specs.Reasons.{reason_against};
 ghost use Rattle.trlab_notes.specs.Transfer.{next_note, jump_note};
 

@@ -3,7 +3,7 @@
 ghost use Rattle.std.specs.Prelude.{◌≡◌, ℕ, ◌<◌, ◌≤◌, slice_index, slice_index_or};
 ghost use Rattle.trlab_code.specs.declared.instruction.Variable.{Variable as AVariable};
 ghost use Rattle.trlab_code.specs.Machine.{variable_number};
-ghost use Rattle.trlab_notes.specs.declared.note.AbstractValue.TheVariants.{Nothing};
+ghost use Rattle.trlab_notes.specs.declared.note.AbstractValue.TheVariants.{Unknown};
 ghost use Rattle.trlab_notes.specs.declared.note.TheConstants.{BELOW};
 ghost use Rattle.trlab_notes.specs.Notes.{closure, entry, known_level, value_with_side, with_side};
 ghost use Rattle.trlab_notes.specs.Rows.{AreValidLevels, known_level_from, level_at, level_in, level_of, levels_in, value_in};
@@ -85,7 +85,7 @@ impl StoredNote {
     /// The abstract value of the variable with the number x, refined by the knowledge of the side cell.
     pub(crate) fn value_at(&self, x: usize) -> AbstractValue
         requires { x < VARIABLES }
-        ensures { result ≡ with_side self.now.side (slice_index_or self.now.values x Nothing) }
+        ensures { result ≡ with_side self.now.side (slice_index_or self.now.values x Unknown) }
     {
         with_side(self.side, self.values[x])
     }

@@ -18,7 +18,7 @@ pub const BELOW: u8 = 2;
 #[derive(Clone, Copy)]
 pub enum AbstractValue {
     /// Unknown: it may be unset, or a number on one path and a flag on another.
-    Nothing,
+    Unknown,
     /// It is a number from the first to the second, both included.
     Between(u32, u32),
     /// It is a flag. With `true`, the side cell is empty if the flag is true.
@@ -88,7 +88,7 @@ pub fn level_between(s: AbstractValue, t: AbstractValue, is_same: bool, level: u
 pub fn entry_values(kind: Kind) -> [AbstractValue; VARIABLES]
     ensures { (x : AVariable) → value_in result x ≡ entry_values kind x }
 {
-    let unset = AbstractValue::Nothing;
+    let unset = AbstractValue::Unknown;
     let speed = AbstractValue::Between(0, MAX_LIMIT);
     let limit = AbstractValue::Between(1, MAX_LIMIT);
     let gap = AbstractValue::Between(0, MAX_GAP);

@@ -3,7 +3,7 @@
 ghost use Rattle.std.specs.Prelude.{◌≡◌, ◌≤◌, MatchOption, ◌<◌, nat_le};
 ghost use Rattle.trlab_code.specs.Machine.{allows, allows_input};
 ghost use Rattle.trlab_code.specs.Flow.{target, on_target};
-ghost use Rattle.trlab_notes.specs.Reasons.{is_nothing, is_range, is_flag, is_of_kind, some_unset, some_of_wrong_type, may_be_too_large, may_be_below_zero, may_be_above, may_be_occupied, falls_out, first_reason, range_checks, reason_against};
+ghost use Rattle.trlab_notes.specs.Reasons.{is_unknown, is_range, is_flag, is_of_kind, some_unset, some_of_wrong_type, may_be_too_large, may_be_below_zero, may_be_above, may_be_occupied, falls_out, first_reason, range_checks, reason_against};
 ghost use Rattle.trlab_notes.specs.Stored.{note_of};
 ghost use Rattle.trlab_notes.specs.Transfer.{register_value};
 
@@ -147,9 +147,9 @@ fn is_of_kind(kind: Kind, own: Kind, instr: Instr) -> bool
 
 /// Whether a register may be unset.
 fn is_unset(note: &StoredNote, register: Register) -> bool
-    ensures { result ≡ is_nothing (register_value (note_of note.now) register) }
+    ensures { result ≡ is_unknown (register_value (note_of note.now) register) }
 {
-    matches!(note.register_value(register), AbstractValue::Nothing)
+    matches!(note.register_value(register), AbstractValue::Unknown)
 }
 
 /// Whether a register holds a number.

@@ -147,7 +147,7 @@ impl StoredNote {
             Instr::Or(_, a, b) => AbstractValue::Implies(
                 self.flag_implies(a) && self.flag_implies(b),
             ),
-            _ => AbstractValue::Nothing,
+            _ => AbstractValue::Unknown,
         }
     }
 

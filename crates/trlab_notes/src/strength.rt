@@ -1,9 +1,8 @@
 //! The order of notes and their join, which is the common knowledge of two notes when two paths meet.
 
 ghost use Rattle.std.specs.Prelude.{◌≡◌, ◌↔◌, ℕ, ◌<◌, ◌≤◌, IsTrue, slice_index_or};
-ghost use Rattle.trlab_notes.specs.declared.note.AbstractValue.TheVariants.{Nothing};
-ghost use Rattle.trlab_notes.specs.Notes.{with_side};
-ghost use Rattle.trlab_notes.specs.Order.{IsNoMorePrecise, IsNoStronger, join, join_values};
+ghost use Rattle.trlab_notes.specs.declared.note.AbstractValue.TheVariants.{Unknown};
+ghost use Rattle.trlab_notes.specs.Notes.{with_side, IsNoMorePrecise, IsNoStronger, join, join_values};
 ghost use Rattle.trlab_notes.specs.Rows.{level_of};
 ghost use Rattle.trlab_notes.specs.Stored.{note_of};
 
@@ -16,7 +15,7 @@ fn is_no_more_precise(s: AbstractValue, t: AbstractValue) -> bool
     ensures { IsTrue result ↔ IsNoMorePrecise s t }
 {
     match (s, t) {
-        (AbstractValue::Nothing, _) => true,
+        (AbstractValue::Unknown, _) => true,
         (AbstractValue::Between(low, high), AbstractValue::Between(least, most)) => low <= least
             && most <= high,
         (AbstractValue::Implies(imp), AbstractValue::Implies(other)) => !imp || other,
@@ -27,8 +26,8 @@ fn is_no_more_precise(s: AbstractValue, t: AbstractValue) -> bool
 /// Whether no abstract value of `m` is more precise than in `n`.
 fn has_weaker_variables(m: &StoredNote, n: &StoredNote) -> bool
     ensures { IsTrue result ↔ ((x : ℕ) → x < VARIABLES → IsNoMorePrecise
-        (with_side m.now.side (slice_index_or m.now.values x Nothing))
-        (with_side n.now.side (slice_index_or n.now.values x Nothing))) }
+        (with_side m.now.side (slice_index_or m.now.values x Unknown))
+        (with_side n.now.side (slice_index_or n.now.values x Unknown))) }
 {
     for x in 0..VARIABLES {
         if !is_no_more_precise(m.value_at(x), n.value_at(x)) {
@@ -67,17 +66,17 @@ fn join_values(a: AbstractValue, b: AbstractValue) -> AbstractValue
             AbstractValue::Between(low.min(other_low), high.max(other_high))
         }
         (AbstractValue::Implies(p), AbstractValue::Implies(q)) => AbstractValue::Implies(p && q),
-        _ => AbstractValue::Nothing,
+        _ => AbstractValue::Unknown,
     }
 }
 
 /// The common knowledge of two notes about the value of each variable.
 fn join_variables(a: &StoredNote, b: &StoredNote) -> [AbstractValue; VARIABLES]
-    ensures { (x : ℕ) → x < VARIABLES → slice_index_or result x Nothing ≡ join_values
-        (with_side a.now.side (slice_index_or a.now.values x Nothing))
-        (with_side b.now.side (slice_index_or b.now.values x Nothing)) }
+    ensures { (x : ℕ) → x < VARIABLES → slice_index_or result x Unknown ≡ join_values
+        (with_side a.now.side (slice_index_or a.now.values x Unknown))
+        (with_side b.now.side (slice_index_or b.now.values x Unknown)) }
 {
-    let mut values = [AbstractValue::Nothing; VARIABLES];
+    let mut values = [AbstractValue::Unknown; VARIABLES];
     for x in 0..VARIABLES {
         values[x] = join_values(a.value_at(x), b.value_at(x));
     }

@@ -5,7 +5,7 @@ ghost use Rattle.std.specs.Prelude.{◌≡◌, ◌↔◌, ◌||◌, true, false,
 ghost use Rattle.clap.specs.Words.{FailsBy, kind_of, subcommand_of};
 ghost use Rattle.trlab_command_line.specs.CommandLine.{command_line};
 ghost use Rattle.trlab_command_line.specs.Ends.{EndsWithStatus, PrintEnds};
-ghost use Rattle.trlab_command_line.specs.Requests.{FitsEngines, IsRequestOf, arguments_fault, reads_input};
+ghost use Rattle.trlab_command_line.specs.CommandLine.{FitsEngines, IsRequestOf, arguments_fault, reads_input};
 
 use clap::Error;
 use std::alloc::Global;

@@ -1,8 +1,8 @@
 -- Characters of speeds: no two speeds have the same character, and no speed has the dot.
-use Rattle.std.proofs.Common.{◌≡◌, ◌≢◌, ℕ, zero, suc, ◌+◌, ◌-◌, ◌<◌, ◌≤◌, eqb, ◌⊎◌, refl, sym, ◌∙◌, ap, inl, inr, arith}
-use Rattle.std.proofs.lemmas.Bool.{cases_lt, cases_eq, cond_above, cond_below, eq-eqb, ne_eqb}
-use Rattle.trlab_road.specs.Pictures.{ShowsSpeed, dot, speed_character}
-use Rattle.trlab_road.specs.Stored.{speed_of_character}
+use Rattle.std.proofs.Common.{◌≡◌, ◌≢◌, ℕ, zero, suc, ◌+◌, ◌-◌, ◌<◌, ◌≤◌, eqb, ◌⊎◌, refl, sym, ◌∙◌, ap, inl}
+use Rattle.std.proofs.Common.{inr, arith, eq-eqb, ne_eqb}
+use Rattle.std.proofs.lemmas.Bool.{cases_lt, cases_eq, cond_above, cond_below}
+use Rattle.trlab_road.specs.{Pictures.{ShowsSpeed, dot, speed_character}, Stored.speed_of_character}
 use Rattle.trlab_road.proofs.Ring.{greatest_is}
 
 -- the digits, and the letters after them

@@ -1,14 +1,12 @@
 -- Spreading cars evenly gives a legal road, or has a first fault.
-use Rattle.std.proofs.Common.{◌≡◌, ◌≢◌, ℕ, zero, suc, ◌+◌, ◌*◌, ◌<◌, ◌≤◌, ◌⊎◌, Some, None, [], map, replicate, set, Result, Ok, Err, refl, sym, ap, subst, arith, inl, inr}
-use Rattle.std.specs.List.{range_with_len}
-use Rattle.std.proofs.lemmas.Bool.{cases_lt}
-use Rattle.std.proofs.lemmas.Bool.Decides.{eqb_tells}
-use Rattle.std.proofs.lemmas.List.FromFn.{length-map-range_with_len, get_or-map-range_with_len}
-use Rattle.trlab_road.specs.declared.fault.RoadFault.{RoadFault}
-use Rattle.trlab_road.specs.declared.fault.RoadFault.TheVariants.{Lanes, Length, Limit, Memory, TooManyCars}
-use Rattle.trlab_road.specs.Cells.{Cells, Lane}
-use Rattle.trlab_road.specs.Spreading.{CanSpread, IsEvenlySpaced, IsEvenSpacingFault, IsEvenlySpacedLane, even_lane, even_place}
-use Rattle.trlab_road.specs.Laws.{EvenCarsMean}
+use Rattle.std.proofs.Common.{◌≡◌, ◌≢◌, ℕ, zero, suc, ◌+◌, ◌*◌, ◌<◌, ◌≤◌, ◌⊎◌, Some, None, [], map, replicate}
+use Rattle.std.proofs.Common.{set, Result, Ok, Err, refl, sym, ap, subst, arith, inl, inr}
+use Rattle.std.proofs.lemmas.{Bool.{cases_lt, Decides.eqb_tells}, List.FromFn.length-map-range_with_len}
+use Rattle.std.{proofs.lemmas.List.FromFn.get_or-map-range_with_len, specs.List.range_with_len}
+use Rattle.trlab_road.specs.declared.fault.RoadFault.{RoadFault, TheVariants.{Lanes, Length, Limit, Memory}}
+use Rattle.trlab_road.specs.{declared.fault.RoadFault.TheVariants.TooManyCars, Cells.{Cells, Lane}}
+use Rattle.trlab_road.specs.Spreading.{CanSpread, IsEvenlySpaced, IsEvenSpacingFault, IsEvenlySpacedLane}
+use Rattle.trlab_road.specs.{Spreading.{even_lane, even_place}, Laws.EvenCarsMean}
 use Rattle.trlab_road.proofs.EvenLanes.{EvenUpTo, even_all, even_more, even_none, even_skip}
 use Rattle.trlab_road.proofs.EvenRoads.{even_legal, no_fault, one_even, one_fault}
 use Rattle.trlab_road.proofs.PictureFaults.{cases_memory, lanes_or_not, length_or_not, limit_or_not}

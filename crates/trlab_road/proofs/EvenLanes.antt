@@ -1,12 +1,11 @@
 -- Evenly spread cars.
-use Rattle.std.proofs.Common.{◌≡◌, ◌≢◌, ℕ, ◌+◌, ◌*◌, ◌/◌, ◌<◌, ◌≤◌, Some, None, length, set, replicate, sym, ◌∙◌, ap, subst, inl, inr, arith}
-use Rattle.std.proofs.Math.Nat.{div-add-mod, div-mul-le_self, le-div_iff_mul-le, div-lt_iff_lt-mul, mul-le-mul_left}
-use Rattle.std.proofs.lemmas.Bool.{cases_eq, cases_order}
-use Rattle.std.proofs.lemmas.List.{get_or-set_same, get_or-set_other, length-set, length-replicate}
-use Rattle.std.proofs.lemmas.Option.{some_pair_parts}
-use Rattle.trlab_road.specs.Cells.{Lane, at}
-use Rattle.trlab_road.specs.Spreading.{flat_cell, even_lane, even_place, IsEvenlySpacedLane}
-use Rattle.trlab_road.proofs.MotionByCar.{all_empty}
+use Rattle.std.proofs.Common.{◌≡◌, ◌≢◌, ℕ, ◌+◌, ◌*◌, ◌/◌, ◌<◌, ◌≤◌, Some, None, length, set, replicate, sym}
+use Rattle.std.proofs.Common.{◌∙◌, ap, subst, inl, inr, arith, div-mul-le_self, le-div_iff_mul-le}
+use Rattle.std.proofs.Common.{div-lt_iff_lt-mul, mul-le-mul_left, get_or-set_same, get_or-set_other}
+use Rattle.std.proofs.{Common.length-set, Math.Nat.div-add-mod, lemmas.Bool.{cases_eq, cases_order}}
+use Rattle.std.proofs.lemmas.{List.length-replicate, Option.some_pair_parts}
+use Rattle.trlab_road.specs.{Cells.{Lane, at}, Spreading.{flat_cell, even_lane, even_place}}
+use Rattle.trlab_road.{specs.Spreading.IsEvenlySpacedLane, proofs.MotionByCar.all_empty}
 
 -- a car with a larger number is in a later cell
 pub flat_rises : (lanes cells n i j : ℕ) → n ≤ lanes * cells → 0 < n → i < j

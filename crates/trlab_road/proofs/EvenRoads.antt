@@ -1,18 +1,16 @@
 -- Evenly spread cars give exactly one legal road, and it has all of the cars.
-use Rattle.std.proofs.Common.{◌≡◌, ◌≢◌, ℕ, ◌<◌, ◌≤◌, Some, None, List, [], length, get_or, replicate, map, refl, sym, ◌∙◌, ap, subst, arith}
-use Rattle.std.proofs.Math.Nat.{mod-lt}
-use Rattle.std.proofs.lemmas.List.{length-replicate, ext_get_or}
-use Rattle.std.proofs.lemmas.Option.{some_pair_parts}
-use Rattle.trlab_road.specs.declared.car.Car.{Car}
-use Rattle.trlab_road.specs.declared.fault.RoadFault.{RoadFault}
-use Rattle.trlab_road.specs.declared.fault.RoadFault.TheVariants.{Lanes, Length, Limit, Character, SpeedAboveLimit, Memory, TooManyCars}
-use Rattle.trlab_road.specs.Cells.{HasNumber, Cell, Lane, Cells, at, cell, lane_of, cars, IsAt}
-use Rattle.trlab_road.specs.Legal.{IsLegal, LanesFit, LengthFits, LimitFits}
-use Rattle.trlab_road.specs.Spreading.{even_lane, even_place, IsEvenlySpacedAt, IsEvenlySpacedLane, IsEvenlySpaced, CanSpread, IsEvenSpacingFault}
-use Rattle.trlab_road.specs.Standing.{standing, rank}
-use Rattle.trlab_road.proofs.Ring.{inside, car_in}
-use Rattle.trlab_road.proofs.MotionLaws.{on_lane, fewer_cars}
-use Rattle.trlab_road.proofs.StandingOrder.{get_or-map_in, standing_rank, standing_cell, rank_below_cars, length-standing_from_lane, car_of}
+use Rattle.std.proofs.Common.{◌≡◌, ◌≢◌, ℕ, ◌<◌, ◌≤◌, Some, None, List, [], length, get_or, replicate, map}
+use Rattle.std.proofs.Common.{refl, sym, ◌∙◌, ap, subst, arith, mod-lt, ext_get_or}
+use Rattle.std.proofs.lemmas.{List.length-replicate, Option.some_pair_parts}
+use Rattle.trlab_road.specs.declared.{car.Car.Car, fault.RoadFault.{RoadFault, TheVariants.{Lanes, Length}}}
+use Rattle.trlab_road.specs.declared.fault.RoadFault.TheVariants.{Limit, Character, SpeedAboveLimit, Memory}
+use Rattle.trlab_road.specs.{declared.fault.RoadFault.TheVariants.TooManyCars, Cells.{HasNumber, Cell, Lane}}
+use Rattle.trlab_road.specs.Cells.{Cells, at, cell, lane_of, cars, IsAt, IsLegal, LanesFit, LengthFits}
+use Rattle.trlab_road.specs.{Cells.{LimitFits, standing, rank}, Spreading.{even_lane, even_place}}
+use Rattle.trlab_road.specs.Spreading.{IsEvenlySpacedAt, IsEvenlySpacedLane, IsEvenlySpaced, CanSpread}
+use Rattle.trlab_road.{specs.Spreading.IsEvenSpacingFault, proofs.{Ring.{inside, car_in}, MotionLaws.on_lane}}
+use Rattle.trlab_road.proofs.{MotionLaws.fewer_cars, StandingOrder.{get_or-map_in, standing_rank}}
+use Rattle.trlab_road.proofs.StandingOrder.{standing_cell, rank_below_cars, length-standing_from_lane, car_of}
 use Rattle.trlab_road.proofs.Numbers.{car_cell, all_taken, full, no_one, no_more_cars}
 
 -- if each number below n has a car, there are at least n cars

@@ -1,16 +1,11 @@
 -- The speed of the next car ahead, on any lane and on lanes that sorted lists of cars make.
-use Rattle.std.proofs.Common.{◌≡◌, ℕ, ◌+◌, ◌-◌, ◌%◌, ◌<◌, ◌≤◌, Some, None, List, length, get_or, refl, sym, ◌∙◌, ap, inl, inr, arith}
-use Rattle.std.specs.Prelude.{is_some}
-use Rattle.std.proofs.Math.Nat.{mod-eq_of_lt, mod-eq-sub-mod}
-use Rattle.trlab_road.specs.LaneCars.{LaneCar}
-use Rattle.trlab_road.specs.Cells.{Cell, Lane, Cells, at, cell, lane_of}
-use Rattle.trlab_road.specs.Gaps.{ahead, gap, headspeed, next_place, speed_in}
-use Rattle.trlab_road.specs.Laws.{HeadspeedIsSpeedOfNextCar, HeadspeedOfLoneCar}
-use Rattle.trlab_road.specs.Legal.{IsLegal}
-use Rattle.trlab_road.specs.Stored.{cells_of, no_car, place_of, IsSortedFrom}
-use Rattle.trlab_road.proofs.ListGaps.{clear_from, gap_next, gap_round}
-use Rattle.trlab_road.proofs.ListMotion.{parted_kth}
-use Rattle.trlab_road.proofs.Lists.{at_kth, length_cells, rises_high, rises_order}
+use Rattle.std.proofs.Common.{◌≡◌, ℕ, ◌+◌, ◌-◌, ◌%◌, ◌<◌, ◌≤◌, Some, None, List, length, get_or, refl, sym}
+use Rattle.std.proofs.{Common.{◌∙◌, ap, inl, inr, arith, is_some, mod-eq_of_lt}, Math.Nat.mod-eq-sub-mod}
+use Rattle.trlab_road.specs.{Stored.{LaneCar, cells_of, no_car, place_of, IsSortedFrom}, Cells.{Cell, Lane}}
+use Rattle.trlab_road.specs.{Cells.{Cells, at, cell, lane_of, IsLegal}, Gaps.{ahead, gap, headspeed}}
+use Rattle.trlab_road.specs.{Gaps.{next_place, speed_in}, Laws.HeadspeedIsSpeedOfNextCar}
+use Rattle.trlab_road.{specs.Laws.HeadspeedOfLoneCar, proofs.ListGaps.{clear_from, gap_next, gap_round}}
+use Rattle.trlab_road.proofs.{ListMotion.parted_kth, Lists.{at_kth, length_cells, rises_high, rises_order}}
 use Rattle.trlab_road.proofs.Ring.{car_in, ends_before, inside, ring_cases}
 
 -- the speed of the car after the gap

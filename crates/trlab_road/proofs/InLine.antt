@@ -1,17 +1,12 @@
 -- Lines of cars, as parts of the list of their lane.
-use Rattle.std.proofs.Common.{◌≡◌, ◌∙◌, ℕ, ◌+◌, ◌-◌, ◌<◌, List, [], Vec, Global, length, get_or, drop, sym, ap, subst, arith}
-use Rattle.std.proofs.lemmas.List.{get_or-drop, length-drop}
-use Rattle.trlab_road.specs.LaneCars.{LaneCar}
-use Rattle.trlab_road.specs.Cells.{Cells, Lane}
-use Rattle.trlab_road.specs.Gaps.{gap, headspeed}
-use Rattle.trlab_road.specs.InLine.{IsFollowed, IsLineFrom}
-use Rattle.trlab_road.specs.Standing.{IsNthCar}
-use Rattle.trlab_road.specs.Stored.{AreSorted, IsFoundAt, car_on, lanes_from, list_at, no_car, place_of}
-use Rattle.trlab_road.proofs.Headspeeds.{next_headspeed}
-use Rattle.trlab_road.proofs.ListGaps.{gap_next}
+use Rattle.std.proofs.Common.{◌≡◌, ◌∙◌, ℕ, ◌+◌, ◌-◌, ◌<◌, List, [], Vec, Global, length, get_or, drop, sym}
+use Rattle.std.proofs.Common.{ap, subst, arith, get_or-drop, length-drop}
+use Rattle.trlab_road.specs.Stored.{LaneCar, IsFollowed, IsLineFrom, AreSorted, IsFoundAt, car_on, lanes_from}
+use Rattle.trlab_road.specs.{Stored.{list_at, no_car, place_of}, Cells.{Cells, Lane, IsNthCar}}
+use Rattle.trlab_road.{specs.Gaps.{gap, headspeed}, proofs.{Headspeeds.next_headspeed, ListGaps.gap_next}}
 use Rattle.trlab_road.proofs.ListMotion.{parted_kth}
-use Rattle.trlab_road.proofs.ListRoads.{counted_before, found_by, found_cell, found_in_order, found_standing, lane_from, list_counted}
-use Rattle.trlab_road.proofs.Lists.{rises_high, rises_order}
+use Rattle.trlab_road.proofs.ListRoads.{counted_before, found_by, found_cell, found_in_order, found_standing}
+use Rattle.trlab_road.proofs.{ListRoads.{lane_from, list_counted}, Lists.{rises_high, rises_order}}
 
 module _ (n : ℕ) (lists : List (Vec LaneCar Global)) (limit k l i : ℕ) (s : AreSorted n lists) (f : IsFoundAt lists k l i) where
   abbrev cars : List LaneCar

@@ -1,13 +1,9 @@
 -- The lane change by answers in standing order.
 use Rattle.std.proofs.Common.{◌≡◌, ℕ, Bool, false, List, get_or, sym, ◌∙◌, ap}
-use Rattle.trlab_road.specs.Cells.{Cells, cell, lane_of}
-use Rattle.trlab_road.specs.LaneChange.{other_lane, crosses_at, AreSafeCrossings, ChangesLanes, CrossesToEmpty, IsCleanLaneChange}
-use Rattle.trlab_road.specs.Gaps.{side}
-use Rattle.trlab_road.specs.Legal.{IsLegal}
-use Rattle.trlab_road.specs.Motion.{in_order}
-use Rattle.trlab_road.specs.Standing.{rank}
-use Rattle.trlab_road.proofs.Ring.{none_is}
-use Rattle.trlab_road.proofs.LaneChangeLaws.{crosses_by, lane_change_clean, lane_change_legal}
+use Rattle.trlab_road.specs.Cells.{Cells, cell, lane_of, IsLegal, rank}
+use Rattle.trlab_road.specs.LaneChange.{other_lane, crosses_at, AreSafeCrossings, ChangesLanes}
+use Rattle.trlab_road.specs.{LaneChange.{CrossesToEmpty, IsCleanLaneChange}, Gaps.side, Motion.in_order}
+use Rattle.trlab_road.proofs.{Ring.none_is, LaneChangeLaws.{crosses_by, lane_change_clean, lane_change_legal}}
 use Rattle.trlab_road.proofs.StandingOrder.{in_order_at, rank_below_cars}
 
 -- if the answers in standing order are allowed, cars change lanes only to empty cells

@@ -1,17 +1,15 @@
 -- Properties of the lane change, for any code that writes the new road.
-use Rattle.std.proofs.Common.{◌≡◌, ℕ, zero, suc, ◌+◌, ◌<◌, ◌≤◌, Bool, true, false, cond, Some, None, List, [], ◌∷◌, length, get_or, take, refl, sym, ◌∙◌, ap, subst, inl, inr, arith}
-use Rattle.std.specs.Prelude.{is_some, is_none, sum_by}
-use Rattle.std.specs.Option.{option_or}
-use Rattle.std.proofs.lemmas.Bool.{cases_Bool, cond-true, cond-false, true≢false}
-use Rattle.std.proofs.lemmas.List.{ext_get_or, take_all}
+use Rattle.std.proofs.Common.{◌≡◌, ℕ, zero, suc, ◌+◌, ◌<◌, ◌≤◌, Bool, true, false, cond, Some, None, List, []}
+use Rattle.std.proofs.Common.{◌∷◌, length, get_or, take, refl, sym, ◌∙◌, ap, subst, inl, inr, arith, is_some}
+use Rattle.std.{proofs.Common.{is_none, sum_by, true≢false, ext_get_or, take_all}, specs.Option.option_or}
+use Rattle.std.proofs.lemmas.{Bool.{cases_Bool, cond-true, cond-false}, List.Sums.sum_by-cons}
 use Rattle.std.proofs.lemmas.List.FromFn.{length-map-range_with_len, get_or-map-range_with_len}
-use Rattle.std.proofs.lemmas.List.Sums.{sum_by-cons}
 use Rattle.trlab_road.specs.Cells.{Cell, Lane, Cells, at, cell, lane_of, cars, lane_car_count, AgreeAtCars}
-use Rattle.trlab_road.specs.LaneChange.{other_lane, cell_after_change, ChangesLanes, lane_after_change, road_after_change, CrossesToEmpty, StaysOrCrosses, IsCleanLaneChange}
-use Rattle.trlab_road.specs.Legal.{IsLegal, LanesFit, LengthFits, LimitFits}
+use Rattle.trlab_road.specs.Cells.{IsLegal, LanesFit, LengthFits, LimitFits}
+use Rattle.trlab_road.specs.LaneChange.{other_lane, cell_after_change, ChangesLanes, lane_after_change}
+use Rattle.trlab_road.specs.LaneChange.{road_after_change, CrossesToEmpty, StaysOrCrosses, IsCleanLaneChange}
 use Rattle.trlab_road.specs.LaneChange.StaysOrCrosses.{on_own_lane, on_other_lane}
-use Rattle.trlab_road.proofs.Ring.{inside, car_in}
-use Rattle.trlab_road.proofs.MotionLaws.{on_lane}
+use Rattle.trlab_road.proofs.{Ring.{inside, car_in}, MotionLaws.on_lane}
 
 -- `road_after_change` is the lane change
 pub road_after_change_is : (crosses : ℕ → ℕ → Bool) (road : Cells) → ChangesLanes crosses road (road_after_change crosses road)

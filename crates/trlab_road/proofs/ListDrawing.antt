@@ -1,12 +1,10 @@
 -- Lists from pictures.
-use Rattle.std.proofs.Common.{◌≡◌, ◌≢◌, ℕ, ◌+◌, ◌<◌, ◌≤◌, Some, None, List, [], ◌∷◌, ◌++◌, length, get_or, drop, eqb, refl, sym, subst, ◌∙◌, ap, arith, add-one, append_assoc, drop-cons}
-use Rattle.std.proofs.lemmas.Bool.{eq-eqb, ne_eqb, cond-true, cond-false}
-use Rattle.std.proofs.lemmas.List.{length_push, append-nil, at_drop_all}
-use Rattle.trlab_road.specs.LaneCars.{LaneCar}
-use Rattle.trlab_road.specs.Cells.{Lane}
-use Rattle.trlab_road.specs.Pictures.{dot}
-use Rattle.trlab_road.specs.Stored.{cells_of, IsSortedFrom, speed_of_character, lane_of_picture}
-use Rattle.trlab_road.proofs.Lists.{rises_high}
+use Rattle.std.proofs.Common.{◌≡◌, ◌≢◌, ℕ, ◌+◌, ◌<◌, ◌≤◌, Some, None, List, [], ◌∷◌, ◌++◌, length, get_or}
+use Rattle.std.proofs.Common.{drop, eqb, refl, sym, subst, ◌∙◌, ap, arith, add-one, append_assoc, drop-cons}
+use Rattle.std.proofs.{Common.{eq-eqb, ne_eqb, append-nil}, lemmas.Bool.{cond-true, cond-false}}
+use Rattle.std.proofs.lemmas.List.{length_push, at_drop_all}
+use Rattle.trlab_road.specs.Stored.{LaneCar, cells_of, IsSortedFrom, speed_of_character, lane_of_picture}
+use Rattle.trlab_road.{specs.{Cells.Lane, Pictures.dot}, proofs.Lists.rises_high}
 use Rattle.trlab_road.proofs.ListPush.{cells_none, cells_some, rises_more, rises_push}
 
 -- the cars of the first places are drawn

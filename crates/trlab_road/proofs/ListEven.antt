@@ -1,10 +1,9 @@
 -- Lists of evenly spread cars.
-use Rattle.std.proofs.Common.{◌≡◌, ◌≢◌, ℕ, zero, suc, ◌+◌, ◌*◌, ◌/◌, ◌<◌, ◌≤◌, Some, List, [], ◌∷◌, ◌++◌, Vec, Global, length, set, sym, ◌∙◌, ap, subst, inl, inr, arith}
-use Rattle.std.proofs.Math.Nat.{div-add-mod, mul-le-mul_left}
-use Rattle.std.proofs.lemmas.Bool.{cases_lt}
-use Rattle.trlab_road.specs.LaneCars.{LaneCar}
+use Rattle.std.proofs.Common.{◌≡◌, ◌≢◌, ℕ, zero, suc, ◌+◌, ◌*◌, ◌/◌, ◌<◌, ◌≤◌, Some, List, [], ◌∷◌, ◌++◌, Vec}
+use Rattle.std.proofs.Common.{Global, length, set, sym, ◌∙◌, ap, subst, inl, inr, arith, mul-le-mul_left}
+use Rattle.std.proofs.{Math.Nat.div-add-mod, lemmas.Bool.cases_lt}
+use Rattle.trlab_road.specs.Stored.{LaneCar, cells_of, IsSortedFrom, place_of, list_at}
 use Rattle.trlab_road.specs.Spreading.{flat_cell, even_lane, even_place}
-use Rattle.trlab_road.specs.Stored.{cells_of, IsSortedFrom, place_of, list_at}
 use Rattle.trlab_road.proofs.ListPush.{below_push, cells_empty, cells_push, rises_push}
 use Rattle.trlab_road.proofs.EvenLanes.{EvenUpTo, even_none, even_skip, even_more, even_inside, flat_rises}
 

@@ -1,12 +1,9 @@
 -- Gaps on lanes that sorted lists of cars make.
-use Rattle.std.proofs.Common.{◌≡◌, ◌≢◌, ℕ, zero, suc, ◌+◌, ◌-◌, ◌%◌, ◌<◌, ◌≤◌, true, None, List, length, refl, sym, ◌∙◌, ap, inl, inr, arith}
-use Rattle.std.specs.Prelude.{is_some, is_none}
-use Rattle.std.proofs.Math.Nat.{mod-eq_of_lt, mod-eq-sub-mod}
-use Rattle.std.proofs.lemmas.Bool.{cases_lt, cases_eq, and_from}
-use Rattle.trlab_road.specs.LaneCars.{LaneCar}
-use Rattle.trlab_road.specs.Cells.{Lane, at}
-use Rattle.trlab_road.specs.Gaps.{ahead, behind, is_clear, clear_cells, gap}
-use Rattle.trlab_road.specs.Stored.{cells_of, IsSortedFrom, place_of, IsFirstPast}
+use Rattle.std.proofs.Common.{◌≡◌, ◌≢◌, ℕ, zero, suc, ◌+◌, ◌-◌, ◌%◌, ◌<◌, ◌≤◌, true, None, List, length, refl}
+use Rattle.std.proofs.Common.{sym, ◌∙◌, ap, inl, inr, arith, is_some, is_none, mod-eq_of_lt}
+use Rattle.std.proofs.{Math.Nat.mod-eq-sub-mod, lemmas.Bool.{cases_lt, cases_eq, and_from}}
+use Rattle.trlab_road.specs.Stored.{LaneCar, cells_of, IsSortedFrom, place_of, IsFirstPast}
+use Rattle.trlab_road.specs.{Cells.{Lane, at}, Gaps.{ahead, behind, is_clear, clear_cells, gap}}
 use Rattle.trlab_road.proofs.Ring.{ring_cases, reach_earlier, ends_before, goes_round}
 use Rattle.trlab_road.proofs.Lists.{length_cells, cells_at, at_kth, empty_at, rises_high, rises_weakly}
 

@@ -1,14 +1,13 @@
 -- The lane change of two sorted lists of cars.
-use Rattle.std.proofs.Common.{◌≡◌, ◌≢◌, ℕ, zero, suc, ◌+◌, ◌<◌, ◌≤◌, Bool, true, false, cond, eqb, Some, None, List, [], ◌∷◌, ◌++◌, length, get_or, take, drop, min, refl, sym, ◌∙◌, ap, subst, inl, inr, arith}
-use Rattle.std.proofs.lemmas.Bool.{cases_lt, cases_eq}
-use Rattle.std.proofs.lemmas.List.{length-take-le, drop_more, append-nil, append_assoc}
-use Rattle.std.proofs.lemmas.List.FromFn.{take-map-range_with_len}
+use Rattle.std.proofs.Common.{◌≡◌, ◌≢◌, ℕ, zero, suc, ◌+◌, ◌<◌, ◌≤◌, Bool, true, false, cond, eqb, Some, None}
+use Rattle.std.proofs.Common.{List, [], ◌∷◌, ◌++◌, length, get_or, take, drop, min, refl, sym, ◌∙◌, ap, subst}
+use Rattle.std.proofs.Common.{inl, inr, arith, length-take-le, append-nil, append_assoc}
+use Rattle.std.proofs.lemmas.{Bool.{cases_lt, cases_eq}, List.{drop_more, FromFn.take-map-range_with_len}}
 use Rattle.std.specs.Int.{from_bool}
-use Rattle.trlab_road.specs.LaneCars.{LaneCar}
-use Rattle.trlab_road.specs.Cells.{Cell, at, lane_car_count}
-use Rattle.trlab_road.specs.LaneChange.{cell_after_change, LaneCrosses}
-use Rattle.trlab_road.specs.Stored.{cell_at, cells_of, IsSortedFrom, no_car, place_of, IsFirstFrom, lane_crosses_at}
-use Rattle.trlab_road.proofs.Lists.{length_cells, cells_at, cell_kth, empty_at, cars_of_list, rises_high, rises_order, rises_weakly}
+use Rattle.trlab_road.specs.Stored.{LaneCar, cell_at, cells_of, IsSortedFrom, no_car, place_of, IsFirstFrom}
+use Rattle.trlab_road.{specs.Stored.lane_crosses_at, proofs.Lists.{rises_order, rises_weakly}}
+use Rattle.trlab_road.specs.{Cells.{Cell, at, lane_car_count}, LaneChange.{cell_after_change, LaneCrosses}}
+use Rattle.trlab_road.proofs.Lists.{length_cells, cells_at, cell_kth, empty_at, cars_of_list, rises_high}
 use Rattle.trlab_road.proofs.ListPush.{below_push, cell_push, cell_pushed, map_range_below, rises_push}
 
 -- the first car from a place on: at the place, past it, and later

@@ -1,12 +1,12 @@
 -- The cars of a sorted list that change lanes.
-use Rattle.std.proofs.Common.{◌≡◌, ℕ, ◌+◌, ◌<◌, ◌≤◌, Bool, true, false, cond, Some, None, List, [], ◌∷◌, ◌++◌, length, get_or, refl, sym, ◌∙◌, ap, subst, inl, inr, arith}
+use Rattle.std.proofs.Common.{◌≡◌, ℕ, ◌+◌, ◌<◌, ◌≤◌, Bool, true, false, cond, Some, None, List, [], ◌∷◌, ◌++◌}
+use Rattle.std.proofs.Common.{length, get_or, refl, sym, ◌∙◌, ap, subst, inl, inr, arith}
 use Rattle.std.proofs.lemmas.Bool.{cases_eq}
-use Rattle.trlab_road.specs.LaneCars.{LaneCar}
-use Rattle.trlab_road.specs.Cells.{Cell, at}
+use Rattle.trlab_road.specs.Stored.{LaneCar, cell_at, cells_of, IsSortedFrom, no_car, place_of, IsFirstFrom}
+use Rattle.trlab_road.specs.{Stored.{HasLeavingCars, lane_crosses_at}, Cells.{Cell, at}}
 use Rattle.trlab_road.specs.LaneChange.{cell_after_change, LaneCrosses}
-use Rattle.trlab_road.specs.Stored.{cell_at, cells_of, IsSortedFrom, no_car, place_of, IsFirstFrom, HasLeavingCars, lane_crosses_at}
-use Rattle.trlab_road.proofs.Lists.{length_cells, cells_at, cell_kth, empty_at, kth_of_cell, list_car, rises_high, rises_order, rises_weakly}
-use Rattle.trlab_road.proofs.ListLaneChange.{crosses_here}
+use Rattle.trlab_road.proofs.Lists.{length_cells, cells_at, cell_kth, empty_at, kth_of_cell, list_car}
+use Rattle.trlab_road.proofs.{Lists.{rises_high, rises_order, rises_weakly}, ListLaneChange.crosses_here}
 use Rattle.trlab_road.proofs.ListPush.{below_push, cell_push, cell_pushed, rises_push}
 
 -- the cars that change lanes, among the first k cars, form a list

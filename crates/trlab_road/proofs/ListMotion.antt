@@ -1,20 +1,14 @@
 -- The motion of a sorted list of cars.
-use Rattle.std.proofs.Common.{◌≡◌, ℕ, zero, suc, ◌+◌, ◌-◌, ◌%◌, ◌<◌, ◌≤◌, Some, List, [], ◌∷◌, ◌++◌, length, get_or, take, refl, sym, ◌∙◌, ap, subst, inl, inr, arith, below_more}
-use Rattle.std.proofs.Math.Nat.{mod-eq_of_lt, mod-eq-sub-mod}
-use Rattle.std.proofs.lemmas.Bool.{cases_eq}
+use Rattle.std.proofs.Common.{◌≡◌, ℕ, zero, suc, ◌+◌, ◌-◌, ◌%◌, ◌<◌, ◌≤◌, Some, List, [], ◌∷◌, ◌++◌, length}
+use Rattle.std.proofs.Common.{get_or, take, refl, sym, ◌∙◌, ap, subst, inl, inr, arith, below_more}
+use Rattle.std.proofs.{Common.mod-eq_of_lt, Math.Nat.mod-eq-sub-mod, lemmas.Bool.cases_eq}
 use Rattle.std.proofs.lemmas.List.{length-map, get_or-map, get_or_append_left, get_or_push, length_push}
-use Rattle.trlab_road.specs.declared.car.Car.{Car}
-use Rattle.trlab_road.specs.LaneCars.{LaneCar}
-use Rattle.trlab_road.specs.Cells.{at, lane_car_count}
-use Rattle.trlab_road.specs.Gaps.{ahead}
-use Rattle.trlab_road.specs.Standing.{standing_from}
-use Rattle.trlab_road.specs.Motion.{LaneFits, LaneMoves}
-use Rattle.trlab_road.specs.Stored.{cells_of, IsSortedFrom, no_car, place_of, IsFirstPast, car_on, lane_answer}
-use Rattle.trlab_road.proofs.Ring.{inside}
-use Rattle.trlab_road.proofs.StandingOrder.{rank_is}
-use Rattle.trlab_road.proofs.Lists.{length_cells, cells_at, at_kth, list_car, kth_of_cell, standing_list, rises_high, rises_order, rises_weakly}
-use Rattle.trlab_road.proofs.ListPush.{rises_push, rises_above}
-use Rattle.trlab_road.proofs.ListGaps.{gap_next, gap_round}
+use Rattle.trlab_road.specs.{declared.car.Car.Car, Stored.lane_answer, Gaps.ahead}
+use Rattle.trlab_road.specs.Stored.{LaneCar, cells_of, IsSortedFrom, no_car, place_of, IsFirstPast, car_on}
+use Rattle.trlab_road.specs.{Cells.{at, lane_car_count, standing_from}, Motion.{LaneFits, LaneMoves}}
+use Rattle.trlab_road.proofs.{Ring.inside, StandingOrder.rank_is, ListPush.{rises_push, rises_above}}
+use Rattle.trlab_road.proofs.Lists.{length_cells, cells_at, at_kth, list_car, kth_of_cell, standing_list}
+use Rattle.trlab_road.proofs.{Lists.{rises_high, rises_order, rises_weakly}, ListGaps.{gap_next, gap_round}}
 
 -- before the k-th car there are k cars
 pub rank_kth : (n : ℕ) (cars : List LaneCar) (k : ℕ) → IsSortedFrom 0 n cars → k < length cars → lane_car_count (take (place_of cars k) (cells_of n cars)) ≡ k

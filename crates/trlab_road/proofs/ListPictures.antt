@@ -1,12 +1,10 @@
 -- Pictures of a sorted list: filled with dots, then set car by car.
-use Rattle.std.proofs.Common.{Some, ◌≡◌, ℕ, zero, suc, ◌+◌, ◌<◌, List, [], ◌∷◌, length, get_or, map, set, take, replicate, refl, sym, ◌∙◌, ap, subst, arith}
-use Rattle.std.specs.List.{range_with_len}
-use Rattle.std.proofs.lemmas.List.{map-set, get_or-take, take_more, length-take-le}
-use Rattle.trlab_road.specs.LaneCars.{LaneCar}
+use Rattle.std.proofs.Common.{Some, ◌≡◌, ℕ, zero, suc, ◌+◌, ◌<◌, List, [], ◌∷◌, length, get_or, map, set}
+use Rattle.std.proofs.Common.{take, replicate, refl, sym, ◌∙◌, ap, subst, arith, get_or-take, length-take-le}
+use Rattle.std.{proofs.lemmas.List.{map-set, take_more}, specs.List.range_with_len}
+use Rattle.trlab_road.specs.Stored.{LaneCar, cell_at, cells_of, IsSortedFrom, no_car, place_of}
 use Rattle.trlab_road.specs.Pictures.{character, dot, speed_character, picture}
-use Rattle.trlab_road.specs.Stored.{cell_at, cells_of, IsSortedFrom, no_car, place_of}
-use Rattle.trlab_road.proofs.Lists.{rises_high, rises_order}
-use Rattle.trlab_road.proofs.ListPush.{cells_push}
+use Rattle.trlab_road.proofs.{Lists.{rises_high, rises_order}, ListPush.cells_push}
 
 pub empty_picture : (a n : ℕ) → replicate n dot ≡ map character (map (cell_at []) (range_with_len a n))
 empty_picture a zero = refl

@@ -1,10 +1,8 @@
 -- Sorted lists of cars with one more car at their end, and the lanes that they make.
-use Rattle.std.proofs.Common.{◌≡◌, ◌≢◌, ℕ, zero, suc, ◌+◌, ◌<◌, ◌≤◌, Some, None, List, [], ◌∷◌, ◌++◌, length, map, set, replicate, cond, eqb, refl, sym, ◌∙◌, ap, subst, arith}
-use Rattle.std.specs.List.{range_with_len}
-use Rattle.std.proofs.lemmas.List.FromFn.{map-range_with_len_more}
-use Rattle.trlab_road.specs.LaneCars.{LaneCar}
-use Rattle.trlab_road.specs.Cells.{Cell, Lane}
-use Rattle.trlab_road.specs.Stored.{cell_at, cells_of, IsSortedFrom, place_of}
+use Rattle.std.proofs.Common.{◌≡◌, ◌≢◌, ℕ, zero, suc, ◌+◌, ◌<◌, ◌≤◌, Some, None, List, [], ◌∷◌, ◌++◌, length}
+use Rattle.std.proofs.Common.{map, set, replicate, cond, eqb, refl, sym, ◌∙◌, ap, subst, arith}
+use Rattle.std.{proofs.lemmas.List.FromFn.map-range_with_len_more, specs.List.range_with_len}
+use Rattle.trlab_road.specs.{Stored.{LaneCar, cell_at, cells_of, IsSortedFrom, place_of}, Cells.{Cell, Lane}}
 use Rattle.trlab_road.proofs.Lists.{cell_here, cell_other, empty_at, map_range_same, rises_high}
 
 -- the cell of a place

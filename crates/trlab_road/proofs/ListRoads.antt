@@ -1,23 +1,19 @@
 -- Roads that are kept as sorted lists of cars.
-use Rattle.std.proofs.Common.{below_more, Bool, ◌≡◌, ℕ, zero, suc, ◌+◌, ◌-◌, ◌<◌, ◌≤◌, Some, List, [], ◌∷◌, ◌++◌, Vec, Global, length, get_or, set, take, drop, map, refl, sym, ◌∙◌, ap, subst, arith}
-use Rattle.std.specs.Prelude.{sum_by, slice_get}
-use Rattle.std.proofs.lemmas.List.{length-map, take_more, take_at}
-use Rattle.std.proofs.lemmas.List.Sums.{sum_by-cons, sum_by_push}
-use Rattle.std.proofs.lemmas.Option.{slice_get-get_or}
+use Rattle.std.proofs.Common.{below_more, Bool, ◌≡◌, ℕ, zero, suc, ◌+◌, ◌-◌, ◌<◌, ◌≤◌, Some, List, [], ◌∷◌}
+use Rattle.std.proofs.Common.{◌++◌, Vec, Global, length, get_or, set, take, drop, map, refl, sym, ◌∙◌, ap}
+use Rattle.std.proofs.{Common.{subst, arith, sum_by, slice_get, take_at}, lemmas.List.{length-map, take_more}}
+use Rattle.std.proofs.lemmas.{List.Sums.{sum_by-cons, sum_by_push}, Option.slice_get-get_or}
 use Rattle.trlab_bounds.specs.declared.roads.TheConstants.{MAX_LENGTH, MAX_LIMIT, MAX_LANES}
-use Rattle.trlab_road.specs.declared.car.Car.{Car}
-use Rattle.trlab_road.specs.LaneCars.{LaneCar}
-use Rattle.trlab_road.specs.Cells.{Lane, Cells, at, cell, cars, lane_car_count}
-use Rattle.trlab_road.specs.Standing.{standing, standing_from, rank}
-use Rattle.trlab_road.specs.Motion.{in_order, AreSafeSpeeds, LaneFits, LaneMoves, Moves}
+use Rattle.trlab_road.specs.{declared.car.Car.Car, LaneChange.{LaneCrosses, ChangesLanes, crosses_at}}
+use Rattle.trlab_road.specs.Stored.{LaneCar, lists_of, cells_of, IsSortedFrom, no_car, place_of, car_on}
+use Rattle.trlab_road.specs.Stored.{lanes_from, list_at, AreSorted, IsListedRoad, IsFoundAt, SpeedsFitGaps}
+use Rattle.trlab_road.{specs.Stored.{SpeedsMove, lane_answer, lane_crosses_at}, proofs.ListMotion.rank_kth}
+use Rattle.trlab_road.specs.Cells.{Lane, Cells, at, cell, cars, lane_car_count, standing, standing_from, rank}
+use Rattle.trlab_road.{specs.Motion.{in_order, AreSafeSpeeds, LaneFits, LaneMoves, Moves}, proofs.Ring.car_in}
 use Rattle.trlab_road.proofs.MotionInOrder.{answer_at, allowed_fits}
 use Rattle.trlab_road.proofs.RoadCars.{in_order_kth, cars_more, cars_within}
-use Rattle.trlab_road.specs.LaneChange.{LaneCrosses, ChangesLanes, crosses_at}
-use Rattle.trlab_road.specs.Stored.{lists_of, cells_of, IsSortedFrom, no_car, place_of, car_on, lanes_from, list_at, AreSorted, IsListedRoad, IsFoundAt, ListsFit, ListsMove, lane_answer, lane_crosses_at}
 use Rattle.trlab_road.proofs.StandingOrder.{car_of, standing_rank, rank_below_cars, length-standing_from_lane}
 use Rattle.trlab_road.proofs.Lists.{length_cells, at_kth, cars_of_list, rises_high, standing_list}
-use Rattle.trlab_road.proofs.ListMotion.{rank_kth}
-use Rattle.trlab_road.proofs.Ring.{car_in}
 
 -- the lane of a list
 pub lane_from : (n : ℕ) (lists : List (Vec LaneCar Global)) (l : ℕ) → l < length lists → get_or (lanes_from n lists) l [] ≡ cells_of n (list_at lists l)
@@ -227,13 +223,13 @@ crosses_two n limit (v ∷ w ∷ []) a b answers two first second = record { sam
 crosses_two n limit (v ∷ w ∷ u ∷ lists) a b answers two first second = absurd (omega arith)
 
 -- from the lists to the road: the motion
-pub lists_fit : (n limit : ℕ) (lists : List (Vec LaneCar Global)) (answers : List ℕ) → AreSafeSpeeds (record { limit = limit; lanes = lanes_from n lists }) answers → ListsFit n lists answers
+pub lists_fit : (n limit : ℕ) (lists : List (Vec LaneCar Global)) (answers : List ℕ) → AreSafeSpeeds (record { limit = limit; lanes = lanes_from n lists }) answers → SpeedsFitGaps n lists answers
 lists_fit n limit lists answers allowed = record {
   each_lane = λ l h. subst (λ (lane : Lane). LaneFits (lane_answer lane answers (sum_by lane_car_count (take l (lanes_from n lists)))) lane) (lane_from n lists l h)
       ((allowed_fits (record { limit = limit; lanes = lanes_from n lists }) answers allowed).each_lane l (on_lanes n lists l h));
 }
 
-pub lists_move : (n limit : ℕ) (lists next : List (Vec LaneCar Global)) (answers : List ℕ) → ListsMove n lists next answers
+pub lists_move : (n limit : ℕ) (lists next : List (Vec LaneCar Global)) (answers : List ℕ) → SpeedsMove n lists next answers
     → Moves (answer_at (record { limit = limit; lanes = lanes_from n lists }) answers) (record { limit = limit; lanes = lanes_from n lists }) (record { limit = limit; lanes = lanes_from n next })
 lists_move n limit lists next answers m = record {
   same_limit = refl;

@@ -1,13 +1,10 @@
 -- The side cell and the side gaps, by binary search.
-use Rattle.std.proofs.Common.{◌≡◌, ◌≢◌, ℕ, ◌<◌, ◌≤◌, ◌-◌, Bool, true, false, cond, nat_eq, not, List, length, ◌∙◌, ap, sym, inl, inr, arith}
-use Rattle.std.specs.Prelude.{is_none}
-use Rattle.std.proofs.lemmas.Bool.{cases_eq, cond-true, cond-false}
-use Rattle.std.proofs.lemmas.Bool.Decides.{nat_tests}
-use Rattle.trlab_road.specs.LaneCars.{LaneCar}
+use Rattle.std.proofs.Common.{◌≡◌, ◌≢◌, ℕ, ◌<◌, ◌≤◌, ◌-◌, Bool, true, false, cond, nat_eq, not, List, length}
+use Rattle.std.proofs.Common.{◌∙◌, ap, sym, inl, inr, arith, is_none}
+use Rattle.std.proofs.lemmas.Bool.{cases_eq, cond-true, cond-false, Decides.nat_tests}
+use Rattle.trlab_road.specs.Stored.{LaneCar, cells_of, IsSortedFrom, place_of, IsFirstPast, IsFirstFrom}
 use Rattle.trlab_road.specs.Gaps.{ahead, behind, clear_cells, gap, side, sidegap, sideback}
-use Rattle.trlab_road.specs.Stored.{cells_of, IsSortedFrom, place_of, IsFirstPast, IsFirstFrom}
-use Rattle.trlab_road.proofs.ListGaps.{back_next, gap_next}
-use Rattle.trlab_road.proofs.Lists.{length_cells, cells_at, rises_order}
+use Rattle.trlab_road.proofs.{ListGaps.{back_next, gap_next}, Lists.{length_cells, cells_at, rises_order}}
 use Rattle.trlab_road.proofs.ListLaneChange.{sought_here, sought_none}
 
 module _ (n : ℕ) (cars : List LaneCar) (x k : ℕ) (r : IsSortedFrom 0 n cars) (inside : x < n) (s : IsFirstFrom cars x k) where

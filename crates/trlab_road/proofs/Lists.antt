@@ -1,16 +1,11 @@
 -- Lanes that sorted lists of cars make.
-use Rattle.std.proofs.Common.{◌≡◌, ◌≢◌, ℕ, zero, suc, ◌+◌, ◌<◌, ◌≤◌, eqb, Option, Some, None, List, [], ◌∷◌, length, get_or, map, refl, sym, ◌∙◌, ap, subst, inl, inr, arith}
-use Rattle.std.specs.List.{range_with_len}
-use Rattle.std.proofs.Math.Numerals.{add-one}
-use Rattle.std.proofs.lemmas.Bool.{cases_eq, eq-eqb, ne_eqb, cond-true, cond-false}
-use Rattle.std.proofs.lemmas.List.{length-map}
-use Rattle.std.proofs.lemmas.Option.{some_pair_parts}
-use Rattle.std.proofs.lemmas.List.FromFn.{length-map-range_with_len, get_or-map-range_with_len}
-use Rattle.trlab_road.specs.declared.car.Car.{Car}
-use Rattle.trlab_road.specs.LaneCars.{LaneCar}
-use Rattle.trlab_road.specs.Cells.{Cell, Lane, at, lane_car_count}
-use Rattle.trlab_road.specs.Standing.{standing_from}
-use Rattle.trlab_road.specs.Stored.{cell_at, cells_of, IsSortedFrom, no_car, place_of, car_on}
+use Rattle.std.proofs.Common.{◌≡◌, ◌≢◌, ℕ, zero, suc, ◌+◌, ◌<◌, ◌≤◌, eqb, Option, Some, None, List, [], ◌∷◌}
+use Rattle.std.proofs.Common.{length, get_or, map, refl, sym, ◌∙◌, ap, subst, inl, inr, arith, add-one}
+use Rattle.std.proofs.{Common.{eq-eqb, ne_eqb}, lemmas.Bool.{cases_eq, cond-true, cond-false}}
+use Rattle.std.proofs.lemmas.List.{length-map, FromFn.{length-map-range_with_len, get_or-map-range_with_len}}
+use Rattle.std.{proofs.lemmas.Option.some_pair_parts, specs.List.range_with_len}
+use Rattle.trlab_road.specs.{declared.car.Car.Car, Stored.{LaneCar, cell_at, cells_of, IsSortedFrom, no_car}}
+use Rattle.trlab_road.specs.{Stored.{place_of, car_on}, Cells.{Cell, Lane, at, lane_car_count, standing_from}}
 use Rattle.trlab_road.proofs.StandingOrder.{length-standing_from}
 
 -- the lane has n cells, and in each cell the car that the list has there

@@ -1,14 +1,10 @@
 -- The motion of a lane, car by car.
-use Rattle.std.proofs.Common.{◌≡◌, ◌≢◌, ℕ, ◌+◌, ◌<◌, ◌≤◌, Option, Some, None, length, set, replicate, sym, ◌∙◌, subst, inl, inr, arith}
-use Rattle.std.proofs.Math.Nat.{mod-lt}
-use Rattle.std.proofs.lemmas.Bool.{cases_lt, cases_eq}
-use Rattle.std.proofs.lemmas.List.{get_or_past, get_or-set_same, get_or-set_other, length-set, get_or-replicate, length-replicate}
-use Rattle.std.proofs.lemmas.Option.{some_pair_parts}
-use Rattle.trlab_road.proofs.Ring.{Apart}
-use Rattle.trlab_road.specs.Cells.{Lane, at}
-use Rattle.trlab_road.specs.Gaps.{ahead}
+use Rattle.std.proofs.Common.{◌≡◌, ◌≢◌, ℕ, ◌+◌, ◌<◌, ◌≤◌, Option, Some, None, length, set, replicate, sym}
+use Rattle.std.proofs.Common.{◌∙◌, subst, inl, inr, arith, mod-lt, get_or-set_same, get_or-set_other}
+use Rattle.std.proofs.{Common.length-set, lemmas.Bool.{cases_lt, cases_eq}}
+use Rattle.std.proofs.lemmas.{List.{get_or_past, get_or-replicate, length-replicate}, Option.some_pair_parts}
+use Rattle.trlab_road.{proofs.Ring.{Apart, inside}, specs.{Cells.{Lane, at}, Gaps.ahead}}
 use Rattle.trlab_road.specs.Motion.{ComesFrom, LaneMoves}
-use Rattle.trlab_road.proofs.Ring.{inside}
 
 -- the cars of the first places of a lane have moved, and the new lane has no other cars
 pub record MovedBelow (answer : ℕ → ℕ) (old new : Lane) (i : ℕ) : Type 0 where

@@ -1,11 +1,9 @@
 -- The road after the motion phase exists.
-use Rattle.std.proofs.Common.{◌≡◌, ℕ, zero, suc, ◌+◌, ◌<◌, Some, None, List, [], ◌∷◌, length, get_or, replicate, set, refl, ap, subst, arith}
-use Rattle.trlab_road.proofs.Ring.{Apart}
-use Rattle.trlab_road.specs.Cells.{Cell, Lane, Cells, at}
-use Rattle.trlab_road.specs.Gaps.{ahead}
-use Rattle.trlab_road.specs.Motion.{LaneMoves, LaneFits, Moves, Fits}
-use Rattle.trlab_road.proofs.Ring.{apart_within_gaps}
-use Rattle.trlab_road.proofs.MotionByCar.{MovedBelow, moved_none, moved_skip, moved_more, moved_all}
+use Rattle.std.proofs.Common.{◌≡◌, ℕ, zero, suc, ◌+◌, ◌<◌, Some, None, List, [], ◌∷◌, length, get_or}
+use Rattle.std.proofs.Common.{replicate, set, refl, ap, subst, arith}
+use Rattle.trlab_road.proofs.{Ring.{Apart, apart_within_gaps}, MotionByCar.{MovedBelow, moved_none}}
+use Rattle.trlab_road.{proofs.MotionByCar.{moved_skip, moved_more, moved_all}, specs.Cells.{Cell, Lane}}
+use Rattle.trlab_road.specs.{Cells.{Cells, at}, Gaps.ahead, Motion.{LaneMoves, LaneFits, Moves, Fits}}
 
 moved_step : (answer : ℕ → ℕ) (old new : Lane) (i : ℕ) (c : Cell) → at old i ≡ c → Apart answer old
     → MovedBelow answer old new i → (next : Lane) × MovedBelow answer old next (i + 1)

@@ -1,14 +1,9 @@
 -- The motion phase by answers in standing order.
-use Rattle.std.proofs.Common.{◌≡◌, ℕ, List, length, get_or, ◌∙◌, ap}
-use Rattle.std.specs.Prelude.{slice_index}
-use Rattle.trlab_road.specs.Cells.{Cells, lane_of, AgreeAtCars}
-use Rattle.trlab_road.specs.Gaps.{ahead, gap}
-use Rattle.trlab_road.specs.Legal.{IsLegal}
+use Rattle.std.proofs.Common.{◌≡◌, ℕ, List, length, get_or, ◌∙◌, ap, slice_index}
+use Rattle.trlab_road.specs.{Cells.{Cells, lane_of, AgreeAtCars, IsLegal, rank}, Gaps.{ahead, gap}}
 use Rattle.trlab_road.specs.Motion.{in_order, AreSafeSpeeds, Fits, Moves, IsCleanMotion}
-use Rattle.trlab_road.specs.Standing.{rank}
 use Rattle.trlab_road.proofs.MotionLaws.{moved_legal, moves_clean}
-use Rattle.trlab_road.proofs.StandingOrder.{in_order_at, rank_below_cars}
-use Rattle.trlab_road.proofs.Ring.{car_in}
+use Rattle.trlab_road.proofs.{StandingOrder.{in_order_at, rank_below_cars}, Ring.car_in}
 
 -- the answer of the car at a lane and a place, from the answers in standing order
 abbrev pub answer_at : Cells → List ℕ → ℕ → ℕ → ℕ

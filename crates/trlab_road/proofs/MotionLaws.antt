@@ -1,15 +1,12 @@
 -- Properties of the motion phase, for any code that writes the new road.
-use Rattle.std.proofs.Common.{◌≡◌, ◌≢◌, ℕ, suc, ◌<◌, ◌≤◌, cond, Some, None, List, [], ◌∷◌, length, get_or, set, refl, sym, ◌∙◌, ap, subst, inl, inr, arith}
-use Rattle.std.specs.Prelude.{is_some, sum_by}
-use Rattle.std.proofs.lemmas.Bool.{cases_lt}
-use Rattle.std.proofs.lemmas.List.{get_or_past, ext_get_or, get_or-set_other}
+use Rattle.std.proofs.Common.{◌≡◌, ◌≢◌, ℕ, suc, ◌<◌, ◌≤◌, cond, Some, None, List, [], ◌∷◌, length, get_or}
+use Rattle.std.proofs.Common.{set, refl, sym, ◌∙◌, ap, subst, inl, inr, arith, is_some, sum_by, ext_get_or}
+use Rattle.std.proofs.{Common.get_or-set_other, lemmas.{Bool.cases_lt, List.get_or_past}}
 use Rattle.std.proofs.lemmas.List.Sums.{sum_by-set, sum_by-cons}
-use Rattle.trlab_road.proofs.Ring.{Apart, car_in}
-use Rattle.trlab_road.specs.Cells.{Cell, Lane, Cells, at, cell, lane_of, cars, lane_car_count}
-use Rattle.trlab_road.specs.Gaps.{ahead}
-use Rattle.trlab_road.specs.Legal.{IsLegal, LanesFit, LengthFits, LimitFits}
+use Rattle.trlab_road.proofs.Ring.{Apart, car_in, inside, clear_within_gap, apart_within_gaps}
+use Rattle.trlab_road.specs.Cells.{Cell, Lane, Cells, at, cell, lane_of, cars, lane_car_count, IsLegal}
+use Rattle.trlab_road.specs.{Cells.{LanesFit, LengthFits, LimitFits}, Gaps.ahead}
 use Rattle.trlab_road.specs.Motion.{LaneMoves, Moves, LaneFits, Fits, IsCleanLaneMotion, IsCleanMotion}
-use Rattle.trlab_road.proofs.Ring.{inside, clear_within_gap, apart_within_gaps}
 
 -- the motion of a lane has only one result
 same_cell : (c d : Cell) → ((number speed : ℕ) → c ≡ Some (number, speed) → d ≡ Some (number, speed))

@@ -1,17 +1,14 @@
 -- Each number below the number of cars is present, and a car has one place in the standing order.
-use Rattle.std.proofs.Common.{◌≡◌, ◌≢◌, ℕ, zero, suc, ◌+◌, ◌-◌, ◌<◌, ◌≤◌, Some, None, List, [], ◌∷◌, length, get_or, take, replicate, map, refl, sym, ◌∙◌, ap, subst, inl, inr, ◌⊎◌, arith, length-append}
-use Rattle.std.specs.Prelude.{sum_by}
-use Rattle.std.proofs.lemmas.Bool.{cases_lt, cases_eq, cases_order}
+use Rattle.std.proofs.Common.{◌≡◌, ◌≢◌, ℕ, zero, suc, ◌+◌, ◌-◌, ◌<◌, ◌≤◌, Some, None, List, [], ◌∷◌, length}
+use Rattle.std.proofs.Common.{get_or, take, replicate, map, refl, sym, ◌∙◌, ap, subst, inl, inr, ◌⊎◌, arith}
+use Rattle.std.proofs.{Common.{length-append, sum_by}, lemmas.Bool.{cases_lt, cases_eq, cases_order}}
 use Rattle.std.proofs.lemmas.List.{length-map, get_or-replicate, get_or_append_left, get_or-append_right}
 use Rattle.std.proofs.lemmas.List.Sums.{sum_by-cons}
-use Rattle.trlab_road.specs.declared.car.Car.{Car}
-use Rattle.trlab_road.specs.Cells.{HasNumber, Cell, Lane, Cells, cars, lane_car_count}
-use Rattle.trlab_road.specs.Legal.{IsLegal}
-use Rattle.trlab_road.specs.Standing.{standing_from, standing_from_lane, standing, rank}
-use Rattle.trlab_road.proofs.Ring.{inside}
-use Rattle.trlab_road.proofs.MotionLaws.{fewer_cars}
-use Rattle.trlab_road.proofs.StandingOrder.{standing_on, standing_on_lanes, standing_cell, length-standing_from, length-standing_from_lane}
-use Rattle.trlab_road.proofs.StandingOrder.{rank_is, lane_car_count-some}
+use Rattle.trlab_road.specs.{declared.car.Car.Car, Cells.{HasNumber, Cell, Lane, Cells, cars, lane_car_count}}
+use Rattle.trlab_road.specs.Cells.{IsLegal, standing_from, standing_from_lane, standing, rank}
+use Rattle.trlab_road.proofs.{Ring.inside, MotionLaws.fewer_cars, StandingOrder.standing_on}
+use Rattle.trlab_road.proofs.StandingOrder.{standing_on_lanes, standing_cell, length-standing_from}
+use Rattle.trlab_road.proofs.StandingOrder.{length-standing_from_lane, rank_is, lane_car_count-some}
 
 -- the cell that holds a car
 abbrev pub car_cell : Car → Cell

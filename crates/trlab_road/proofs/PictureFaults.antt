@@ -1,17 +1,16 @@
 -- Any limit and pictures show a legal road, or have a first fault.
-use Rattle.std.proofs.Common.{◌≡◌, ◌≢◌, ◌↔◌, ℕ, zero, suc, ◌<◌, ◌≤◌, ◌⊎◌, List, map, length, Result, Ok, Err, refl, sym, ap, ◌∙◌, subst, arith, inl, inr}
-use Rattle.std.proofs.lemmas.Bool.{cases_lt, cases_order}
-use Rattle.std.proofs.lemmas.Bool.Decides.{eqb_tells}
-use Rattle.trlab_road.specs.declared.fault.RoadFault.{RoadFault}
-use Rattle.trlab_road.specs.declared.fault.RoadFault.TheVariants.{Lanes, Length, Limit, Character, SpeedAboveLimit, Memory}
-use Rattle.trlab_bounds.specs.declared.roads.TheConstants.{MAX_LENGTH, MAX_LIMIT, MAX_LANES}
-use Rattle.trlab_road.specs.Cells.{Cells}
-use Rattle.trlab_road.specs.Legal.{IsLegal, LanesFit, LengthFits, LimitFits}
-use Rattle.trlab_road.specs.Pictures.{HaveEqualLengths, IsFirstBadCharacter, IsFirstPictureFault, AreValidPictures, AreNumberedInOrder, PicturesShow, ShowsCell, character_at, dot, picture, picture_at}
-use Rattle.trlab_road.specs.Laws.{PicturesMean}
-use Rattle.trlab_road.proofs.Characters.{shows_speed_or_not}
+use Rattle.std.proofs.Common.{◌≡◌, ◌≢◌, ◌↔◌, ℕ, zero, suc, ◌<◌, ◌≤◌, ◌⊎◌, List, map, length, Result, Ok, Err}
+use Rattle.std.proofs.Common.{refl, sym, ap, ◌∙◌, subst, arith, inl, inr}
+use Rattle.std.proofs.lemmas.Bool.{cases_lt, cases_order, Decides.eqb_tells}
+use Rattle.trlab_road.specs.declared.fault.RoadFault.{RoadFault, TheVariants.{Lanes, Length, Limit}}
+use Rattle.trlab_road.specs.declared.fault.RoadFault.TheVariants.{Character, SpeedAboveLimit, Memory}
+use Rattle.trlab_road.specs.Cells.{Cells, IsLegal, LanesFit, LengthFits, LimitFits}
+use Rattle.trlab_road.specs.Pictures.{HaveEqualLengths, IsFirstBadCharacter, IsFirstPictureFault}
+use Rattle.trlab_road.specs.Pictures.{AreValidPictures, AreNumberedInOrder, PicturesShow, ShowsCell}
+use Rattle.trlab_road.specs.{Pictures.{character_at, dot, picture, picture_at}, Laws.PicturesMean}
+use Rattle.trlab_road.{specs.Stored.lanes_of_pictures, proofs.Characters.shows_speed_or_not}
 use Rattle.trlab_road.proofs.PictureLaws.{draws, no_fault, one_fault, one_shown, pictures_good, shown_legal}
-use Rattle.trlab_road.specs.Stored.{lanes_of_pictures}
+use Rattle.trlab_bounds.specs.declared.roads.TheConstants.{MAX_LENGTH, MAX_LIMIT, MAX_LANES}
 
 abbrev Answer : Type 0
 Answer = Result Cells RoadFault

@@ -1,25 +1,24 @@
 -- Roads from pictures: pictures show one legal road.
-use Rattle.std.proofs.Common.{◌≡◌, ◌≢◌, ℕ, zero, suc, ◌+◌, ◌<◌, ◌≤◌, true, false, Option, Some, None, List, [], ◌∷◌, ◌++◌, length, get_or, take, drop, map, refl, sym, ◌∙◌, ap, subst, inl, inr, arith, Bor}
-use Rattle.std.specs.Prelude.{nat_eq, is_some, sum_by}
-use Rattle.std.specs.List.{range_with_len}
-use Rattle.std.proofs.lemmas.Bool.{cases_order, cond-true, cond-false, ne_eqb}
-use Rattle.std.proofs.lemmas.Bool.Decides.{eqb_tells}
-use Rattle.std.proofs.lemmas.List.{length-map, map-append, take_at, drop_at}
-use Rattle.std.proofs.lemmas.List.FromFn.{get_or-range_with_len, length-range_with_len}
-use Rattle.std.proofs.lemmas.List.Sums.{sum_by-cons, count_by-le-length}
-use Rattle.trlab_road.specs.declared.fault.RoadFault.{RoadFault}
-use Rattle.trlab_road.specs.declared.fault.RoadFault.TheVariants.{Lanes, Length, Limit, Character, SpeedAboveLimit, Memory, TooManyCars}
+use Rattle.std.proofs.Common.{◌≡◌, ◌≢◌, ℕ, zero, suc, ◌+◌, ◌<◌, ◌≤◌, true, false, Option, Some, None, List}
+use Rattle.std.proofs.Common.{[], ◌∷◌, ◌++◌, length, get_or, take, drop, map, refl, sym, ◌∙◌, ap, subst, inl}
+use Rattle.std.proofs.Common.{inr, arith, Bor, nat_eq, is_some, sum_by, ne_eqb, take_at, drop_at}
+use Rattle.std.proofs.lemmas.{Bool.{cases_order, cond-true, cond-false, Decides.eqb_tells}, List.length-map}
+use Rattle.std.proofs.lemmas.List.{map-append, FromFn.{get_or-range_with_len, length-range_with_len}}
+use Rattle.std.{proofs.lemmas.List.Sums.{sum_by-cons, count_by-le-length}, specs.List.range_with_len}
+use Rattle.trlab_road.specs.declared.fault.RoadFault.{RoadFault, TheVariants.{Lanes, Length, Limit}}
+use Rattle.trlab_road.specs.declared.fault.RoadFault.TheVariants.{Character, SpeedAboveLimit, Memory}
+use Rattle.trlab_road.specs.{declared.{fault.RoadFault.TheVariants.TooManyCars, car.Car.Car}, Cells.Cell}
+use Rattle.trlab_road.specs.Cells.{Lane, Cells, cell, lane_of, cars, lane_car_count, IsLegal, LanesFit}
+use Rattle.trlab_road.specs.Cells.{LengthFits, LimitFits, standing_from, standing_from_lane, standing, rank}
+use Rattle.trlab_road.specs.Pictures.{ShowsSpeed, dot, speed_character, character, picture, PicturesShow}
+use Rattle.trlab_road.specs.Pictures.{picture_at, character_at, ShowsCell, AreValidPictures}
+use Rattle.trlab_road.specs.{Pictures.{IsFirstBadCharacter, IsFirstPictureFault}, Stored.speed_of_character}
+use Rattle.trlab_road.{specs.Stored.{lane_of_picture, lanes_of_pictures}, proofs.Characters.character_back}
+use Rattle.trlab_road.proofs.{Characters.{no_point, one_speed, speed_back}, Ring.{inside, car_in}}
+use Rattle.trlab_road.proofs.{MotionLaws.on_lane, StandingOrder.{get_or-map_in, standing_rank}}
+use Rattle.trlab_road.proofs.StandingOrder.{rank_below_cars, length-standing_from, length-standing_from_lane}
+use Rattle.trlab_road.proofs.StandingOrder.{lane_car_count-some, car_of}
 use Rattle.trlab_bounds.specs.declared.roads.TheConstants.{MAX_LIMIT}
-use Rattle.trlab_road.specs.declared.car.Car.{Car}
-use Rattle.trlab_road.specs.Cells.{Cell, Lane, Cells, cell, lane_of, cars, lane_car_count}
-use Rattle.trlab_road.specs.Legal.{IsLegal, LanesFit, LengthFits, LimitFits}
-use Rattle.trlab_road.specs.Pictures.{ShowsSpeed, dot, speed_character, character, picture, PicturesShow, picture_at, character_at, ShowsCell, AreValidPictures, IsFirstBadCharacter, IsFirstPictureFault}
-use Rattle.trlab_road.specs.Standing.{standing_from, standing_from_lane, standing, rank}
-use Rattle.trlab_road.proofs.Characters.{character_back, no_point, one_speed, speed_back}
-use Rattle.trlab_road.proofs.Ring.{inside, car_in}
-use Rattle.trlab_road.proofs.MotionLaws.{on_lane}
-use Rattle.trlab_road.proofs.StandingOrder.{get_or-map_in, standing_rank, rank_below_cars, length-standing_from, length-standing_from_lane, lane_car_count-some, car_of}
-use Rattle.trlab_road.specs.Stored.{speed_of_character, lane_of_picture, lanes_of_pictures}
 
 -- the picture at an index of a list of pictures
 pub picture_read : (ps : List (Bor (List ℕ))) (l : ℕ) → picture_at (map (λ s. s.now) ps) l ≡ (get_or ps l (record { ref_ptr = (0, 0); now = [] })).now

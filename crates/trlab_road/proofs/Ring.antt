@@ -1,14 +1,11 @@
 -- Places on the ring, and runs of empty cells.
-use Rattle.std.proofs.Common.{◌≡◌, ℕ, zero, suc, ◌+◌, ◌-◌, ◌%◌, ◌<◌, ◌≤◌, Bool, true, false, Some, None, length, refl, sym, ◌∙◌, ap, subst, inl, inr, ◌⊎◌, arith}
-use Rattle.std.proofs.Math.Numerals.{add-one}
-use Rattle.std.specs.Prelude.{is_some, is_none}
-use Rattle.std.proofs.Math.Nat.{mod-eq_of_lt, mod-eq-sub-mod}
-use Rattle.std.proofs.lemmas.Bool.{cases_lt, cases_order, cases_Bool, cases_eq, and_parts, and_left, and_right, cond-true, cond-false}
-use Rattle.std.proofs.lemmas.List.{get_or_past}
-use Rattle.trlab_road.specs.Cells.{Cell, Lane, at}
-use Rattle.trlab_road.specs.Gaps.{ahead, is_clear, largest, clear_cells, gap}
-use Rattle.trlab_road.specs.Motion.{IsClearAhead, LaneFits}
-use Rattle.trlab_road.specs.declared.car.Car.{Car}
+use Rattle.std.proofs.Common.{◌≡◌, ℕ, zero, suc, ◌+◌, ◌-◌, ◌%◌, ◌<◌, ◌≤◌, Bool, true, false, Some, None}
+use Rattle.std.proofs.Common.{length, refl, sym, ◌∙◌, ap, subst, inl, inr, ◌⊎◌, arith, add-one, is_some}
+use Rattle.std.proofs.{Common.{is_none, mod-eq_of_lt}, Math.Nat.mod-eq-sub-mod}
+use Rattle.std.proofs.lemmas.Bool.{cases_lt, cases_order, cases_Bool, cases_eq, and_parts, and_left}
+use Rattle.std.proofs.lemmas.{Bool.{and_right, cond-true, cond-false}, List.get_or_past}
+use Rattle.trlab_road.specs.{Cells.{Cell, Lane, at}, Gaps.{ahead, is_clear, largest, clear_cells, gap}}
+use Rattle.trlab_road.specs.{Motion.{IsClearAhead, LaneFits}, declared.car.Car.Car}
 
 -- the car that a cell has
 abbrev pub car_in : ℕ → ℕ → ℕ → ℕ → Car

@@ -1,14 +1,9 @@
 -- The cars of a road, by their order and by their lanes.
-use Rattle.std.proofs.Common.{◌≡◌, ℕ, zero, suc, ◌∷◌, take, ◌<◌, ◌≤◌, ◌+◌, Some, List, [], length, get_or, ◌∙◌, ap, arith}
-use Rattle.std.specs.Prelude.{slice_get, sum_by}
-use Rattle.std.proofs.lemmas.List.{take_more}
-use Rattle.std.proofs.lemmas.List.Sums.{sum_by-cons, sum_by_push}
-use Rattle.std.proofs.lemmas.Option.{slice_get_within, get_or_from_slice_get}
-use Rattle.trlab_road.specs.declared.car.Car.{Car}
-use Rattle.trlab_road.specs.Cells.{Lane, Cells, lane_car_count}
-use Rattle.trlab_road.specs.Motion.{in_order}
-use Rattle.trlab_road.specs.Standing.{standing}
-use Rattle.trlab_road.proofs.StandingOrder.{get_or-map_in}
+use Rattle.std.proofs.Common.{◌≡◌, ℕ, zero, suc, ◌∷◌, take, ◌<◌, ◌≤◌, ◌+◌, Some, List, [], length, get_or}
+use Rattle.std.proofs.{Common.{◌∙◌, ap, arith, slice_get, sum_by}, lemmas.List.{take_more, Sums.sum_by-cons}}
+use Rattle.std.proofs.lemmas.{List.Sums.sum_by_push, Option.{slice_get_within, get_or_from_slice_get}}
+use Rattle.trlab_road.specs.{declared.car.Car.Car, Cells.{Lane, Cells, lane_car_count, standing}}
+use Rattle.trlab_road.{specs.Motion.in_order, proofs.StandingOrder.get_or-map_in}
 
 -- the k-th value is the function's value for the k-th car
 pub in_order_kth : {X : Type 0} (f : ℕ → ℕ → X) (road : Cells) (k : ℕ) (car : Car) (e : X)

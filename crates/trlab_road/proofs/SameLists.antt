@@ -1,10 +1,8 @@
 -- Comparing lists of cars.
-use Rattle.std.proofs.Common.{◌≡◌, ℕ, List, [], ◌∷◌, Vec, Global, length, get_or, drop, map, refl, sym, ◌∙◌, ap, arith}
-use Rattle.std.proofs.lemmas.List.{length-map}
-use Rattle.trlab_road.specs.LaneCars.{LaneCar}
-use Rattle.trlab_road.specs.Cells.{Cells, Lane}
-use Rattle.trlab_road.specs.Stored.{IsListedRoad, AreSorted, cells_of, lanes_from, lists_of}
-use Rattle.trlab_road.proofs.ListRoads.{list_told, sorted_rest, length_first}
+use Rattle.std.proofs.Common.{◌≡◌, ℕ, List, [], ◌∷◌, Vec, Global, length, get_or, drop, map, refl, sym, ◌∙◌}
+use Rattle.std.proofs.{Common.{ap, arith}, lemmas.List.length-map}
+use Rattle.trlab_road.specs.Stored.{LaneCar, IsListedRoad, AreSorted, cells_of, lanes_from, lists_of}
+use Rattle.trlab_road.{specs.Cells.{Cells, Lane}, proofs.ListRoads.{list_told, sorted_rest, length_first}}
 
 -- equal lists give equal lanes, and one is sorted if the other is
 by_lists : (n : ℕ) (lists : List (Vec LaneCar Global)) → lanes_from n lists ≡ map (cells_of n) (lists_of lists)

@@ -1,13 +1,10 @@
 -- Cars in standing order, and their cells.
-use Rattle.std.proofs.Common.{◌≡◌, ℕ, zero, suc, ◌+◌, ◌-◌, ◌<◌, ◌≤◌, cond, Some, None, List, [], ◌∷◌, ◌++◌, length, get_or, take, map, refl, sym, ◌∙◌, ap, inl, inr, arith, length-append}
-use Rattle.std.specs.Prelude.{is_some, sum_by}
-use Rattle.std.proofs.lemmas.Bool.{cases_lt}
-use Rattle.std.proofs.lemmas.List.{get_or_append_left, get_or-append-add, get_or-append_right}
-use Rattle.std.proofs.lemmas.List.Sums.{sum_by-cons}
-use Rattle.trlab_road.specs.declared.car.Car.{Car}
-use Rattle.trlab_road.specs.Cells.{Cell, Lane, Cells, at, cell, cars, lane_car_count}
-use Rattle.trlab_road.specs.Motion.{in_order}
-use Rattle.trlab_road.specs.Standing.{standing_from, standing_from_lane, standing, rank}
+use Rattle.std.proofs.Common.{◌≡◌, ℕ, zero, suc, ◌+◌, ◌-◌, ◌<◌, ◌≤◌, cond, Some, None, List, [], ◌∷◌, ◌++◌}
+use Rattle.std.proofs.Common.{length, get_or, take, map, refl, sym, ◌∙◌, ap, inl, inr, arith, length-append}
+use Rattle.std.proofs.{Common.{is_some, sum_by, get_or-append-add}, lemmas.Bool.cases_lt}
+use Rattle.std.proofs.lemmas.List.{get_or_append_left, get_or-append_right, Sums.sum_by-cons}
+use Rattle.trlab_road.specs.{declared.car.Car.Car, Cells.{Cell, Lane, Cells, at, cell, cars, lane_car_count}}
+use Rattle.trlab_road.specs.{Cells.{standing_from, standing_from_lane, standing, rank}, Motion.in_order}
 
 one_if : Cell → ℕ
 one_if c = cond (is_some c) 1 0

@@ -1,12 +1,12 @@
 -- Cars that went ahead, none of them past the end of the lane, and then the last one.
-use Rattle.std.proofs.Common.{◌≡◌, ℕ, zero, suc, ◌+◌, ◌-◌, ◌<◌, ◌≤◌, List, [], ◌∷◌, ◌++◌, Vec, Global, vec_len, vec_capacity, length, get_or, take, drop, refl, sym, ◌∙◌, ap, subst, arith, add-one}
-use Rattle.std.proofs.lemmas.List.{length_push, take_at, take_more, take_all}
-use Rattle.trlab_road.specs.LaneCars.{LaneCar}
-use Rattle.trlab_road.specs.Motion.{LaneFits, LaneMoves}
-use Rattle.trlab_road.specs.MovedAhead.{HaveMovedAhead, moved_ahead}
-use Rattle.trlab_road.specs.Stored.{cells_of, IsSortedFrom, no_car, place_of, lane_answer}
-use Rattle.trlab_road.proofs.Lists.{rises_high}
-use Rattle.trlab_road.proofs.ListMotion.{Moved, answer_kth, before_kth, before_next, last_kth, last_round, last_straight, moved_all, moved_none, moved_straight, reach_fits, size_whole}
+use Rattle.std.proofs.Common.{◌≡◌, ℕ, zero, suc, ◌+◌, ◌-◌, ◌<◌, ◌≤◌, List, [], ◌∷◌, ◌++◌, Vec, Global}
+use Rattle.std.proofs.Common.{vec_len, vec_capacity, length, get_or, take, drop, refl, sym, ◌∙◌, ap, subst}
+use Rattle.std.proofs.{Common.{arith, add-one, take_at, take_all}, lemmas.List.{length_push, take_more}}
+use Rattle.trlab_road.specs.Stored.{LaneCar, HaveMovedAhead, moved_ahead, cells_of, IsSortedFrom, no_car}
+use Rattle.trlab_road.specs.{Stored.{place_of, lane_answer}, Motion.{LaneFits, LaneMoves}}
+use Rattle.trlab_road.proofs.{Lists.rises_high, ListMotion.{Moved, answer_kth, before_kth, before_next}}
+use Rattle.trlab_road.proofs.ListMotion.{last_kth, last_round, last_straight, moved_all, moved_none}
+use Rattle.trlab_road.proofs.ListMotion.{moved_straight, reach_fits, size_whole}
 
 -- a car that is made from the number and the place of another
 made : (car new : LaneCar) (number place v : ℕ) → new ≡ record { number = number; place = place + v; speed = v } → number ≡ car.number → place ≡ car.place

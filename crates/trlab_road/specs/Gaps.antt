@@ -1,5 +1,6 @@
 -- Gaps on a lane, which is a ring: the empty cells ahead and behind, the side cell, and the next car.
-use Rattle.std.specs.Prelude.{ℕ, zero, suc, ◌+◌, ◌-◌, ◌%◌, Bool, true, cond, ◌&&◌, Some, None, is_none, length}
+use Rattle.std.specs.Prelude.{ℕ, zero, suc, ◌+◌, ◌-◌, ◌%◌, Bool, true, cond, ◌&&◌, Some, None, is_none}
+use Rattle.std.specs.Prelude.{length}
 use Rattle.trlab_road.specs.Cells.{Cell, Lane, at}
 
 -- the place j cells ahead of place x on a ring of n cells; for example, on a ring of 10 cells, place 1 is 3

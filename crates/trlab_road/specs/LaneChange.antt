@@ -1,14 +1,10 @@
 -- The lane change, the first phase of a step on two lanes (Rickert, Nagel, Schreckenberg and Latour 1996):
 -- all cars that change lanes do so at once. A function of a lane and a place, `crosses`, or a
 -- list of answers in standing order states whether each car changes lanes.
-use Rattle.std.specs.Prelude.{◌≡◌, ℕ, ◌-◌, ◌<◌, Bool, true, false, cond, Some, None, List, length, map, slice_index_or}
-use Rattle.std.specs.List.{range_with_len}
-use Rattle.std.specs.Option.{option_or}
-use Rattle.trlab_road.specs.declared.car.Car.{Car}
-use Rattle.trlab_road.specs.Cells.{Cell, Lane, Cells, IsAt, at, cell, lane_of, cars}
-use Rattle.trlab_road.specs.Gaps.{side}
-use Rattle.trlab_road.specs.Motion.{in_order}
-use Rattle.trlab_road.specs.Standing.{IsNthCar, rank}
+use Rattle.std.specs.Prelude.{◌≡◌, ℕ, ◌-◌, ◌<◌, Bool, true, false, cond, Some, None, List, length, map}
+use Rattle.std.specs.{Prelude.slice_index_or, List.range_with_len, Option.option_or}
+use Rattle.trlab_road.specs.{declared.car.Car.Car, Cells.{Cell, Lane, Cells, IsAt, at, cell, lane_of, cars}}
+use Rattle.trlab_road.specs.{Cells.{IsNthCar, rank}, Gaps.side, Motion.in_order}
 
 -- the other lane of a road with two lanes: 1 for lane 0, and 0 for lane 1
 abbrev pub other_lane : ℕ → ℕ

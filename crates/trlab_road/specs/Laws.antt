@@ -1,15 +1,13 @@
 -- Laws of pictures, of the next car ahead, of the two phases of a step and of evenly spread cars, for every
 -- road, independent of the code that moves the cars.
-use Rattle.std.specs.Prelude.{◌≢◌, List, map, ◌≡◌, ℕ, ◌+◌, ◌<◌, ◌↔◌, Bool, Some, None, Result, Ok, Err, length}
-use Rattle.trlab_road.specs.declared.fault.RoadFault.{RoadFault}
-use Rattle.trlab_road.specs.declared.fault.RoadFault.TheVariants.{Memory}
-use Rattle.trlab_road.specs.Cells.{Lane, Cells, AgreeAtCars, HasNumber, at, cars}
-use Rattle.trlab_road.specs.Gaps.{ahead, headspeed}
-use Rattle.trlab_road.specs.Legal.{IsLegal}
-use Rattle.trlab_road.specs.Pictures.{IsFirstPictureFault, AreValidPictures, AreNumberedInOrder, PicturesShow, picture}
-use Rattle.trlab_road.specs.LaneChange.{ChangesLanes, CrossesToEmpty, IsCleanLaneChange, road_after_change}
-use Rattle.trlab_road.specs.Spreading.{CanSpread, IsEvenlySpaced, IsEvenSpacingFault}
-use Rattle.trlab_road.specs.Motion.{IsCleanMotion, Fits, IsClearAhead, Moves}
+use Rattle.std.specs.Prelude.{◌≢◌, List, map, ◌≡◌, ℕ, ◌+◌, ◌<◌, ◌↔◌, Bool, Some, None, Result, Ok, Err}
+use Rattle.std.specs.Prelude.{length}
+use Rattle.trlab_road.specs.{declared.fault.RoadFault.{RoadFault, TheVariants.Memory}, Cells.{Lane, Cells}}
+use Rattle.trlab_road.specs.{Cells.{AgreeAtCars, HasNumber, at, cars, IsLegal}, Gaps.{ahead, headspeed}}
+use Rattle.trlab_road.specs.Pictures.{IsFirstPictureFault, AreValidPictures, AreNumberedInOrder, PicturesShow}
+use Rattle.trlab_road.specs.{Pictures.picture, LaneChange.{ChangesLanes, CrossesToEmpty, IsCleanLaneChange}}
+use Rattle.trlab_road.specs.{LaneChange.road_after_change, Spreading.{CanSpread, IsEvenlySpaced}}
+use Rattle.trlab_road.specs.{Spreading.IsEvenSpacingFault, Motion.{IsCleanMotion, Fits, IsClearAhead, Moves}}
 
 -- a limit and pictures show at most one road
 abbrev pub PicturesShowOneRoad : Type 0

@@ -1,13 +1,8 @@
-pub mod LaneCars
 pub mod Cells
 pub mod Gaps
-pub mod Standing
-pub mod Legal
 pub mod Pictures
 pub mod Motion
 pub mod LaneChange
 pub mod Spreading
 pub mod Laws
 pub mod Stored
-pub mod MovedAhead
-pub mod InLine

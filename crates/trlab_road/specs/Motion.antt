@@ -1,10 +1,8 @@
 -- The motion, the second phase of a step (Nagel and Schreckenberg 1992): all cars move at once. A function
 -- of a lane and a place, `answer`, or a list in standing order gives the number of cells that each car moves.
 use Rattle.std.specs.Prelude.{◌≡◌, ℕ, ◌<◌, ◌≤◌, Some, None, List, length, map, slice_index}
-use Rattle.trlab_road.specs.declared.car.Car.{Car}
-use Rattle.trlab_road.specs.Cells.{Lane, Cells, IsAt, at, lane_of, cars, lane_car_count}
-use Rattle.trlab_road.specs.Gaps.{ahead, gap}
-use Rattle.trlab_road.specs.Standing.{IsNthCar, standing}
+use Rattle.trlab_road.specs.{declared.car.Car.Car, Cells.{Lane, Cells, IsAt, at, lane_of, cars}}
+use Rattle.trlab_road.specs.{Cells.{lane_car_count, IsNthCar, standing}, Gaps.{ahead, gap}}
 
 -- the car with this number and speed, at y after the motion of lane `old`, was at x with the speed `before`
 -- and has moved `answer x` cells, its new speed

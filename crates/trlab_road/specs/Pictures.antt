@@ -1,15 +1,12 @@
 -- Pictures of roads: `.` for an empty cell, the character of its speed for a car. A character is a number,
 -- its ASCII code.
-use Rattle.std.specs.Prelude.{◌≡◌, ℕ, ◌+◌, ◌-◌, ◌<◌, ◌≤◌, cond, nat_lt, Some, None, List, [], map, length, slice_index, slice_index_or, ◌⊎◌}
-use Rattle.std.specs.Borrow.{Bor}
-use Rattle.std.specs.List.{range_with_len}
+use Rattle.std.specs.Prelude.{◌≡◌, ℕ, ◌+◌, ◌-◌, ◌<◌, ◌≤◌, cond, nat_lt, Some, None, List, [], map, length}
+use Rattle.std.specs.{Prelude.{slice_index, slice_index_or, ◌⊎◌}, Borrow.Bor, List.range_with_len}
 use Rattle.trlab_bounds.specs.declared.roads.TheConstants.{MAX_LIMIT}
-use Rattle.trlab_road.specs.declared.car.Car.{Car}
-use Rattle.trlab_road.specs.declared.fault.RoadFault.{RoadFault}
-use Rattle.trlab_road.specs.declared.fault.RoadFault.TheVariants.{Lanes, Length, Limit, Character, SpeedAboveLimit, Memory, TooManyCars}
-use Rattle.trlab_road.specs.Cells.{Cell, Lane, Cells, cars}
-use Rattle.trlab_road.specs.Legal.{LanesFit, LengthFits, LimitFits}
-use Rattle.trlab_road.specs.Standing.{standing}
+use Rattle.trlab_road.specs.declared.{car.Car.Car, fault.RoadFault.RoadFault}
+use Rattle.trlab_road.specs.declared.fault.RoadFault.TheVariants.{Lanes, Length, Limit, Character}
+use Rattle.trlab_road.specs.declared.fault.RoadFault.TheVariants.{SpeedAboveLimit, Memory, TooManyCars}
+use Rattle.trlab_road.specs.Cells.{Cell, Lane, Cells, cars, LanesFit, LengthFits, LimitFits, standing}
 
 -- the character of an empty cell, `.`
 abbrev pub dot : ℕ

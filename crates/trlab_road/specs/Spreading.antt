@@ -1,9 +1,9 @@
 -- Roads with evenly spaced cars of speed 0.
 use Rattle.std.specs.Prelude.{◌≡◌, ℕ, ◌*◌, ◌/◌, ◌%◌, ◌<◌, ◌≤◌, Some, length}
 use Rattle.trlab_road.specs.declared.fault.RoadFault.{RoadFault}
-use Rattle.trlab_road.specs.declared.fault.RoadFault.TheVariants.{Lanes, Length, Limit, Character, SpeedAboveLimit, Memory, TooManyCars}
-use Rattle.trlab_road.specs.Cells.{Lane, Cells, at, lane_of}
-use Rattle.trlab_road.specs.Legal.{LanesFit, LengthFits, LimitFits}
+use Rattle.trlab_road.specs.declared.fault.RoadFault.TheVariants.{Lanes, Length, Limit, Character}
+use Rattle.trlab_road.specs.declared.fault.RoadFault.TheVariants.{SpeedAboveLimit, Memory, TooManyCars}
+use Rattle.trlab_road.specs.Cells.{Lane, Cells, at, lane_of, LanesFit, LengthFits, LimitFits}
 
 -- the cell of car i, one of n evenly spaced cars on `lanes` lanes of `cells` cells, as one number: place *
 -- `lanes` + lane; for example, 4 cars on 2 lanes of 6 cells have the flat cells 0, 3, 6 and 9

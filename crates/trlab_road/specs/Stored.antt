@@ -1,15 +1,21 @@
+-- Roads as the code keeps them: each lane is the list of its cars, by increasing place.
+use Rattle.std.specs.Prelude.{ℕ, ◌≡◌, suc, ◌+◌, ◌<◌, ◌≤◌, cond, sum_by, take, Some, None, List, [], ◌∷◌}
+use Rattle.std.specs.Prelude.{length, map, nat_eq, slice_index, slice_index_or, false, Bool, Vec, ◌-◌}
+use Rattle.std.specs.{Global.Global, List.range_with_len}
+use Rattle.trlab_road.specs.{declared.{car.Car.Car, gaps.SideGaps.SideGaps}, Cells.{Cell, Lane, Cells, at}}
+use Rattle.trlab_road.specs.Cells.{lane_car_count, IsLegal, IsAt, lane_of, IsNthCar, standing_from}
+use Rattle.trlab_road.specs.{Gaps.{largest, side, sideback, sidegap, gap, headspeed}, Motion.LaneFits}
+use Rattle.trlab_road.specs.{Motion.{LaneMoves, IsValueOnOwnLane, gaps}, Pictures.{dot, speed_character}}
+
+-- Cars as lanes keep them.
+
+-- a car in the list of a lane: its number, its place along the lane and its speed
+pub record LaneCar : Type 0 where
+  pub number : ℕ
+  pub place : ℕ
+  pub speed : ℕ
+
 -- How the code keeps a road: each lane as the list of its cars, by increasing place.
-use Rattle.std.specs.Prelude.{◌≡◌, ℕ, suc, ◌+◌, ◌<◌, ◌≤◌, cond, sum_by, take, Some, None, List, [], ◌∷◌, length, map, nat_eq, slice_index, slice_index_or, false, Bool, Vec}
-use Rattle.std.specs.Global.{Global}
-use Rattle.std.specs.List.{range_with_len}
-use Rattle.trlab_road.specs.declared.car.Car.{Car}
-use Rattle.trlab_road.specs.declared.gaps.SideGaps.{SideGaps}
-use Rattle.trlab_road.specs.LaneCars.{LaneCar}
-use Rattle.trlab_road.specs.Cells.{Cell, Lane, Cells, at, lane_car_count}
-use Rattle.trlab_road.specs.Gaps.{largest, side, sideback, sidegap}
-use Rattle.trlab_road.specs.Legal.{IsLegal}
-use Rattle.trlab_road.specs.Motion.{LaneFits, LaneMoves}
-use Rattle.trlab_road.specs.Pictures.{dot, speed_character}
 
 -- the cell at place x of a lane with the listed cars: the first of them at x, or empty if none is at x
 abbrev pub cell_at : List LaneCar → ℕ → Cell
@@ -112,13 +118,13 @@ list_answer n lists answers l =
 
 -- on each lane of n cells, the answer of each car is at most the gap ahead of it; `answers` lists the answers
 -- of all cars in standing order
-pub record ListsFit (n : ℕ) (lists : List (Vec LaneCar Global)) (answers : List ℕ) : Type 0 where
+pub record SpeedsFitGaps (n : ℕ) (lists : List (Vec LaneCar Global)) (answers : List ℕ) : Type 0 where
   pub each_lane : (l : ℕ) → l < length lists
       → LaneFits (list_answer n lists answers l) (cells_of n (list_at lists l))
 
 -- the lanes of n cells with the cars of `lists` have the cars of `next` after the motion by `answers`, which
 -- lists the answers of all cars in standing order
-pub record ListsMove (n : ℕ) (lists next : List (Vec LaneCar Global)) (answers : List ℕ) : Type 0 where
+pub record SpeedsMove (n : ℕ) (lists next : List (Vec LaneCar Global)) (answers : List ℕ) : Type 0 where
   pub same_lanes : length next ≡ length lists
   pub each_lane : (l : ℕ) → l < length lists
       → LaneMoves (list_answer n lists answers l)
@@ -144,3 +150,45 @@ lanes_of_pictures n [] = []
 lanes_of_pictures n (picture ∷ pictures) =
     let lane = lane_of_picture n picture in
     lane ∷ lanes_of_pictures (n + lane_car_count lane) pictures
+
+-- Cars of a list after a motion in which no car passes the end of the lane.
+
+-- a car after it has moved `speed` cells ahead, its new speed, without passing the end of the lane
+abbrev pub moved_ahead : LaneCar → ℕ → LaneCar
+moved_ahead car speed = record { number = car.number; place = car.place + speed; speed = speed }
+
+-- `new` lists the cars of `old` after the first k of them have moved ahead, car j by the speed at index
+-- `from` + j of `speeds`; the other cars are unchanged
+pub record HaveMovedAhead (speeds : List ℕ) (from : ℕ) (old new : List LaneCar) (k : ℕ) : Type 0 where
+  pub same_count : length new ≡ length old
+  pub moved : (j : ℕ) → j < k
+      → slice_index_or new j no_car
+      ≡ moved_ahead (slice_index_or old j no_car) (slice_index speeds (from + j))
+  pub others : (j : ℕ) → k ≤ j → slice_index_or new j no_car ≡ slice_index_or old j no_car
+
+-- Lists of successive cars of one lane, in order of place: each car is followed by the next car ahead of it.
+
+-- `line` lists all cars of a lane of the road, in order of place
+abbrev pub IsLineOf : Cells → ℕ → List LaneCar → Type 0
+IsLineOf road lane line = map (car_on lane) line ≡ standing_from lane 0 (lane_of road lane)
+
+-- `line` lists, in order of place, the k-th car in standing order and all cars after it on the same lane;
+-- there is a k-th car
+pub record IsLineFrom (road : Cells) (k : ℕ) (line : List LaneCar) : Type 0 where
+  pub lane : ℕ
+  pub some : 0 < length line
+  pub standing : (j : ℕ) → j < length line
+      → IsNthCar road (k + j) (car_on lane (slice_index_or line j no_car))
+  pub whole : k + length line ≡ sum_by lane_car_count (take (lane + 1) road.lanes)
+
+-- `car` is the k-th car in standing order, and `next` has the place and the speed of its next car ahead, at a
+-- later place of the lane: the number of cells between `car` and `next` is the gap of `car`, and the speed of
+-- `next` is the headspeed of `car`
+pub record IsFollowed (road : Cells) (k : ℕ) (car next : LaneCar) : Type 0 where
+  pub lane : ℕ
+  pub standing : IsNthCar road k (car_on lane car)
+  pub here : IsAt road (car_on lane car)
+  pub past : car.place < next.place
+  pub ahead : IsValueOnOwnLane gap road k (next.place - car.place - 1)
+  pub in_gaps : next.place - car.place - 1 ≡ slice_index (gaps road) k
+  pub head : IsValueOnOwnLane headspeed road k next.speed

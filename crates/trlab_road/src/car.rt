@@ -28,7 +28,7 @@ pub struct LaneCar {
 impl Model for LaneCar {
     ghost use Rattle.std.specs.Prelude.{◌+◌, ◌*◌, ◌/◌, ◌%◌};
     ghost use Rattle.std.proofs.lemmas.Nat.{div-add-mod'};
-    ghost use Rattle.trlab_road.specs.LaneCars.{LaneCar as ListedCar};
+    ghost use Rattle.trlab_road.specs.Stored.{LaneCar as ListedCar};
 
     ghost Value = { ListedCar };
 
@@ -54,7 +54,7 @@ impl LaneCar {
     #[inline(always)]
     pub fn new(number: u32, place: u32, speed: u32) -> LaneCar
         requires on_lane { place ≤ MAX_LENGTH }
-        requires slow { speed ≤ MAX_LIMIT }
+        requires at_most_max_limit { speed ≤ MAX_LIMIT }
         ensures { result ≡ record { number = number; place = place; speed = speed } }
     {
         LaneCar {

@@ -22,12 +22,12 @@ pub struct Leader {
 
 /// The gap and the leader of the car at an index of a lane's list. The leader of the last car is the first.
 pub fn look_ahead(cars: &[LaneCar], cells: usize, index: usize) -> Leader
-    requires small { cells ≤ MAX_LENGTH }
+    requires at_most_max_length { cells ≤ MAX_LENGTH }
     requires sorted { IsSortedFrom 0 cells cars.now }
     requires here { index < length cars.now }
     ensures gap { result.gap ≡ gap (cells_of cells cars.now) (place_of cars.now index) }
     ensures headspeed { result.headspeed ≡ headspeed (cells_of cells cars.now) (place_of cars.now index) }
-    ensures within { result.gap < cells }
+    ensures in_range { result.gap < cells }
 {
     let place = place_at(cars, index);
     let next = index + 1;
@@ -46,12 +46,12 @@ pub fn look_ahead(cars: &[LaneCar], cells: usize, index: usize) -> Leader
 
 /// The number of empty cells ahead of a place. `next` is the index of the first car past the place.
 fn gap_ahead(cars: &[LaneCar], cells: usize, place: usize, next: usize) -> usize
-    requires small { cells ≤ MAX_LENGTH }
+    requires at_most_max_length { cells ≤ MAX_LENGTH }
     requires inside { place < cells }
     requires sorted { IsSortedFrom 0 cells cars.now }
     requires parted { IsFirstPast cars.now place next }
     ensures value { result ≡ gap (cells_of cells cars.now) place }
-    ensures within { result < cells }
+    ensures in_range { result < cells }
 {
     if next < cars.len() {
         place_at(cars, next) as usize - place - 1
@@ -64,14 +64,14 @@ fn gap_ahead(cars: &[LaneCar], cells: usize, place: usize, next: usize) -> usize
 
 /// The number of empty cells behind an empty place. `next` is the index of the first car past the place.
 fn gap_behind(cars: &[LaneCar], cells: usize, place: usize, next: usize) -> usize
-    requires small { cells ≤ MAX_LENGTH }
+    requires at_most_max_length { cells ≤ MAX_LENGTH }
     requires inside { place < cells }
     requires sorted { IsSortedFrom 0 cells cars.now }
-    requires within { next ≤ length cars.now }
+    requires in_range { next ≤ length cars.now }
     requires before { (k : ℕ) → k < next → k < length cars.now → place_of cars.now k < place }
     requires after { (k : ℕ) → next ≤ k → k < length cars.now → place < place_of cars.now k }
     ensures value { result ≡ clear_cells (cells_of cells cars.now) (behind cells place) }
-    ensures within { result < cells }
+    ensures in_range { result < cells }
 {
     if next > 0 {
         place - place_at(cars, next - 1) as usize - 1
@@ -114,10 +114,10 @@ const SEARCHED_TOGETHER: usize = 4;
 /// fewer than four cars are left. The index is computed as a sum, so that no branch depends on the places.
 #[inline(always)]
 fn pass_four(cars: &[LaneCar], place: u32, near: usize) -> usize
-    requires within { near ≤ length cars.now }
+    requires in_range { near ≤ length cars.now }
     requires sorted { IsRising cars.now }
     requires before { (k : ℕ) → k < near → k < length cars.now → place_of cars.now k < place }
-    ensures within { result ≤ length cars.now }
+    ensures in_range { result ≤ length cars.now }
     ensures before { (k : ℕ) → k < result → k < length cars.now → place_of cars.now k < place }
 {
     let mut next = near;
@@ -200,7 +200,7 @@ fn look_between(cars: &[LaneCar], cells: usize, place: u32, next: usize) -> Side
 /// The surroundings of any place, even before the first car or past the last. `next` is the index of the first car from
 /// the place on.
 fn look_anywhere(cars: &[LaneCar], cells: usize, place: u32, next: usize) -> SideGaps
-    requires small { cells ≤ MAX_LENGTH }
+    requires at_most_max_length { cells ≤ MAX_LENGTH }
     requires inside { place < cells }
     requires sorted { IsSortedFrom 0 cells cars.now }
     requires found { IsFirstFrom cars.now place next }
@@ -227,7 +227,7 @@ fn look_anywhere(cars: &[LaneCar], cells: usize, place: u32, next: usize) -> Sid
 /// place, usually only five cars are checked.
 #[inline(always)]
 pub fn look_beside(cars: &[LaneCar], cells: usize, place: u32, near: usize) -> SideGaps
-    requires small { cells ≤ MAX_LENGTH }
+    requires at_most_max_length { cells ≤ MAX_LENGTH }
     requires inside { place < cells }
     requires sorted { IsSortedFrom 0 cells cars.now }
     ensures beside { DescribesSideCell cells cars.now place result }

@@ -61,7 +61,7 @@ fn run_end(lane: AnsweredLane, crosses: &[bool], begin: usize, due: u32) -> usiz
     requires begin { begin < length lane.cars.now }
     requires stays { slice_index_or crosses.now (lane.from + begin) false ≡ false }
     requires before { place_of lane.cars.now begin < due }
-    ensures within { (begin < result) × (result ≤ length lane.entry.cars.now) }
+    ensures in_range { (begin < result) × (result ≤ length lane.entry.cars.now) }
     ensures stay { (k : ℕ) → begin ≤ k → k < result
         → slice_index_or crosses.now (lane.entry.from + k) false ≡ false }
     ensures before { (k : ℕ) → begin ≤ k → k < result → place_of lane.entry.cars.now k < due }
@@ -82,7 +82,7 @@ fn change_lane(
     coming: &[LaneCar],
     crosses: &[bool],
 ) -> Result<(), AllocError>
-    requires small { cells ≤ MAX_LENGTH }
+    requires at_most_max_length { cells ≤ MAX_LENGTH }
     requires own_sorted { IsSortedFrom 0 cells own.cars.now }
     requires coming_sorted { IsSortedFrom 0 cells coming.now }
     requires own_each { own.from + length own.cars.now ≤ length crosses.now }
@@ -135,7 +135,7 @@ pub fn change_lanes(
     crosses: &[bool],
 ) -> Result<Vec<Vec<LaneCar>>, AllocError>
     requires two { length lanes.now ≡ 2 }
-    requires small { cells ≤ MAX_LENGTH }
+    requires at_most_max_length { cells ≤ MAX_LENGTH }
     requires sorted { AreSorted cells lanes.now }
     requires one_each { sum_by lane_car_count (lanes_from cells lanes.now) ≤ length crosses.now }
     ensures sorted { IfOk result (λ next. AreSorted cells next.items) }

@@ -9,7 +9,7 @@ use std::alloc::{AllocError, Global};
 
 /// The lane of the k-th car in standing order, and its index in the lane's list.
 pub fn find(lanes: &[Vec<LaneCar>], k: u32) -> (u32, usize)
-    requires few { length lanes.now ≤ MAX_LANES }
+    requires at_most_max_lanes { length lanes.now ≤ MAX_LANES }
     requires below { k < sum_by length (lists_of lanes.now) }
     ensures { IsFoundAt lanes.now k result.0 result.1 }
 {
@@ -47,11 +47,11 @@ pub fn list_of(lanes: &[Vec<LaneCar>], lane: u32) -> &[LaneCar]
 
 /// The number of cars of all lanes.
 pub fn count_cars(lanes: &[Vec<LaneCar>]) -> u32
-    requires few { length lanes.now ≤ MAX_LANES }
-    requires small { (l : ℕ) → l < length lanes.now
+    requires at_most_max_lanes { length lanes.now ≤ MAX_LANES }
+    requires at_most_max_length { (l : ℕ) → l < length lanes.now
         → length (list_at lanes.now l) ≤ MAX_LENGTH }
     ensures value { result ≡ sum_by length (lists_of lanes.now) }
-    ensures few { result ≤ MAX_LANES * MAX_LENGTH }
+    ensures at_most_max_cars { result ≤ MAX_LANES * MAX_LENGTH }
 {
     let mut count = 0;
     for lane in lanes {

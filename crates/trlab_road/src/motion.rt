@@ -4,8 +4,8 @@ ghost use Rattle.std.specs.Prelude.{◌≡◌, ◌+◌, ◌<◌, ◌≤◌, ℕ,
 ghost use Rattle.trlab_bounds.specs.declared.roads.TheConstants.{MAX_LENGTH, MAX_LIMIT};
 ghost use Rattle.trlab_road.specs.Cells.{lane_car_count};
 ghost use Rattle.trlab_road.specs.Motion.{LaneFits, LaneMoves};
-ghost use Rattle.trlab_road.specs.MovedAhead.{HaveMovedAhead, moved_ahead};
-ghost use Rattle.trlab_road.specs.Stored.{no_car, place_of, ListsFit, ListsMove, IsSortedFrom, AreSorted, cells_of, lanes_from, lane_answer};
+ghost use Rattle.trlab_road.specs.Stored.{HaveMovedAhead, moved_ahead};
+ghost use Rattle.trlab_road.specs.Stored.{no_car, place_of, SpeedsFitGaps, SpeedsMove, IsSortedFrom, AreSorted, cells_of, lanes_from, lane_answer};
 
 use crate::car::LaneCar;
 
@@ -16,9 +16,9 @@ const MOVED_TOGETHER: usize = 32;
 /// `from` of `speeds`.
 #[inline(always)]
 fn move_block(cars: &[LaneCar], at: usize, speeds: &[u8], from: usize) -> [LaneCar; MOVED_TOGETHER]
-    requires within { at + MOVED_TOGETHER ≤ length cars.now }
+    requires in_range { at + MOVED_TOGETHER ≤ length cars.now }
     requires one_each { from + MOVED_TOGETHER ≤ length speeds.now }
-    requires slow { (k : ℕ) → k < MOVED_TOGETHER → slice_index speeds.now (from + k) ≤ MAX_LIMIT }
+    requires at_most_max_limit { (k : ℕ) → k < MOVED_TOGETHER → slice_index speeds.now (from + k) ≤ MAX_LIMIT }
     requires short { (k : ℕ) → k < MOVED_TOGETHER
         → place_of cars.now (at + k) + slice_index speeds.now (from + k) ≤ MAX_LENGTH }
     ensures { (k : ℕ) → k < MOVED_TOGETHER → slice_index_or result k no_car
@@ -34,7 +34,7 @@ fn move_block(cars: &[LaneCar], at: usize, speeds: &[u8], from: usize) -> [LaneC
 /// A car after it has moved `speed` cells ahead, its new speed, without passing the end of the lane.
 #[inline(always)]
 fn move_ahead(car: LaneCar, speed: u32) -> LaneCar
-    requires slow { speed ≤ MAX_LIMIT }
+    requires at_most_max_limit { speed ≤ MAX_LIMIT }
     requires short { car.place + speed ≤ MAX_LENGTH }
     ensures { result ≡ moved_ahead car speed }
 {
@@ -45,7 +45,7 @@ fn move_ahead(car: LaneCar, speed: u32) -> LaneCar
 /// `speeds`. Cars are moved in blocks of `MOVED_TOGETHER`, so that the compiler can use vector instructions.
 fn move_straight(cars: &mut [LaneCar], speeds: &[u8], from: usize)
     requires one_each { from + length cars.old ≤ length speeds.now }
-    requires slow { (k : ℕ) → k < length speeds.now → slice_index speeds.now k ≤ MAX_LIMIT }
+    requires at_most_max_limit { (k : ℕ) → k < length speeds.now → slice_index speeds.now k ≤ MAX_LIMIT }
     requires short { (k : ℕ) → k < length cars.old
         → place_of cars.old k + slice_index speeds.now (from + k) ≤ MAX_LENGTH }
     ensures { HaveMovedAhead speeds.now from cars.old cars.new (length cars.old) }
@@ -66,12 +66,12 @@ fn move_straight(cars: &mut [LaneCar], speeds: &[u8], from: usize)
 /// Moves the cars of a lane. Their speeds begin at the index `from` of `speeds`. Only the last car can pass the end of
 /// the lane; then it becomes the first.
 fn move_lane(cars: &mut Vec<LaneCar>, cells: u32, speeds: &[u8], from: usize)
-    requires small { cells ≤ MAX_LENGTH }
+    requires at_most_max_length { cells ≤ MAX_LENGTH }
     requires sorted { IsSortedFrom 0 cells cars.old.items }
     requires one_each { from + length cars.old.items ≤ length speeds.now }
-    requires within { LaneFits (lane_answer (cells_of cells cars.old.items) speeds.now from)
+    requires gaps { LaneFits (lane_answer (cells_of cells cars.old.items) speeds.now from)
         (cells_of cells cars.old.items) }
-    requires slow { (k : ℕ) → k < length speeds.now → slice_index speeds.now k ≤ MAX_LIMIT }
+    requires at_most_max_limit { (k : ℕ) → k < length speeds.now → slice_index speeds.now k ≤ MAX_LIMIT }
     ensures rises { IsSortedFrom 0 cells cars.new.items }
     ensures moves { LaneMoves (lane_answer (cells_of cells cars.old.items) speeds.now from)
         (cells_of cells cars.old.items) (cells_of cells cars.new.items) }
@@ -95,13 +95,13 @@ fn move_lane(cars: &mut Vec<LaneCar>, cells: u32, speeds: &[u8], from: usize)
 
 /// Moves the cars of all lanes at once. The speeds are in standing order.
 pub fn move_lanes(lanes: &mut [Vec<LaneCar>], cells: u32, speeds: &[u8])
-    requires small { cells ≤ MAX_LENGTH }
+    requires at_most_max_length { cells ≤ MAX_LENGTH }
     requires sorted { AreSorted cells lanes.old }
     requires one_each { sum_by lane_car_count (lanes_from cells lanes.old) ≤ length speeds.now }
-    requires within { ListsFit cells lanes.old speeds.now }
-    requires slow { (k : ℕ) → k < length speeds.now → slice_index speeds.now k ≤ MAX_LIMIT }
+    requires gaps { SpeedsFitGaps cells lanes.old speeds.now }
+    requires at_most_max_limit { (k : ℕ) → k < length speeds.now → slice_index speeds.now k ≤ MAX_LIMIT }
     ensures sorted { AreSorted cells lanes.new }
-    ensures moves { ListsMove cells lanes.old lanes.new speeds.now }
+    ensures moves { SpeedsMove cells lanes.old lanes.new speeds.now }
 {
     let mut from = 0;
     for l in 0..lanes.len() {

@@ -5,7 +5,7 @@ ghost use Rattle.std.specs.Prelude.{◌≡◌, ◌<◌, ◌≤◌, ◌↔◌, �
 ghost use Rattle.trlab_bounds.specs.declared.roads.TheConstants.{MAX_LIMIT, MAX_LENGTH, MAX_LANES};
 ghost use Rattle.trlab_road.specs.Stored.{IsSortedFrom, cells_of, no_car, AreSorted, lanes_from, lane_of_picture, lanes_of_pictures};
 ghost use Rattle.trlab_road.specs.Pictures.{ShowsCell, ShowsSpeed, picture, speed_character, HaveEqualLengths, IsFirstPictureFault, AreValidPictures, picture_at, pictures_of};
-ghost use Rattle.trlab_road.specs.Legal.{LanesFit};
+ghost use Rattle.trlab_road.specs.Cells.{LanesFit};
 
 use crate::car::{LaneCar, place_at, speed_at};
 use crate::fault::RoadFault;
@@ -30,7 +30,7 @@ fn speed_character(speed: u32) -> u8
 /// The speed that a character shows, in cells per step; `None` if it shows no speed.
 fn speed_shown(character: u8) -> Option<u32>
     ensures none { IsNone result → ¬ (ShowsSpeed MAX_LIMIT character) }
-    ensures within { IfSome result (λ speed. speed ≤ MAX_LIMIT) }
+    ensures in_range { IfSome result (λ speed. speed ≤ MAX_LIMIT) }
     ensures shown { IfSome result (λ speed. character ≡ speed_character speed) }
 {
     match character {
@@ -63,7 +63,7 @@ fn shows_cell(limit: u32, character: u8) -> bool
 /// the bytes are unchanged.
 pub fn push_picture(out: &mut Vec<u8>, cars: &[LaneCar], cells: u32) -> Result<(), AllocError>
     requires sorted { IsSortedFrom 0 cells cars.now }
-    requires slow { (k : ℕ) → k < length cars.now
+    requires at_most_max_limit { (k : ℕ) → k < length cars.now
         → (slice_index_or cars.now k no_car).speed ≤ MAX_LIMIT }
     ensures added { OnOk result (out.new.items ≡ out.old.items ++ picture (cells_of cells cars.now)) }
     ensures unchanged { OnErr result (out.new.items ≡ out.old.items) }
@@ -79,7 +79,7 @@ pub fn push_picture(out: &mut Vec<u8>, cars: &[LaneCar], cells: u32) -> Result<(
 /// The place of the first character that shows no cell, or the length of the picture if all characters show cells.
 fn first_invalid(limit: u32, picture: &[u8]) -> usize
     requires { limit ≤ MAX_LIMIT }
-    ensures within { result ≤ length picture.now }
+    ensures in_range { result ≤ length picture.now }
     ensures before { (x : ℕ) → x < result → ShowsCell limit (slice_index picture.now x) }
     ensures invalid { result < length picture.now
         → ¬ (ShowsCell limit (slice_index picture.now result)) }
@@ -143,8 +143,8 @@ pub fn check_pictures(limit: u32, pictures: &[&[u8]]) -> Result<(), RoadFault>
 fn draw_lane(alloc: Global, picture: &[u8], from: u32) -> Result<Vec<LaneCar>, AllocError>
     requires shown { EachIndex picture.now (λ x.
         ShowsCell MAX_LIMIT (slice_index picture.now x)) }
-    requires small { length picture.now ≤ MAX_LENGTH }
-    requires few { from ≤ MAX_LANES * MAX_LENGTH }
+    requires at_most_max_length { length picture.now ≤ MAX_LENGTH }
+    requires at_most_max_cars { from ≤ MAX_LANES * MAX_LENGTH }
     ensures rises { IfOk result (λ cars. IsSortedFrom 0 (length picture.now) cars.items) }
     ensures drawn { IfOk result (λ cars.
         cells_of (length picture.now) cars.items ≡ lane_of_picture from picture.now) }

@@ -2,16 +2,13 @@
 
 ghost use Rattle.std.specs.Prelude.{◌≡◌, ◌≢◌, ◌⊎◌, ◌<◌, ◌↔◌, length, ◌++◌, IfOk, OnErr, OnOk, IsTrue, MatchResult, ◌+◌, ◌*◌, ◌≤◌, ℕ, slice_index, slice_index_or, false, Bool};
 ghost use Rattle.trlab_road.specs.declared.fault.RoadFault.{RoadFault};
-ghost use Rattle.trlab_road.specs.Cells.{Cells, cars, lane_of, IsAt, cars_before};
-ghost use Rattle.trlab_road.specs.Legal.{IsLegal};
+ghost use Rattle.trlab_road.specs.Cells.{Cells, cars, lane_of, IsAt, cars_before, IsLegal, IsNthCar};
 ghost use Rattle.trlab_road.specs.Pictures.{IsFirstPictureFault, PicturesShow, picture, pictures_of};
 ghost use Rattle.trlab_road.specs.Spreading.{CanSpread, IsEvenlySpaced, IsEvenSpacingFault};
 ghost use Rattle.trlab_bounds.specs.declared.roads.TheConstants.{MAX_LENGTH, MAX_LIMIT, MAX_LANES};
 ghost use Rattle.trlab_road.specs.declared.car.Car.{Car};
 ghost use Rattle.trlab_road.specs.Gaps.{gap, headspeed, side, sideback, sidegap};
-ghost use Rattle.trlab_road.specs.InLine.{IsFollowed, IsLineFrom, IsLineOf};
-ghost use Rattle.trlab_road.specs.Standing.{IsNthCar};
-ghost use Rattle.trlab_road.specs.Stored.{no_car};
+ghost use Rattle.trlab_road.specs.Stored.{IsFollowed, IsLineFrom, IsLineOf, no_car};
 ghost use Rattle.trlab_road.specs.LaneChange.{IsValueOnOtherLane, IsGapOnOtherLane, sides, IsCleanLaneChange, ChangesLanes, AreSafeCrossings};
 ghost use Rattle.trlab_road.specs.Motion.{IsValueOnOwnLane, gaps, AreSafeSpeeds, IsCleanMotion, Moves, in_order};
 
@@ -84,7 +81,7 @@ impl Road {
             → MatchResult result (λ next. next ≡ road) (λ fault. fault ≡ RoadFault.Memory) }
 
         // each fault is reported, unless allocation fails
-        ensures told { (fault : RoadFault) → IsFirstPictureFault limit (pictures_of lanes.now) fault
+        ensures reported { (fault : RoadFault) → IsFirstPictureFault limit (pictures_of lanes.now) fault
             → fault ≢ RoadFault.Memory → (result ≡ Err fault) ⊎ (result ≡ Err RoadFault.Memory) }
     {
         check_pictures(limit, lanes)?;
@@ -120,7 +117,7 @@ impl Road {
         ensures even { IfOk result (λ road. IsEvenlySpaced lanes cells limit count road) }
 
         // each fault is reported, unless allocation fails
-        ensures told { (fault : RoadFault) → IsEvenSpacingFault lanes cells limit count fault
+        ensures reported { (fault : RoadFault) → IsEvenSpacingFault lanes cells limit count fault
             → fault ≢ RoadFault.Memory → (result ≡ Err fault) ⊎ (result ≡ Err RoadFault.Memory) }
         ensures counted { IfOk result (λ road. cars road ≡ count) }
         ensures legal { IfOk result (λ road. IsLegal road) }
@@ -235,7 +232,7 @@ impl Road {
     /// The number of cars on all lanes.
     pub fn cars(&self) -> u32
         ensures value { result ≡ cars self.now }
-        ensures few { result ≤ MAX_LANES * MAX_LENGTH }
+        ensures at_most_max_cars { result ≤ MAX_LANES * MAX_LENGTH }
         ensures legal { IsLegal self.now }
     {
         count_cars(&self.lanes)
@@ -269,7 +266,7 @@ impl Road {
     pub fn headspeed(&self, k: u32) -> u32
         requires { k < cars self.now }
         ensures of_car { IsValueOnOwnLane headspeed self.now k result }
-        ensures within { result ≤ self.now.limit }
+        ensures at_most_limit { result ≤ self.now.limit }
     {
         self.ahead(k).headspeed
     }
@@ -281,7 +278,7 @@ impl Road {
         ensures gap { IsValueOnOwnLane gap self.now k result.gap }
         ensures headspeed { IsValueOnOwnLane headspeed self.now k result.headspeed }
         ensures below { result.gap < length (lane_of self.now 0) }
-        ensures within { result.headspeed ≤ self.now.limit }
+        ensures at_most_limit { result.headspeed ≤ self.now.limit }
     {
         let (lane, index) = find(&self.lanes, k);
         look_ahead(list_of(&self.lanes, lane), self.cells as usize, index)
@@ -304,8 +301,8 @@ impl Road {
     pub fn line_of(&self, lane: u32) -> &[LaneCar]
         requires { lane < length self.now.lanes }
         ensures line { IsLineOf self.now lane result.now }
-        ensures few { length result.now ≤ MAX_LENGTH }
-        ensures slow { (k : ℕ) → k < length result.now
+        ensures at_most_max_length { length result.now ≤ MAX_LENGTH }
+        ensures at_most_max_limit { (k : ℕ) → k < length result.now
             → (slice_index_or result.now k no_car).speed ≤ MAX_LIMIT }
     {
         list_of(&self.lanes, lane)

@@ -39,7 +39,7 @@ pub fn check_even(lanes: u32, cells: u32, limit: u32, count: u32) -> Result<(), 
 /// The flat cell of car `number`, one of `count` cars that are evenly spaced on a road of `road_cells` cells in all.
 /// Flat cells count across the lanes: place 0 of each lane, then place 1, and so on.
 fn flat_cell(road_cells: usize, count: usize, number: usize) -> usize
-    requires few { road_cells ≤ MAX_LANES * MAX_LENGTH }
+    requires at_most_max_cells { road_cells ≤ MAX_LANES * MAX_LENGTH }
     requires room { count ≤ road_cells }
     requires below { number < count }
     ensures { result ≡ number * road_cells / count }
@@ -54,9 +54,9 @@ pub fn even_lanes(
     cells: usize,
     count: usize,
 ) -> Result<Vec<Vec<LaneCar>>, AllocError>
-    requires some { 1 ≤ lanes }
-    requires few { lanes ≤ MAX_LANES }
-    requires small { cells ≤ MAX_LENGTH }
+    requires at_least_one_lane { 1 ≤ lanes }
+    requires at_most_max_lanes { lanes ≤ MAX_LANES }
+    requires at_most_max_length { cells ≤ MAX_LENGTH }
     requires room { count ≤ lanes * cells }
     ensures same_lanes { IfOk result (λ next. length next.items ≡ lanes) }
     ensures sorted { IfOk result (λ next. AreSorted cells next.items) }

@@ -3,16 +3,12 @@
 use Rattle.std.proofs.Common.{ℕ, ◌+◌, refl, List, [], ◌∷◌, true, false}
 use Rattle.trlab_bounds.specs.declared.roads.TheConstants.{MAX_LIMIT, MAX_GAP}
 use Rattle.trlab_code.specs.declared.program.Kind.TheVariants.{Motion, Change}
-use Rattle.trlab_code.specs.declared.instruction.Register.{Register}
-use Rattle.trlab_code.specs.declared.instruction.Register.TheVariants.{R0, R1, R2}
-use Rattle.trlab_code.specs.declared.instruction.Input.{Input}
-use Rattle.trlab_code.specs.declared.instruction.Input.TheVariants.{Limit, Gap}
+use Rattle.trlab_code.specs.declared.instruction.{Register.{Register, TheVariants.{R0, R1, R2}}, Input.Input}
+use Rattle.trlab_code.specs.{declared.instruction.Input.TheVariants.{Limit, Gap}, Machine.update}
 use Rattle.trlab_code.specs.declared.instruction.Variable.TheVariants as variable
-use Rattle.trlab_code.specs.Machine.{update}
-use Rattle.trlab_notes.specs.declared.note.AbstractValue.{AbstractValue}
-use Rattle.trlab_notes.specs.declared.note.AbstractValue.TheVariants.{Nothing, Between, Implies}
-use Rattle.trlab_notes.specs.Notes.{value_with_side, known_level, entry}
-use Rattle.trlab_notes.specs.Transfer.{assign, refine_order, refine_flag}
+use Rattle.trlab_notes.specs.declared.note.AbstractValue.{AbstractValue, TheVariants.{Unknown, Between}}
+use Rattle.trlab_notes.specs.{declared.note.AbstractValue.TheVariants.Implies, Notes.value_with_side}
+use Rattle.trlab_notes.specs.{Notes.{known_level, entry}, Transfer.{assign, refine_order, refine_flag}}
 use Rattle.trlab_verify.specs.Verdict.{IsAccepted}
 use Rattle.trlab_rules.specs.Standard.{nasch_program, vdr_program, rickert_program}
 use Rattle.trlab_rules.proofs.KnownNotes.{Fact, Known, accepted_by}
@@ -73,7 +69,7 @@ nasch_table =
     ∷ knowing (speed ∷ one ∷ []) (within R0 Limit ∷ [])
     ∷ knowing (speed ∷ one ∷ gap ∷ []) (within R0 Limit ∷ within R2 Gap ∷ [])
     ∷ knowing (speed ∷ one ∷ []) safe
-    ∷ knowing (speed ∷ one ∷ Nothing ∷ flag ∷ []) safe
+    ∷ knowing (speed ∷ one ∷ Unknown ∷ flag ∷ []) safe
     ∷ knowing (speed ∷ one ∷ []) safe
     ∷ knowing (speed ∷ some_one ∷ []) safe_less
     ∷ knowing (speed ∷ []) safe
@@ -89,14 +85,14 @@ vdr_table =
     ∷ saying (speed ∷ [])
     ∷ saying (speed ∷ one ∷ [])
     ∷ saying (speed ∷ one ∷ [])
-    ∷ saying (speed ∷ one ∷ Nothing ∷ flag ∷ [])
+    ∷ saying (speed ∷ one ∷ Unknown ∷ flag ∷ [])
     ∷ saying (speed ∷ one ∷ [])
-    ∷ saying (speed ∷ one ∷ Nothing ∷ flag ∷ [])
-    ∷ saying (one_more ∷ one ∷ Nothing ∷ flag ∷ [])
+    ∷ saying (speed ∷ one ∷ Unknown ∷ flag ∷ [])
+    ∷ saying (one_more ∷ one ∷ Unknown ∷ flag ∷ [])
     ∷ knowing (one_more ∷ one ∷ limit ∷ flag ∷ []) (within R2 Limit ∷ [])
-    ∷ knowing (speed ∷ one ∷ Nothing ∷ flag ∷ []) (within R0 Limit ∷ [])
+    ∷ knowing (speed ∷ one ∷ Unknown ∷ flag ∷ []) (within R0 Limit ∷ [])
     ∷ knowing (speed ∷ one ∷ gap ∷ flag ∷ []) (within R0 Limit ∷ within R2 Gap ∷ [])
-    ∷ knowing (speed ∷ one ∷ Nothing ∷ flag ∷ []) safe
+    ∷ knowing (speed ∷ one ∷ Unknown ∷ flag ∷ []) safe
     ∷ knowing (speed ∷ one ∷ []) safe
     ∷ knowing (speed ∷ some_one ∷ []) safe_less
     ∷ knowing (speed ∷ []) safe
@@ -111,17 +107,17 @@ rickert_table =
     saying []
     ∷ saying (Implies true ∷ [])
     ∷ beside_empty []
-    ∷ beside_empty (Nothing ∷ speed ∷ [])
-    ∷ beside_empty (Nothing ∷ speed ∷ one ∷ [])
-    ∷ beside_empty (Nothing ∷ one_more ∷ [])
-    ∷ beside_empty (Nothing ∷ one_more ∷ gap ∷ [])
-    ∷ beside_empty (Nothing ∷ one_more ∷ [])
-    ∷ beside_empty (Nothing ∷ one_more ∷ gap ∷ [])
+    ∷ beside_empty (Unknown ∷ speed ∷ [])
+    ∷ beside_empty (Unknown ∷ speed ∷ one ∷ [])
+    ∷ beside_empty (Unknown ∷ one_more ∷ [])
+    ∷ beside_empty (Unknown ∷ one_more ∷ gap ∷ [])
+    ∷ beside_empty (Unknown ∷ one_more ∷ [])
+    ∷ beside_empty (Unknown ∷ one_more ∷ gap ∷ [])
     ∷ beside_empty []
-    ∷ beside_empty (Nothing ∷ Nothing ∷ gap ∷ [])
-    ∷ beside_empty (Nothing ∷ Nothing ∷ gap ∷ limit ∷ [])
+    ∷ beside_empty (Unknown ∷ Unknown ∷ gap ∷ [])
+    ∷ beside_empty (Unknown ∷ Unknown ∷ gap ∷ limit ∷ [])
     ∷ beside_empty []
-    ∷ beside_empty (Nothing ∷ Nothing ∷ Nothing ∷ flag ∷ [])
+    ∷ beside_empty (Unknown ∷ Unknown ∷ Unknown ∷ flag ∷ [])
     ∷ beside_empty []
     ∷ saying []
     ∷ []

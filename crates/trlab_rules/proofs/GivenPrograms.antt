@@ -1,13 +1,9 @@
 -- Accepted programs that are the standard ones.
 use Rattle.std.proofs.Common.{◌≡◌, ℕ, List, Bool, sym, ap, subst, ◌∙◌, Result, IfOk}
 use Rattle.std.proofs.lemmas.Result.{IfOk-weaker}
-use Rattle.trlab_code.specs.declared.program.Kind.{Kind}
-use Rattle.trlab_code.specs.declared.program.Kind.TheVariants.{Motion, Change}
-use Rattle.trlab_code.specs.declared.instruction.Instr.{Instr}
-use Rattle.trlab_code.specs.declared.view.View.{View}
-use Rattle.trlab_code.specs.Program.{Program}
-use Rattle.trlab_verify.specs.Verified.{CheckedProgram}
-use Rattle.trlab_verify.specs.Verdict.{IsAccepted}
+use Rattle.trlab_code.specs.declared.program.Kind.{Kind, TheVariants.{Motion, Change}}
+use Rattle.trlab_code.specs.{declared.{instruction.Instr.Instr, view.View.View}, Program.Program}
+use Rattle.trlab_verify.specs.{Verified.CheckedProgram, Verdict.IsAccepted}
 use Rattle.trlab_rules.specs.Rules.{ComputesSpeed, ComputesCrossing, IsMotionComputing, IsChangeComputing}
 
 -- a program of these instructions

@@ -1,28 +1,20 @@
 -- Notes that are given by ranges and a few facts about the order, and a test that decides whether a table of
 -- them checks.
-use Rattle.std.proofs.Common.{◌≡◌, ℕ, zero, suc, ◌+◌, ◌<◌, ◌≤◌, ◌&&◌, ◌||◌, not, refl, sym, subst, arith, inl, inr, List, [], ◌∷◌, length, Bool, true, false, IsTrue, Option, Some, None, nat_eq, nat_le, cond, get_or, slice_get, IfSome}
-use Rattle.std.specs.List.{list_all}
-use Rattle.std.proofs.lemmas.Bool.{leb-true, eqb-true, and_parts, or_cases}
-use Rattle.trlab_code.specs.declared.program.Kind.{Kind}
-use Rattle.trlab_code.specs.declared.instruction.Instr.{Instr}
-use Rattle.trlab_code.specs.declared.instruction.Register.TheVariants.{R0}
-use Rattle.trlab_code.specs.declared.instruction.Variable.{Variable}
+use Rattle.std.proofs.Common.{◌≡◌, ℕ, zero, suc, ◌+◌, ◌<◌, ◌≤◌, ◌&&◌, ◌||◌, not, refl, sym, subst, arith, inl}
+use Rattle.std.proofs.Common.{inr, List, [], ◌∷◌, length, Bool, true, false, IsTrue, Option, Some, None}
+use Rattle.std.proofs.Common.{nat_eq, nat_le, cond, get_or, slice_get, IfSome, leb-true, eqb-true}
+use Rattle.std.{proofs.lemmas.Bool.{and_parts, or_cases}, specs.List.list_all}
+use Rattle.trlab_code.specs.declared.{program.Kind.Kind, instruction.{Instr.Instr, Register.TheVariants.R0}}
+use Rattle.trlab_code.specs.{declared.instruction.Variable.Variable, Machine.register_number}
+use Rattle.trlab_code.specs.{Machine.variable_number, Program.Program, Flow.{target, falls, on_target}}
 use Rattle.trlab_code.specs.declared.instruction.Variable.TheVariants as variable
-use Rattle.trlab_code.specs.Machine.{register_number, variable_number}
-use Rattle.trlab_code.specs.Program.{Program}
-use Rattle.trlab_code.specs.Flow.{target, falls, on_target}
-use Rattle.trlab_notes.specs.declared.note.AbstractValue.{AbstractValue}
-use Rattle.trlab_notes.specs.declared.note.AbstractValue.TheVariants.{Nothing, Between, Implies}
-use Rattle.trlab_notes.specs.declared.reasons.Reason.{Reason}
+use Rattle.trlab_notes.specs.declared.note.AbstractValue.{AbstractValue, TheVariants.{Unknown, Between}}
+use Rattle.trlab_notes.specs.declared.{note.AbstractValue.TheVariants.Implies, reasons.Reason.Reason}
 use Rattle.trlab_notes.specs.Notes.{Note, same_variable, value_with_side, known_level, entry_values, entry}
-use Rattle.trlab_notes.specs.Order.{IsNoMorePrecise, IsNoStronger}
-use Rattle.trlab_notes.specs.Reasons.{reason_against}
-use Rattle.trlab_notes.specs.Transfer.{next_note, jump_note}
-use Rattle.trlab_notes.proofs.Variables.{variables, back, below, same_is}
-use Rattle.trlab_notes.proofs.Order.{wider, known_from}
-use Rattle.trlab_verify.specs.Verdict.{Follows, IsAccepted}
-use Rattle.trlab_verify.specs.Tables.{ChecksAt}
-use Rattle.trlab_verify.proofs.Best.{accepted}
+use Rattle.trlab_notes.specs.{Notes.{IsNoMorePrecise, IsNoStronger}, Reasons.reason_against}
+use Rattle.trlab_notes.{specs.Transfer.{next_note, jump_note}, proofs.Variables.{variables, back, below}}
+use Rattle.trlab_notes.proofs.{Variables.same_is, Order.{wider, known_from}}
+use Rattle.trlab_verify.{specs.{Verdict.{Follows, IsAccepted}, Tables.ChecksAt}, proofs.Best.accepted}
 
 -- one variable is at most another (level 1), or below it (level 2)
 pub record Fact : Type 0 where
@@ -42,7 +34,7 @@ level_by [] x y = 0
 level_by (fact ∷ facts) x y = cond (same_variable x fact.one && same_variable y fact.other) fact.level (level_by facts x y)
 
 abbrev said_by : Kind → List AbstractValue → Variable → AbstractValue
-said_by kind values (variable.Register r) = get_or values (register_number r) Nothing
+said_by kind values (variable.Register r) = get_or values (register_number r) Unknown
 said_by kind values (variable.Input k) = entry_values kind (variable.Input k)
 
 -- the note of a row
@@ -55,7 +47,7 @@ unknown = record { values = []; facts = []; side = false }
 
 -- the first value is no more precise than the second
 abbrev says_no_more : AbstractValue → AbstractValue → Bool
-says_no_more Nothing t = true
+says_no_more Unknown t = true
 says_no_more (Between a b) (Between c d) = nat_le a c && nat_le d b
 says_no_more (Implies p) (Implies q) = not p || q
 says_no_more _ _ = false
@@ -65,12 +57,12 @@ implied true q h e = h
 implied false q h e = absurd (cc e)
 
 no_more : (s t : AbstractValue) → says_no_more s t ≡ true → IsNoMorePrecise s t
-no_more Nothing t h = tt
+no_more Unknown t h = tt
 no_more (Between a b) (Between c d) h = let both = and_parts (nat_le a c) (nat_le d b) h in (leb-true a c both.0, leb-true d b both.1)
-no_more (Between a b) Nothing h = absurd (cc h)
+no_more (Between a b) Unknown h = absurd (cc h)
 no_more (Between a b) (Implies q) h = absurd (cc h)
 no_more (Implies p) (Implies q) h = implied p q h
-no_more (Implies p) Nothing h = absurd (cc h)
+no_more (Implies p) Unknown h = absurd (cc h)
 no_more (Implies p) (Between c d) h = absurd (cc h)
 
 -- a test that passes for all variables passes for each

@@ -1,15 +1,11 @@
 -- The motion program of Nagel and Schreckenberg (1992) computes the published speed.
 use Rattle.std.proofs.Common.{◌≡◌, ℕ, ◌+◌, ◌-◌, ◌<◌, ◌^◌, min, refl, subst, arith, List, Bool, true, false}
-use Rattle.trlab_code.specs.declared.program.Kind.TheVariants.{Motion}
-use Rattle.trlab_code.specs.declared.instruction.Register.TheVariants.{R0, R1, R2, R3}
-use Rattle.trlab_code.specs.declared.instruction.Input.TheVariants.{Speed, Limit, Gap}
-use Rattle.trlab_code.specs.declared.view.View.{View}
-use Rattle.trlab_code.specs.Views.{IsViewInRange}
-use Rattle.trlab_code.specs.Machine.{At, Goes, start, update}
-use Rattle.trlab_rules.specs.Published.{safe_speed, brake, happens_at, nasch_speed}
-use Rattle.trlab_rules.specs.Standard.{nasch_program}
-use Rattle.trlab_rules.specs.Rules.{ComputesSpeed}
-use Rattle.trlab_rules.proofs.Rows.{Run, num, get, draw, add, sub, smaller, if_false-jumps, if_false-falls, go}
+use Rattle.trlab_code.specs.{declared.program.Kind.TheVariants.Motion, Machine.{At, Goes, start, update}}
+use Rattle.trlab_code.specs.declared.{instruction.Register.TheVariants.{R0, R1, R2, R3}, view.View.View}
+use Rattle.trlab_code.specs.{declared.instruction.Input.TheVariants.{Speed, Limit, Gap}, Views.IsViewInRange}
+use Rattle.trlab_rules.specs.{Published.{safe_speed, brake, happens_at, nasch_speed}, Standard.nasch_program}
+use Rattle.trlab_rules.{specs.Rules.ComputesSpeed, proofs.Rows.{Run, num, get, draw, add, sub, smaller}}
+use Rattle.trlab_rules.proofs.Rows.{if_false-jumps, if_false-falls, go}
 
 -- a speed that the car sees can be increased by one
 pub one_more : (view : View) → IsViewInRange view → view.speed + 1 < 2 ^ 32

@@ -1,18 +1,15 @@
 -- The change program of Rickert et al. (1996) computes which cars change lanes.
 use Rattle.std.proofs.Common.{◌≡◌, ℕ, ◌+◌, ◌&&◌, refl, List, Bool, true, false, nat_lt, nat_le, cond}
-use Rattle.std.proofs.lemmas.Bool.{ltb-true, ltb-false, lt-leb, le-leb}
-use Rattle.trlab_code.specs.declared.program.Kind.TheVariants.{Change}
-use Rattle.trlab_code.specs.declared.instruction.Register.TheVariants.{R0, R1, R2, R3}
-use Rattle.trlab_code.specs.declared.instruction.Variable.TheVariants as variable
+use Rattle.std.proofs.{Common.{ltb-true, ltb-false, le-leb}, lemmas.Bool.lt-leb}
+use Rattle.trlab_code.specs.{declared.program.Kind.TheVariants.Change, Views.IsViewInRange}
+use Rattle.trlab_code.specs.declared.{instruction.Register.TheVariants.{R0, R1, R2, R3}, view.View.View}
 use Rattle.trlab_code.specs.declared.instruction.Input.TheVariants.{Speed, Limit, Gap, SideGap, SideBack}
-use Rattle.trlab_code.specs.declared.view.View.{View}
-use Rattle.trlab_code.specs.Views.{IsViewInRange}
 use Rattle.trlab_code.specs.Machine.{Store, Number, Flag, Answer, Crosses, Stays, At, start, update}
-use Rattle.trlab_rules.specs.Published.{happens_at, rickert_crosses}
-use Rattle.trlab_rules.specs.Standard.{rickert_program}
+use Rattle.trlab_code.specs.declared.instruction.Variable.TheVariants as variable
+use Rattle.trlab_rules.specs.{Published.{happens_at, rickert_crosses}, Standard.rickert_program}
 use Rattle.trlab_rules.specs.Rules.{ComputesCrossing}
-use Rattle.trlab_rules.proofs.Rows.{Run, num, get, side, draw, add, at_most-jumps, at_most-falls, if_false-jumps, if_false-falls, cross, stay}
-use Rattle.trlab_rules.proofs.NaschRuns.{one_more}
+use Rattle.trlab_rules.proofs.Rows.{Run, num, get, side, draw, add, at_most-jumps, at_most-falls}
+use Rattle.trlab_rules.proofs.{Rows.{if_false-jumps, if_false-falls, cross, stay}, NaschRuns.one_more}
 
 -- a number below another is not at least that number
 not_least : (m n : ℕ) → nat_lt m n ≡ true → nat_le n m ≡ false

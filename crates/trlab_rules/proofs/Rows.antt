@@ -1,15 +1,17 @@
 -- Runs of programs that are known instruction by instruction.
-use Rattle.std.proofs.Common.{◌≡◌, ℕ, suc, ◌+◌, ◌-◌, ◌<◌, ◌≤◌, ◌^◌, min, refl, sym, ap, subst, ◌∙◌, List, Bool, true, false, ◌&&◌, not, nat_le, cond, Some, slice_get, slice_index, lt-ltb, le-leb}
-use Rattle.trlab_words.specs.Chances.{happens_on}
-use Rattle.trlab_code.specs.declared.program.Kind.{Kind}
-use Rattle.trlab_code.specs.declared.program.Kind.TheVariants.{Motion, Change}
-use Rattle.trlab_code.specs.declared.instruction.Register.{Register}
-use Rattle.trlab_code.specs.declared.instruction.Input.{Input}
+use Rattle.std.proofs.Common.{◌≡◌, ℕ, suc, ◌+◌, ◌-◌, ◌<◌, ◌≤◌, ◌^◌, min, refl, sym, ap, subst, ◌∙◌, List}
+use Rattle.std.proofs.Common.{Bool, true, false, ◌&&◌, not, nat_le, cond, Some, slice_get, slice_index}
+use Rattle.std.proofs.Common.{lt-ltb, le-leb}
+use Rattle.trlab_words.specs.Words.{happens_on}
+use Rattle.trlab_code.specs.declared.program.Kind.{Kind, TheVariants.{Motion, Change}}
+use Rattle.trlab_code.specs.declared.instruction.{Register.Register, Input.Input, Instr.Instr}
+use Rattle.trlab_code.specs.declared.instruction.Instr.TheVariants.{Num, Get, Side, Draw, Add, Sub, Min, Jump}
+use Rattle.trlab_code.specs.declared.instruction.Instr.TheVariants.{JumpAtMost, JumpFalse, Go, Cross, Stay}
+use Rattle.trlab_code.specs.{declared.view.View.View, Machine.{Value, Number, Flag, Store, Answer, Goes}}
+use Rattle.trlab_code.specs.Machine.{Crosses, Stays, MachineState, At, Done, Stuck, update, on_any, on_number}
+use Rattle.trlab_code.specs.Machine.{on_flag, write_u32, jump_if, Writes, Ends, Sticks, effect, allows}
+use Rattle.trlab_code.specs.Machine.{allows_input, state_after, execute, step, EndsFrom}
 use Rattle.trlab_code.specs.declared.instruction.Variable.TheVariants as variable
-use Rattle.trlab_code.specs.declared.instruction.Instr.{Instr}
-use Rattle.trlab_code.specs.declared.instruction.Instr.TheVariants.{Num, Get, Side, Draw, Add, Sub, Min, Jump, JumpAtMost, JumpFalse, Go, Cross, Stay}
-use Rattle.trlab_code.specs.declared.view.View.{View}
-use Rattle.trlab_code.specs.Machine.{Value, Number, Flag, Store, Answer, Goes, Crosses, Stays, MachineState, At, Done, Stuck, update, on_any, on_number, on_flag, write_u32, jump_if, Writes, Ends, Sticks, effect, allows, allows_input, state_after, execute, step, EndsFrom}
 
 -- from a state a program comes to an end with this answer
 pub record Run (kind : Kind) (code : List Instr) (view : View) (words : List ℕ) (state : MachineState) (answer : Answer) : Type 0 where

@@ -1,9 +1,7 @@
 -- The standard programs are valid: they do not have too many instructions, and their fields are in range.
-use Rattle.std.proofs.Common.{ℕ, ◌≤◌, List, [], ◌∷◌, All, arith}
-use Rattle.std.proofs.lemmas.List.Elements.{All-cons, All-nil}
+use Rattle.std.proofs.{Common.{ℕ, ◌≤◌, List, [], ◌∷◌, All, arith}, lemmas.List.Elements.{All-cons, All-nil}}
 use Rattle.trlab_bounds.specs.declared.programs.TheConstants.{CERTAIN}
-use Rattle.trlab_code.specs.declared.instruction.Instr.{Instr}
-use Rattle.trlab_code.specs.Program.{IsInRange, IsValidProgram}
+use Rattle.trlab_code.specs.{declared.instruction.Instr.Instr, Program.{IsInRange, IsValidProgram}}
 use Rattle.trlab_rules.specs.Standard.{nasch_program, vdr_program, rickert_program}
 
 -- the fields of each instruction are in range

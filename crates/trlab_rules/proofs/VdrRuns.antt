@@ -1,18 +1,15 @@
 -- The motion program of Barlovic et al. (1998) computes the published speed.
 use Rattle.std.proofs.Common.{◌≡◌, ℕ, ◌+◌, ◌-◌, min, refl, subst, arith, List, Bool, true, false, nat_eq}
-use Rattle.std.proofs.lemmas.Bool.{eqb-true, lt-leb}
+use Rattle.std.proofs.{Common.eqb-true, lemmas.Bool.lt-leb}
 use Rattle.trlab_code.specs.declared.program.Kind.TheVariants.{Motion}
 use Rattle.trlab_code.specs.declared.instruction.Register.TheVariants.{R0, R1, R2, R3}
+use Rattle.trlab_code.specs.declared.{instruction.Input.TheVariants.{Speed, Limit, Gap}, view.View.View}
+use Rattle.trlab_code.specs.{Views.IsViewInRange, Machine.{Store, Number, Flag, At, Goes, start, update}}
 use Rattle.trlab_code.specs.declared.instruction.Variable.TheVariants as variable
-use Rattle.trlab_code.specs.declared.instruction.Input.TheVariants.{Speed, Limit, Gap}
-use Rattle.trlab_code.specs.declared.view.View.{View}
-use Rattle.trlab_code.specs.Views.{IsViewInRange}
-use Rattle.trlab_code.specs.Machine.{Store, Number, Flag, At, Goes, start, update}
 use Rattle.trlab_rules.specs.Published.{safe_speed, brake, happens_at, vdr_braking_chance, vdr_speed}
-use Rattle.trlab_rules.specs.Standard.{vdr_program}
-use Rattle.trlab_rules.specs.Rules.{ComputesSpeed}
-use Rattle.trlab_rules.proofs.Rows.{Run, num, get, draw, add, sub, smaller, jump, at_most-jumps, at_most-falls, if_false-jumps, if_false-falls, go}
-use Rattle.trlab_rules.proofs.NaschRuns.{one_more, one_off}
+use Rattle.trlab_rules.{specs.{Standard.vdr_program, Rules.ComputesSpeed}, proofs.Rows.{Run, num, get, draw}}
+use Rattle.trlab_rules.proofs.Rows.{add, sub, smaller, jump, at_most-jumps, at_most-falls, if_false-jumps}
+use Rattle.trlab_rules.proofs.{Rows.{if_false-falls, go}, NaschRuns.{one_more, one_off}}
 
 module _ (p p0 : ℕ) (view : View) (words : List ℕ) (seen : IsViewInRange view) where
   abbrev safe : ℕ

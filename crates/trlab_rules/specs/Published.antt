@@ -2,8 +2,9 @@
 -- (1992), the velocity-dependent-randomization (VDR) model of Barlovic, Santen, Schadschneider and
 -- Schreckenberg (1998), and the lane changes of Rickert, Nagel, Schreckenberg and Latour (1996), with
 -- distances of this project's own.
-use Rattle.std.specs.Prelude.{ℕ, ◌+◌, ◌-◌, ◌&&◌, min, List, Bool, true, false, nat_eq, nat_lt, nat_le, if◌then◌else◌, slice_index}
-use Rattle.trlab_words.specs.Chances.{happens_on}
+use Rattle.std.specs.Prelude.{ℕ, ◌+◌, ◌-◌, ◌&&◌, min, List, Bool, true, false, nat_eq, nat_lt, nat_le}
+use Rattle.std.specs.Prelude.{if◌then◌else◌, slice_index}
+use Rattle.trlab_words.specs.Words.{happens_on}
 use Rattle.trlab_code.specs.declared.view.View.{View}
 
 -- the speed after acceleration and slowing down: one cell per step faster, but at most the limit and the gap;

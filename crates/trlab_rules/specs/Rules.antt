@@ -1,16 +1,14 @@
 -- Rules, which are the accepted programs that drive the cars of a road; programs that compute the rule given
 -- by a function; and the standard rules, which compute the published models.
-use Rattle.std.specs.Prelude.{Option, IfSome, ◌≡◌, ℕ, Bool, List, slice_index, if◌then◌else◌, None, MatchOption}
+use Rattle.std.specs.Prelude.{Option, IfSome, ◌≡◌, ℕ, ◌&&◌, ◌||◌, nat_lt, Bool, false, List, slice_index}
+use Rattle.std.specs.{Prelude.{if◌then◌else◌, None, Some, MatchOption}, List.list_any}
+use Rattle.trlab_bounds.specs.declared.programs.TheConstants.{CERTAIN}
 use Rattle.trlab_code.specs.declared.program.Kind.TheVariants.{Motion, Change}
-use Rattle.trlab_verify.specs.Verified.{CheckedProgram, IsChecked}
-use Rattle.trlab_words.specs.Chances.{happens_on}
-use Rattle.trlab_code.specs.declared.instruction.Register.{Register}
-use Rattle.trlab_code.specs.declared.instruction.Instr.TheVariants.{Draw}
-use Rattle.trlab_code.specs.declared.view.View.{View}
-use Rattle.trlab_code.specs.Program.{Program}
-use Rattle.trlab_code.specs.Views.{IsViewInRange}
+use Rattle.trlab_code.specs.declared.instruction.{Register.Register, Instr.{Instr, TheVariants.Draw}}
+use Rattle.trlab_code.specs.{declared.view.View.View, Program.Program, Views.IsViewInRange}
 use Rattle.trlab_code.specs.Machine.{Flag, Goes, Crosses, Stays, Store, Writes, EndsWith, effect}
-use Rattle.trlab_verify.specs.Verdict.{IsAccepted}
+use Rattle.trlab_verify.specs.{Verified.{CheckedProgram, IsChecked}, Verdict.IsAccepted}
+use Rattle.trlab_words.specs.Words.{happens_on}
 use Rattle.trlab_rules.specs.Published.{nasch_speed, vdr_speed, rickert_crosses}
 use Rattle.trlab_rules.specs.Standard.{nasch_program, vdr_program, rickert_program}
 
@@ -23,6 +21,20 @@ pub record Programs : Type 0 where
 pub record IsRule (rule : Programs) : Type 0 where
   pub motion : IsChecked Motion rule.motion
   pub change : IfSome rule.change (IsChecked Change)
+
+-- does the instruction draw a random number? A draw of probability 0 or 1 needs none
+abbrev pub draws_randomly : Instr → Bool
+draws_randomly (Draw d k chance) = nat_lt 0 chance && nat_lt chance CERTAIN
+draws_randomly _ = false
+
+-- does a change program, if there is one, draw random numbers?
+abbrev pub change_draws : Option CheckedProgram → Bool
+change_draws None = false
+change_draws (Some change) = list_any draws_randomly change.program.instrs
+
+-- does a program of the rule draw random numbers?
+abbrev pub rule_draws : Programs → Bool
+rule_draws rule = list_any draws_randomly rule.motion.program.instrs || change_draws rule.change
 
 -- for every view in range and any random words, the motion program ends with the speed `speed view words`
 abbrev pub ComputesSpeed : (View → List ℕ → ℕ) → Program → Type 0

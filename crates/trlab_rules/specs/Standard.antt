@@ -1,11 +1,10 @@
 -- The programs of the standard rules. The target of a jump is the index of an instruction, counted from 0.
 use Rattle.std.specs.Prelude.{ℕ, List, [], ◌∷◌, ◌++◌}
-use Rattle.trlab_code.specs.declared.program.Kind.TheVariants.{Motion, Change}
-use Rattle.trlab_code.specs.declared.instruction.Register.TheVariants.{R0, R1, R2, R3}
+use Rattle.trlab_code.specs.{declared.program.Kind.TheVariants.{Motion, Change}, Program.Program}
+use Rattle.trlab_code.specs.declared.instruction.{Register.TheVariants.{R0, R1, R2, R3}, Instr.Instr}
 use Rattle.trlab_code.specs.declared.instruction.Input.TheVariants.{Speed, Limit, Gap, SideGap, SideBack}
-use Rattle.trlab_code.specs.declared.instruction.Instr.{Instr}
-use Rattle.trlab_code.specs.declared.instruction.Instr.TheVariants.{Num, Get, Side, Draw, Add, Sub, Min, Jump, JumpAtMost, JumpFalse, Go, Cross, Stay}
-use Rattle.trlab_code.specs.Program.{Program}
+use Rattle.trlab_code.specs.declared.instruction.Instr.TheVariants.{Num, Get, Side, Draw, Add, Sub, Min, Jump}
+use Rattle.trlab_code.specs.declared.instruction.Instr.TheVariants.{JumpAtMost, JumpFalse, Go, Cross, Stay}
 
 -- acceleration: the speed in R0 grows by the 1 in R1, up to the limit
 abbrev pub accelerate : List Instr

@@ -1,10 +1,13 @@
 //! A rule: the accepted programs that drive the cars of a road.
 
 ghost use Rattle.std.specs.Prelude.{◌≡◌, ◌↔◌, IsTrue, IfOk, option_map};
-ghost use Rattle.trlab_rules.specs.Rules.{IsRule, Programs};
+ghost use Rattle.std.specs.List.{list_any};
+ghost use Rattle.trlab_rules.specs.Rules.{IsRule, Programs, draws_randomly, rule_draws};
 
 use std::alloc::{AllocError, Global};
 use std::marker::Model;
+use trlab_bounds::programs::CERTAIN;
+use trlab_code::Instr;
 use trlab_verify::{Change, Motion};
 
 /// An accepted motion program, and for two lanes possibly an accepted change program.
@@ -33,6 +36,23 @@ impl Model for Rule {
     ghost invariant = { λ rule. IsRule (record { motion = rule.motion; change = rule.change }) };
 }
 
+/// Whether an instruction draws a random number. A draw of probability 0 or 1 needs none.
+fn draws_randomly(instr: Instr) -> bool
+    ensures { result ≡ draws_randomly instr }
+{
+    match instr {
+        Instr::Draw(_, _, chance) => 0 < chance && chance < CERTAIN,
+        _ => false,
+    }
+}
+
+/// Whether one of the instructions draws a random number.
+fn some_draws_randomly(instrs: &[Instr]) -> bool
+    ensures { result ≡ list_any draws_randomly instrs.now }
+{
+    instrs.iter().any(|instr| draws_randomly(*instr))
+}
+
 impl Rule {
     /// A rule from a motion program and possibly a change program.
     pub fn new(motion: Motion, change: Option<Change>) -> Rule
@@ -56,6 +76,17 @@ impl Rule {
         ensures rule { IsRule self.now }
     {
         self.change.as_ref()
+    }
+
+    /// Whether a program of the rule draws random numbers. The time of a step depends most on this.
+    pub fn draws(&self) -> bool
+        ensures { result ≡ rule_draws self.now }
+    {
+        some_draws_randomly(self.motion.code().instrs())
+            || match &self.change {
+                Some(change) => some_draws_randomly(change.code().instrs()),
+                None => false,
+            }
     }
 
     /// A copy of the rule.

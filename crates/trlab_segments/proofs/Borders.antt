@@ -1,10 +1,8 @@
 -- The borders of the segments; together the segments contain all cars.
-use Rattle.std.proofs.Common.{◌≡◌, ℕ, zero, suc, ◌+◌, ◌-◌, ◌*◌, ◌/◌, ◌<◌, ◌≤◌, List, [], ◌∷◌, ◌++◌, append-nil, map, refl, sym, ap, ◌∙◌, arith, le_trans, mul-le-mul_right, suc-mul, mul_comm}
-use Rattle.std.proofs.lemmas.Nat.{le-div}
-use Rattle.std.proofs.Math.Nat.{div-mul-le_self, div-eq_of_lt-le}
-use Rattle.std.specs.List.{range_with_len, flat_map}
-use Rattle.std.proofs.lemmas.List.{map-append}
-use Rattle.std.proofs.lemmas.Grind.{flat_map-append}
+use Rattle.std.proofs.Common.{◌≡◌, ℕ, zero, suc, ◌+◌, ◌-◌, ◌*◌, ◌/◌, ◌<◌, ◌≤◌, List, [], ◌∷◌, ◌++◌}
+use Rattle.std.proofs.Common.{append-nil, map, refl, sym, ap, ◌∙◌, arith, le_trans, mul-le-mul_right, suc-mul}
+use Rattle.std.proofs.{Common.{mul_comm, div-mul-le_self, flat_map}, lemmas.{Nat.le-div, List.map-append}}
+use Rattle.std.{proofs.{lemmas.Grind.flat_map-append, Math.Nat.div-eq_of_lt-le}, specs.List.range_with_len}
 use Rattle.trlab_segments.specs.Segments.{segment_count, first_car, segment}
 
 range_append : (a n k : ℕ) → range_with_len a (n + k) ≡ range_with_len a n ++ range_with_len (a + n) k

@@ -1,16 +1,12 @@
 -- The index at which each ticket is in a list, noted one ticket after another.
-use Rattle.std.proofs.Common.{◌≡◌, ℕ, zero, suc, ◌+◌, ◌<◌, ◌≤◌, eqb, cond, Bool, false, inl, inr, List, [], ◌∷◌, length, get_or, set, take, map, refl, sym, ap, ◌∙◌, subst, arith}
-use Rattle.std.proofs.lemmas.Grind.{get_or-set_at}
-use Rattle.std.proofs.lemmas.Bool.{eq-eqb}
-use Rattle.std.proofs.lemmas.Bool.Decides.{nat_tests, eqb_tells}
-use Rattle.std.proofs.lemmas.List.{get_or-set_other, take_all}
+use Rattle.std.proofs.Common.{◌≡◌, ℕ, zero, suc, ◌+◌, ◌<◌, ◌≤◌, eqb, cond, Bool, false, inl, inr, List, []}
+use Rattle.std.proofs.Common.{◌∷◌, length, get_or, set, take, map, refl, sym, ap, ◌∙◌, subst, arith, eq-eqb}
+use Rattle.std.proofs.Common.{get_or-set_other, take_all, Some, slice_get, option_map}
+use Rattle.std.proofs.lemmas.{Grind.get_or-set_at, Bool.Decides.{nat_tests, eqb_tells}}
 use Rattle.std.proofs.lemmas.List.Sums.{sum_by-cons, count_by_more_no}
 use Rattle.std.proofs.lemmas.Option.{slice_get-map, slice_get_read, slice_get_within, get_or_from_slice_get}
-use Rattle.std.specs.Prelude.{Some, slice_get, option_map}
-use Rattle.trlab_segments.specs.declared.parts.Part.{Part}
-use Rattle.trlab_segments.specs.Answered.{ticket_of}
-use Rattle.trlab_segments.specs.Knowledge.{IsPermutation, occurrences}
-use Rattle.trlab_segments.proofs.Steps.{whole_has}
+use Rattle.trlab_segments.specs.{declared.parts.Part.Part, Answered.ticket_of}
+use Rattle.trlab_segments.{specs.Knowledge.{IsPermutation, occurrences}, proofs.Steps.whole_has}
 use Rattle.trlab_strands.specs.Knowledge.{once_below}
 
 -- the index of each ticket among the first `seen` tickets has been noted

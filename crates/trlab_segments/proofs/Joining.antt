@@ -1,12 +1,10 @@
 -- A drawer with the tickets of two has the parts of both.
-use Rattle.std.proofs.Common.{◌≡◌, Bool, true, false, List, [], ◌++◌, ◌||◌, Option, Some, None, IfSome, MatchOption, Result, Ok, Err, IfOk, IsOkAnd, Vec, refl, All, map, ap, sym, ◌∙◌, subst}
-use Rattle.std.proofs.lemmas.List.{map-append}
-use Rattle.std.proofs.lemmas.List.Elements.{All-append}
+use Rattle.std.proofs.Common.{◌≡◌, Bool, true, false, List, [], ◌++◌, ◌||◌, Option, Some, None, IfSome}
+use Rattle.std.proofs.Common.{MatchOption, Result, Ok, Err, IfOk, IsOkAnd, Vec, refl, All, map, ap, sym, ◌∙◌}
+use Rattle.std.proofs.{Common.subst, lemmas.List.{map-append, Elements.All-append}}
 use Rattle.trlab_segments.specs.Answered.{HasParts, ticket_of}
 use Rattle.trlab_segments.specs.Drawers.{IsDrawerOf, IsJoined, HasDrawnNone, Joins, is_ended, tickets_of}
-use Rattle.trlab_segments.specs.declared.tickets.Drawer.{Drawer}
-use Rattle.trlab_segments.specs.declared.tickets.Tickets.{Tickets}
-use Rattle.trlab_segments.specs.declared.parts.Part.{Part}
+use Rattle.trlab_segments.specs.declared.{tickets.{Drawer.Drawer, Tickets.Tickets}, parts.Part.Part}
 
 or_true : (x : Bool) → (x || true) ≡ true
 or_true true = refl

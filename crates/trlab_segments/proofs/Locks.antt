@@ -1,10 +1,9 @@
 -- Both steps of a lock keep its rule.
-use Rattle.std.proofs.Common.{◌≡◌, ℕ, List, ◌∷◌, get_or, sym, refl, ◌∙◌, subst, arith, Option, Some, length-set, get_or-set_same}
-use mathlib.Core.Logic.{dite}
-use mathlib.Core.Option.{some}
+use Rattle.std.proofs.Common.{◌≡◌, ℕ, List, ◌∷◌, get_or, sym, refl, ◌∙◌, subst, arith, Option, Some}
+use Rattle.std.proofs.Common.{length-set, get_or-set_same}
+use mathlib.Core.{Logic.dite, Option.some}
 use native.Mathlib.Decide.{ℕ_discrete}
-use Rattle.atomic_table.specs.Table.{Me, keeps, takes, gives, Allows, Arrives}
-use Rattle.atomic_table.proofs.Lists.{set_here}
+use Rattle.atomic_table.{specs.Table.{Me, keeps, takes, gives, Allows, Arrives}, proofs.Lists.set_here}
 use Rattle.trlab_segments.specs.KeyedLocks.{SatisfiesLockInvariant, HasTakenValue}
 
 module _ {T K : Type 0} (Fits : T → Type 0) where

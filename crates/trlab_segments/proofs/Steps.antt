@@ -1,20 +1,22 @@
 -- Each step keeps the rule of the tickets.
-use Rattle.std.proofs.Common.{◌≡◌, ℕ, ◌+◌, ◌-◌, ◌%◌, ◌^◌, ◌<◌, ◌≤◌, ◌≢◌, ◌⊎◌, min, eqb, Bool, true, false, cond, ◌||◌, List, [], ◌∷◌, set, refl, sym, ap, ◌∙◌, subst, inl, inr, ⊎_elim, le_trans, le_refl, zero-le, true≢false, arith, length-set, get_or-set_same}
-use Rattle.std.specs.Prelude.{slice_index, sum_by, ◌↔◌}
-use Rattle.std.proofs.lemmas.List.Sums.{sum_by-cons, sum_by_push}
+use Rattle.std.proofs.Common.{◌≡◌, ℕ, ◌+◌, ◌-◌, ◌%◌, ◌^◌, ◌<◌, ◌≤◌, ◌≢◌, ◌⊎◌, min, eqb, Bool, true, false}
+use Rattle.std.proofs.Common.{cond, ◌||◌, List, [], ◌∷◌, set, refl, sym, ap, ◌∙◌, subst, inl, inr, ⊎_elim}
+use Rattle.std.proofs.Common.{le_trans, le_refl, zero-le, true≢false, arith, length-set, get_or-set_same}
+use Rattle.std.proofs.{Common.{slice_index, sum_by, ◌↔◌}, lemmas.List.Sums.{sum_by-cons, sum_by_push}}
 use Rattle.std.proofs.lemmas.Bool.Decides.{nat_tests}
 use mathlib.Core.Option.{some, none}
 use native.Mathlib.Decide.{dec_le}
 use lib.ListN.{get_elem?}
 use Rattle.atomic_table.specs.Table.{State, Me, step, Act, keeps, stepped, Allows, Splits, Joins}
-use Rattle.trlab_bounds.specs.declared.runs.TheConstants.{MAX_WORKERS}
 use Rattle.atomic_table.proofs.Lists.{at_set, set_again}
+use Rattle.trlab_bounds.specs.declared.runs.TheConstants.{MAX_WORKERS}
 use Rattle.trlab_strands.proofs.Seats.{total_set, each_set, each_snoc, alone, times_push, times_append}
-use Rattle.trlab_segments.specs.declared.ticket_rule.Plan.{Plan}
-use Rattle.trlab_segments.specs.declared.ticket_rule.TicketKnowledge.{TicketKnowledge}
 use Rattle.trlab_strands.specs.Knowledge.{once_below}
-use Rattle.trlab_segments.specs.Knowledge.{occurrences, IsPermutation, idle_knowledge, with_ticket, at_end, less_a_pass, one_pass, both_drawers, passes_at_end}
-use Rattle.trlab_segments.specs.Rule.{IsSoundDrawer, AreSoundDrawers, SatisfiesTicketInvariant, DrawsTicket, ReadsCounter, AgreesWithCounter}
+use Rattle.trlab_segments.specs.declared.ticket_rule.{Plan.Plan, TicketKnowledge.TicketKnowledge}
+use Rattle.trlab_segments.specs.Knowledge.{occurrences, IsPermutation, idle_knowledge, with_ticket, at_end}
+use Rattle.trlab_segments.specs.Knowledge.{less_a_pass, one_pass, both_drawers, passes_at_end, IsSoundDrawer}
+use Rattle.trlab_segments.specs.Knowledge.{AreSoundDrawers, SatisfiesTicketInvariant, DrawsTicket}
+use Rattle.trlab_segments.specs.Knowledge.{ReadsCounter, AgreesWithCounter}
 
 total_le : (f g : TicketKnowledge → ℕ) → ((v : TicketKnowledge) → f v ≤ g v) → (views : List TicketKnowledge) → sum_by f views ≤ sum_by g views
 total_le f g less [] = omega arith

@@ -1,18 +1,16 @@
--- Parts: the answers of a program for the cars of one segment of a road, and the parts that a worker returns.
+-- Parts, which are the answers for the cars of one segment, and the results of a phase so far.
 use Rattle.std.specs.Prelude.{◌≡◌, ℕ, ◌+◌, ◌<◌, true, Bool, List, All, map, length, get_or, slice_get, Some}
-use Rattle.std.specs.Prelude.{Result, IfOk, Vec, vec_len}
+use Rattle.std.specs.{Prelude.{Result, IfOk, Vec, vec_len, [], Option, IfSome, MatchOption}, Borrow.Bor}
 use Rattle.trlab_machine.specs.declared.dice.Dice.{Dice}
-use Rattle.trlab_road.specs.Cells.{Cells, cars}
-use Rattle.trlab_segments.specs.declared.parts.Part.{Part}
-use Rattle.trlab_segments.specs.declared.phase.Phase.{Phase}
-use Rattle.trlab_segments.specs.declared.tickets.Drawer.{Drawer}
-use Rattle.trlab_segments.specs.declared.tickets.Tickets.{Tickets}
-use Rattle.trlab_segments.specs.Drawers.{IsDrawerOf, is_ended, passes_of, tickets_of}
-use Rattle.trlab_segments.specs.Segments.{first_car}
+use Rattle.trlab_road.specs.{Cells.{Cells, cars}, declared.road.Road.Road}
+use Rattle.trlab_segments.specs.{declared.parts.Part.Part, Drawers.ticket_count, Segments.first_car}
+use Rattle.trlab_segments.specs.declared.{phase.Phase.Phase, tickets.Drawer.Drawer, pool.brief.Brief.Brief}
+use Rattle.trlab_segments.specs.declared.{tickets.Tickets.Tickets, pool.results.Results.Results}
+use Rattle.trlab_segments.specs.Drawers.{IsDrawerOf, is_ended, passes_of, tickets_of, HasDrawnNone}
 use Rattle.trlab_step.specs.Answers.{IsCrossingsPart, IsSpeedsPart}
 use Rattle.trlab_verify.specs.Verified.{CheckedProgram}
-use Rattle.std.specs.Borrow.{Bor}
-use Rattle.trlab_road.specs.declared.road.Road.{Road}
+
+-- Parts: the answers of a program for the cars of one segment of a road, and the parts that a worker returns.
 
 -- a road on which a motion program can run: any road
 abbrev pub IsAnyRoad : Cells → Type 0
@@ -85,3 +83,59 @@ ReturnsCrossings pre post = (alloc : _) (road : Bor Road) (change : Bor CheckedP
     → HasTwoLanes road.now → pre alloc road change dice
     × ((outcome : _) → post alloc road change dice outcome
     → IfOk outcome (λ crosses. IsCrossingsPart change.now dice.now road.now 0 (cars road.now) crosses.items))
+
+-- The results of a phase so far: the passes that no helper has taken, and the deposits of helpers, that is,
+-- their drawers and their parts. `answers` is always the relation of a program, dice and a road to its
+-- answers for the cars from one index up to another, as `IsSpeedsPart`.
+
+-- the brief is to run this program with these dice for the cars of this road
+abbrev pub IsBriefOf : {P : Type 0} → P → Dice → Cells → Brief P → Type 0
+IsBriefOf program dice road brief = (brief.program ≡ program) × (brief.dice ≡ dice) × (brief.road ≡ road)
+
+-- the last segment of a brief ends with the last car of its road
+abbrev pub CoversAllCars : {P : Type 0} → Brief P → Type 0
+CoversAllCars brief =
+    first_car (cars brief.road) (ticket_count brief.tickets) (ticket_count brief.tickets) ≡ cars brief.road
+
+-- a part has the answers of the brief's program for the cars of its segment
+abbrev pub IsPartOfBrief : {P A : Type 0} → (P → Dice → Cells → ℕ → ℕ → List A → Type 0)
+    → Brief P → Part A → Type 0
+IsPartOfBrief answers brief =
+    AnswersSegment answers brief.program brief.dice brief.road (ticket_count brief.tickets)
+
+-- the drawer belongs to the brief's tickets and has found none left, and `parts` has the right part for each
+-- ticket that it drew, in its order
+abbrev pub HasDone : {P A : Type 0} → (P → Dice → Cells → ℕ → ℕ → List A → Type 0)
+    → Brief P → Drawer → List (Part A) → Type 0
+HasDone answers brief drawer parts =
+    IsDrawerOf brief.tickets drawer × HasParts (IsPartOfBrief answers brief) drawer parts
+
+-- the drawer belongs to the brief's tickets; and unless an allocation failed, it has found none left, and
+-- there is the right part for each ticket that it drew
+abbrev pub IsRightResult : {P A B E : Type 0} → (P → Dice → Cells → ℕ → ℕ → List A → Type 0)
+    → Brief P → Drawer → Result (Vec (Part A) B) E → Type 0
+IsRightResult answers brief drawer parts_or_error =
+    IsDrawerOf brief.tickets drawer
+    × IfOk parts_or_error (λ parts. HasParts (IsPartOfBrief answers brief) drawer parts.items)
+
+-- the deposit of the helpers is right. With no drawer (`None`), no helper has deposited, and there are no
+-- parts; otherwise the drawer and the parts are a right result. In both cases there may be an error instead
+-- of the parts, if an allocation failed
+abbrev pub IsDeposited : {P A B E : Type 0} → (P → Dice → Cells → ℕ → ℕ → List A → Type 0)
+    → Brief P → Option Drawer → Result (Vec (Part A) B) E → Type 0
+IsDeposited answers brief deposited parts_or_error =
+    MatchOption deposited (IfOk parts_or_error (λ parts. parts.items ≡ []))
+    (λ drawer. IsRightResult answers brief drawer parts_or_error)
+
+-- the list `found` has the answers of the brief's program for all cars of its road, in standing order
+abbrev pub AnswersAll : {P A : Type 0} → (P → Dice → Cells → ℕ → ℕ → List A → Type 0)
+    → Brief P → List A → Type 0
+AnswersAll answers brief found = answers brief.program brief.dice brief.road 0 (cars brief.road) found
+
+-- the results of a phase so far are right: the brief's program can run on its road (`can_ask`), the drawer
+-- with the passes in reserve, if there is one, has drawn no ticket, and the deposit is right
+pub record AreResults {P A : Type 0} (answers : P → Dice → Cells → ℕ → ℕ → List A → Type 0)
+    (can_ask : Cells → Type 0) (brief : Brief P) (results : Results A) : Type 0 where
+  pub lanes : can_ask brief.road
+  pub reserve : IfSome results.reserve (HasDrawnNone brief.tickets)
+  pub done : IsDeposited answers brief results.done results.parts

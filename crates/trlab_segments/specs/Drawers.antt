@@ -1,8 +1,7 @@
 -- Tickets and drawers as callers see them.
-use Rattle.std.specs.Prelude.{◌≡◌, ℕ, ◌+◌, ◌<◌, ◌≤◌, Bool, false, ◌||◌, List, [], ◌∷◌, ◌++◌}
-use Rattle.std.specs.Prelude.{Option, MatchOption}
-use Rattle.trlab_segments.specs.declared.tickets.Tickets.{Tickets}
-use Rattle.trlab_segments.specs.declared.tickets.Drawer.{Drawer}
+use Rattle.std.specs.Prelude.{◌≡◌, ℕ, ◌+◌, ◌<◌, ◌≤◌, Bool, false, ◌||◌, List, [], ◌∷◌, ◌++◌, Option}
+use Rattle.std.specs.Prelude.{MatchOption}
+use Rattle.trlab_segments.specs.declared.tickets.{Tickets.Tickets, Drawer.Drawer}
 
 -- the number of tickets; for example, 3 tickets have the numbers 0, 1 and 2
 abbrev pub ticket_count : Tickets → ℕ

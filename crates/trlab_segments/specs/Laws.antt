@@ -1,14 +1,11 @@
 -- Laws of tickets and segments.
-use Rattle.std.specs.Prelude.{◌≡◌, ℕ, ◌+◌, ◌<◌, ◌≤◌, ◌↔◌, map}
-use Rattle.std.specs.List.{range_with_len, flat_map}
+use Rattle.std.specs.{Prelude.{◌≡◌, ℕ, ◌+◌, ◌<◌, ◌≤◌, ◌↔◌, map, flat_map}, List.range_with_len}
 use mathlib.Core.Option.{some}
 use lib.ListN.{get_elem?}
 use Rattle.atomic_table.specs.Table.{State}
 use Rattle.trlab_bounds.specs.declared.runs.TheConstants.{MAX_WORKERS}
-use Rattle.trlab_segments.specs.declared.ticket_rule.Plan.{Plan}
-use Rattle.trlab_segments.specs.declared.ticket_rule.TicketKnowledge.{TicketKnowledge}
-use Rattle.trlab_segments.specs.Knowledge.{IsPermutation}
-use Rattle.trlab_segments.specs.Rule.{SatisfiesTicketInvariant, counter_of}
+use Rattle.trlab_segments.specs.declared.ticket_rule.{Plan.Plan, TicketKnowledge.TicketKnowledge}
+use Rattle.trlab_segments.specs.Knowledge.{IsPermutation, SatisfiesTicketInvariant, counter_of}
 use Rattle.trlab_segments.specs.Segments.{segment_count, first_car, segment}
 
 -- if the ticket invariant holds, the counter is at most the number of tickets plus MAX_WORKERS

@@ -1,9 +1,7 @@
 pub mod Knowledge
-pub mod Rule
 pub mod Drawers
 pub mod Segments
 pub mod Laws
 pub mod Answered
 pub mod KeyedLocks
-pub mod Results
 pub mod Workers

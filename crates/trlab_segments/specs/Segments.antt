@@ -1,6 +1,5 @@
 -- The cars of a road in standing order, cut into adjacent segments. A ticket is the number of a segment.
-use Rattle.std.specs.Prelude.{ℕ, ◌+◌, ◌-◌, ◌*◌, ◌/◌, min, List}
-use Rattle.std.specs.List.{range_with_len}
+use Rattle.std.specs.{Prelude.{ℕ, ◌+◌, ◌-◌, ◌*◌, ◌/◌, min, List}, List.range_with_len}
 
 -- the number of segments of `cars` cars for some workers: four per worker, but at most one per car. For
 -- example, for 2 workers 100 cars are cut into 8 segments, and 3 cars into 3

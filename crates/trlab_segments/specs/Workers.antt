@@ -1,7 +1,6 @@
 -- The number of workers of a crew and of a pool.
 use Rattle.std.specs.Prelude.{ℕ}
-use Rattle.trlab_segments.specs.declared.crew.Crew.{Crew}
-use Rattle.trlab_segments.specs.declared.pool.Pool.{Pool}
+use Rattle.trlab_segments.specs.declared.{crew.Crew.Crew, pool.Pool.Pool}
 
 -- the number of workers of a crew; the calling thread is one of them
 abbrev pub crew_workers : {R G : Type 0} → Crew R G → ℕ

@@ -9,7 +9,7 @@ ghost use Rattle.trlab_segments.specs.Laws.{SegmentsAreAllCars, SegmentsBeginAnd
 
 /// The shared counter stays near the count, so it never overflows. A drawer with all passes has all tickets exactly if
 /// the counter has reached the count.
-pub fn counter_says_what_was_drawn()
+pub fn counter_shows_drawn_tickets()
     ensures bounded { CounterIsBounded }
     ensures all { AllPassesHaveAllTickets }
 {}

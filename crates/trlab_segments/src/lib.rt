@@ -23,5 +23,5 @@ mod tickets;
 pub use crew::{Calls, Crew, step_shared};
 pub use phase::{Asked, Phase};
 pub use pool::{Pool, workers_for};
-pub use segment::{Gate, OpenGate, Segment, segment_count};
+pub use segment::{CHANGE_PHASE, Gate, MOTION_PHASE, OpenGate, Segment, segment_count};
 pub use tickets::{Drawer, Tickets};

@@ -8,7 +8,7 @@ ghost use Rattle.trlab_segments.specs.Answered.{HasTwoLanes, IsAnyRoad};
 ghost use Rattle.trlab_step.proofs.Joined.{crosses_begin, crosses_join, speeds_begin, speeds_join};
 ghost use Rattle.trlab_step.specs.Answers.{IsCrossingsPart, IsSpeedsPart};
 
-use crate::segment::Segment;
+use crate::segment::{CHANGE_PHASE, MOTION_PHASE, Segment};
 use std::alloc::{AllocError, Global};
 use trlab_machine::Dice;
 use trlab_road::Road;
@@ -25,7 +25,7 @@ pub struct Phase<'a, P> {
 
 /// A program that has an answer of type `A` for each car of a road.
 pub trait Asked<A>: Sized {
-    /// The phase in which the program runs: 0 is the lane change, 1 the motion.
+    /// The phase in which the program runs: `CHANGE_PHASE` or `MOTION_PHASE`.
     const PHASE: u32;
 
     // The roads for whose cars the program can run.
@@ -41,7 +41,7 @@ pub trait Asked<A>: Sized {
     /// If an allocation fails.
     fn ask(list: &mut Vec<A>, phase: &Phase<Self>, part: Segment) -> Result<(), AllocError>
         requires rising { part.from ≤ part.to }
-        requires within { part.to ≤ cars phase.now.road.now }
+        requires in_range { part.to ≤ cars phase.now.road.now }
         requires lanes { can_ask phase.now.road.now }
         ensures { OnOk result (answers phase.now.program.now phase.now.dice.now
             phase.now.road.now part.from part.to list.new.items) };
@@ -65,7 +65,7 @@ pub trait Asked<A>: Sized {
 }
 
 impl Asked<u8> for Motion {
-    const PHASE: u32 = 1;
+    const PHASE: u32 = MOTION_PHASE;
 
     ghost can_ask = { IsAnyRoad };
 
@@ -86,7 +86,7 @@ impl Asked<u8> for Motion {
 }
 
 impl Asked<bool> for Change {
-    const PHASE: u32 = 0;
+    const PHASE: u32 = CHANGE_PHASE;
 
     ghost can_ask = { HasTwoLanes };
 

@@ -55,8 +55,8 @@ impl<'a, R: Threads + Wait + Sync, G: Gate + Sync> Pool<'a, R, G> {
     /// Keeps only as many workers as save time on a road with `cars` cars (`workers_for`). The helpers stay awake for a
     /// while between two phases.
     pub fn with_workers_for(self, cars: u32, draws: bool) -> Pool<'a, R, G>
-        ensures some { 0 < pool_workers result }
-        ensures few { pool_workers result ≤ pool_workers self.entry }
+        ensures at_least_one { 0 < pool_workers result }
+        ensures at_most_workers { pool_workers result ≤ pool_workers self.entry }
         ensures used { let share = if draws then DRAWING_CARS_PER_WORKER else CARS_PER_WORKER in
             pool_workers result ≤ max 1 (cars / share) }
     {
@@ -101,8 +101,8 @@ impl<'a, R: Threads + Wait + Sync, G: Gate + Sync> Pool<'a, R, G> {
 /// per processor and one per `CARS_PER_WORKER` cars (`DRAWING_CARS_PER_WORKER` if a program `draws` random numbers).
 pub fn workers_for<R: Threads>(rt: &R, workers: u32, cars: u32, draws: bool) -> u32
     requires { 0 < workers }
-    ensures some { 0 < result }
-    ensures few { result ≤ workers }
+    ensures at_least_one { 0 < result }
+    ensures at_most_workers { result ≤ workers }
     ensures used { let share = if draws then DRAWING_CARS_PER_WORKER else CARS_PER_WORKER in
         result ≤ max 1 (cars / share) }
 {
@@ -113,7 +113,7 @@ pub fn workers_for<R: Threads>(rt: &R, workers: u32, cars: u32, draws: bool) -> 
 
 /// The number of cars that keep a worker busy, if a program `draws` random numbers or if none does.
 fn cars_per_worker(draws: bool) -> u32
-    ensures some { 0 < result }
+    ensures at_least_one { 0 < result }
     ensures value { result ≡ (if draws then DRAWING_CARS_PER_WORKER else CARS_PER_WORKER) }
 {
     if draws {
@@ -126,8 +126,8 @@ fn cars_per_worker(draws: bool) -> u32
 /// The number of workers, but at most one per processor; one if the number of processors is unknown.
 fn within_processors<R: Threads>(rt: &R, workers: u32) -> u32
     requires { 0 < workers }
-    ensures some { 0 < result }
-    ensures few { result ≤ workers }
+    ensures at_least_one { 0 < result }
+    ensures at_most_workers { result ≤ workers }
 {
     let processors = match thread::available_parallelism(rt) {
         Ok(count) => count.get(),

@@ -25,7 +25,7 @@ fn first_car(cars: u32, count: u32, number: u32) -> u32
     requires any { 0 < count }
     requires number { number ≤ count }
     ensures value { result ≡ first_car cars count number }
-    ensures within { result ≤ cars }
+    ensures in_range { result ≤ cars }
 {
     (number as u64 * cars as u64 / count as u64) as u32
 }
@@ -36,7 +36,7 @@ impl Segment {
         requires { number < count }
         ensures from { result.from ≡ first_car cars count number }
         ensures to { result.to ≡ first_car cars count (number + 1) }
-        ensures within { (result.from ≤ result.to) × (result.to ≤ cars) }
+        ensures in_range { (result.from ≤ result.to) × (result.to ≤ cars) }
     {
         Segment {
             from: first_car(cars, count, number),
@@ -45,11 +45,17 @@ impl Segment {
     }
 }
 
+/// The number by which a gate knows the lane changes of a step.
+pub const CHANGE_PHASE: u32 = 0;
+
+/// The number by which a gate knows the motion of a step.
+pub const MOTION_PHASE: u32 = 1;
+
 /// A worker passes the gate before it asks the cars of a segment. A gate influences no answer; it may hold a worker up,
 /// so that a test can observe several workers at once.
 pub trait Gate {
-    /// Lets a worker (0 is the calling thread) begin a segment of a phase (0 is the lane change, 1 the
-    /// motion) of a step of the road with this number.
+    /// Lets a worker (0 is the calling thread) begin a segment of a phase (`CHANGE_PHASE` or `MOTION_PHASE`) of a step
+    /// of the road with this number.
     fn pass(&self, number: u32, worker: u32, phase: u32, segment: u32);
 }
 

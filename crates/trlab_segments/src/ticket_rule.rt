@@ -25,8 +25,7 @@ pub struct TicketKnowledge {
 pub struct OncePerTicket;
 
 impl TableRule<u8, TicketKnowledge, Plan> for OncePerTicket {
-    ghost use Rattle.trlab_segments.specs.Rule.{SatisfiesTicketInvariant};
-    ghost use Rattle.trlab_segments.specs.Knowledge.{first_drawer};
+    ghost use Rattle.trlab_segments.specs.Knowledge.{SatisfiesTicketInvariant, first_drawer};
 
     ghost holds = { SatisfiesTicketInvariant };
 
@@ -37,7 +36,7 @@ impl TableRule<u8, TicketKnowledge, Plan> for OncePerTicket {
 pub struct DrawNext;
 
 impl Play<u8, TicketKnowledge> for DrawNext {
-    ghost use Rattle.trlab_segments.specs.Rule.{DrawsTicket};
+    ghost use Rattle.trlab_segments.specs.Knowledge.{DrawsTicket};
 
     ghost then = { DrawsTicket };
 }
@@ -46,7 +45,7 @@ impl Play<u8, TicketKnowledge> for DrawNext {
 pub struct ReadCounter;
 
 impl Play<u8, TicketKnowledge> for ReadCounter {
-    ghost use Rattle.trlab_segments.specs.Rule.{ReadsCounter};
+    ghost use Rattle.trlab_segments.specs.Knowledge.{ReadsCounter};
 
     ghost then = { ReadsCounter };
 }

@@ -154,6 +154,7 @@ impl Tickets {
         ensures ended { HasAllPasses self drawer → is_ended drawer ≡ true → IsOk result }
     {
         let mut drawer = drawer;
+        // Reads the counter, by the step that is fixed for this call: a `fetch_add` of 0.
         let next = self
             .table
             .shared

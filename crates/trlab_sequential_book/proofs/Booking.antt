@@ -1,29 +1,27 @@
 -- Facts of the book machine.
-use Rattle.std.proofs.Common.{◌≡◌, ℕ, ◌+◌, ◌<◌, ◌≤◌, ◌==◌, ◌&&◌, ◌↔◌, IsTrue, not, ltb, [], Bool, true, false, List, Option, Some, None, length, ap, sym, ◌∙◌, refl, slice_get, slice_set, slice_index_or, MatchBool, MatchOption, IfOk, Result, Ok, Err, subst}
-use Rattle.std.proofs.lemmas.Option.{slice_get-get_or, get_or_from_slice_get}
-use Rattle.std.proofs.lemmas.List.{set-get_or}
-use Rattle.std.proofs.lemmas.Bool.{and_parts, cond-false, cond-true, false≢true, eqb-true, ltb-false}
-use Rattle.std.specs.Prelude.{if◌then◌else◌}
-use Rattle.std.specs.List.{position}
+use Rattle.std.proofs.Common.{◌≡◌, ℕ, ◌+◌, ◌<◌, ◌≤◌, ◌==◌, ◌&&◌, ◌↔◌, IsTrue, not, ltb, [], Bool, true, false}
+use Rattle.std.proofs.Common.{List, Option, Some, None, length, ap, sym, ◌∙◌, refl, slice_get, slice_set}
+use Rattle.std.proofs.Common.{slice_index_or, MatchBool, MatchOption, IfOk, Result, Ok, Err, subst, eqb-true}
+use Rattle.std.proofs.Common.{ltb-false, if◌then◌else◌, position}
+use Rattle.std.proofs.lemmas.{Option.{slice_get-get_or, get_or_from_slice_get}, List.set-get_or}
+use Rattle.std.proofs.lemmas.Bool.{and_parts, cond-false, cond-true, false≢true}
 use Rattle.trlab_road.specs.Cells.{Cells}
-use Rattle.trlab_step.specs.declared.tally.StepTally.{StepTally}
-use Rattle.trlab_step.specs.Run.{IsReachedByRun, Progress, IsRoadAt, Sheet, in_force}
-use Rattle.trlab_sequential_book.specs.declared.event.Call.{Call}
-use Rattle.trlab_sequential_book.specs.declared.event.Offered.{Offered}
-use Rattle.trlab_sequential_book.specs.Answers.{give_back_reply, done_reply, number_reply, order_reply, read_reply}
-use Rattle.trlab_sequential_book.specs.declared.lease.ExecutedStep.{ExecutedStep}
-use Rattle.trlab_step.proofs.RunLaws.{road_at_is_one}
-use Rattle.trlab_sequential_book.specs.Jobs.{progress_of, run_start}
-use Rattle.trlab_sequential_book.specs.Sheets.{RanUnderSheet}
-use Rattle.trlab_sequential_book.specs.Leases.{FitsOrder, LeaseState}
-use Rattle.trlab_sequential_book.specs.declared.fault.BookFault.{BookFault}
-use Rattle.trlab_sequential_book.specs.declared.fault.BookFault.TheVariants.{HistoryFull, NoSuchJob, StrangerLease}
-use Rattle.trlab_sequential_book.specs.declared.event.Reply.{Reply}
+use Rattle.trlab_step.specs.{declared.tally.StepTally.StepTally, Run.{IsReachedByRun, Progress, IsRoadAt}}
+use Rattle.trlab_step.{specs.Run.{Sheet, in_force}, proofs.RunLaws.road_at_is_one}
+use Rattle.trlab_sequential_book.specs.declared.{event.{Call.Call, Reply.Reply}, order.Order.Order}
+use Rattle.trlab_sequential_book.specs.declared.{event.Offered.Offered, lease.ExecutedStep.ExecutedStep}
 use Rattle.trlab_sequential_book.specs.declared.event.Reply.TheVariants.{Done, Leased, NoLease, Refused, Seen}
-use Rattle.trlab_sequential_book.specs.declared.order.Order.{Order}
-use Rattle.trlab_sequential_book.specs.declared.seed.Seed.{Seed}
-use Rattle.trlab_sequential_book.specs.Comparison.{IsFresh, IsFreshIfLent, RunsRoadOfJob, HasRuleInForce, RunsRoadOfItsJob, ShowsJob, IsSnapshotOf, LeaseCall}
-use Rattle.trlab_sequential_book.specs.Machine.{JobState, JobOutcome, JobsOutcome, BookState, after, is_free, has_full_history, is_out, accepts_lease, give_back_outcome, lease_outcome, next_after, on_free, on_job, read_outcome, refusal, reply_of, outcome_of_call}
+use Rattle.trlab_sequential_book.specs.declared.fault.BookFault.{BookFault, TheVariants.StrangerLease}
+use Rattle.trlab_sequential_book.specs.declared.fault.BookFault.TheVariants.{HistoryFull, NoSuchJob}
+use Rattle.trlab_sequential_book.specs.{declared.seed.Seed.Seed, Machine.{refusal, reply_of, outcome_of_call}}
+use Rattle.trlab_sequential_book.specs.Histories.{give_back_reply, done_reply, number_reply, order_reply}
+use Rattle.trlab_sequential_book.specs.{Histories.read_reply, Sheets.RanUnderSheet}
+use Rattle.trlab_sequential_book.specs.Comparison.{progress_of, run_seed, IsFresh, IsFreshIfLent}
+use Rattle.trlab_sequential_book.specs.Comparison.{RunsRoadOfJob, HasRuleInForce, RunsRoadOfItsJob, ShowsJob}
+use Rattle.trlab_sequential_book.specs.{Comparison.{IsSnapshotOf, LeaseCall}, Leases.{FitsOrder, LeaseState}}
+use Rattle.trlab_sequential_book.specs.Machine.{JobState, JobOutcome, JobsOutcome, BookState, after, is_free}
+use Rattle.trlab_sequential_book.specs.Machine.{has_full_history, is_out, accepts_lease, give_back_outcome}
+use Rattle.trlab_sequential_book.specs.Machine.{lease_outcome, next_after, on_free, on_job, read_outcome}
 
 -- a job with these fields
 abbrev pub job_state : Seed → Sheet → ℕ → ℕ → ℕ → Bool → Option ℕ → JobState
@@ -143,7 +141,7 @@ pub fresh_run : (job : JobState) (lease : LeaseState) (road : Cells) (sum : Step
 fresh_run job lease road sum run key number base none = record {
   key = key;
   number = number;
-  base = subst (λ (r : Cells). IsRoadAt (run_start job.seed) job.sheet job.done r) (sym base) (sum, run.comes);
+  base = subst (λ (r : Cells). IsRoadAt (run_seed job.seed) job.sheet job.done r) (sym base) (sum, run.comes);
   rules = λ k ran at. absurd (no_run k ran (subst (λ (xs : List ExecutedStep). slice_get xs k ≡ Some ran) none at));
 }
   where
@@ -168,7 +166,7 @@ pub runs_where : (job now : JobState) (lease : LeaseState) (road : Cells) (sum :
     → lease.key ≡ job.seed.key → lease.road_number ≡ job.seed.number → lease.base.road ≡ road
     → IsTrue b ↔ RanUnderSheet job.sheet lease.base.step lease.applied → IsTrue b ↔ RunsRoadOfJob now lease
 runs_where job now lease road sum b view run key number base same =
-    let B : Cells → Type 0 = λ r. IsRoadAt (run_start job.seed) job.sheet job.done r in
+    let B : Cells → Type 0 = λ r. IsRoadAt (run_seed job.seed) job.sheet job.done r in
     let mine = of_job job now road sum view run in
     subst (λ (s : JobState). IsTrue b ↔ RunsRoadOfJob s lease) view
     (λ h. record { key = key; number = number; base = subst B (sym base) (sum, mine.comes); rules = same.0 h }, λ own. same.1 own.rules)
@@ -177,7 +175,7 @@ runs_where job now lease road sum b view run key number base same =
 pub runs_not : (job now : JobState) (lease : LeaseState) (road : Cells) (sum : StepTally) → job ≡ now → IsReachedByRun (progress_of now.seed now.sheet now.done road sum)
     → (lease.base.road ≡ road → ⊥) → RunsRoadOfJob now lease → ⊥
 runs_not job now lease road sum view run other own =
-    other (road_at_is_one (run_start now.seed) now.sheet now.done lease.base.road road own.base (sum, run.comes))
+    other (road_at_is_one (run_seed now.seed) now.sheet now.done lease.base.road road own.base (sum, run.comes))
 
 -- a lease that is returned is refused if it is not the one that is out, and accepted if it is
 pub back_refused : (lease : Offered) (job : JobState) → accepts_lease lease job ≡ false → give_back_outcome lease job ≡ refusal StrangerLease job

@@ -1,14 +1,10 @@
 -- Rules with the same encodings are equal.
-use Rattle.std.proofs.Common.{◌≡◌, ◌∙◌, ℕ, ◌≤◌, [], refl, sym, ap, subst, arith}
-use Rattle.std.specs.Prelude.{List, Option, Some, None, IfSome}
-use Rattle.trlab_code.specs.declared.program.Kind.{Kind}
-use Rattle.trlab_code.specs.declared.program.Kind.TheVariants.{Motion, Change}
-use Rattle.trlab_code.specs.declared.instruction.Instr.{Instr}
-use Rattle.trlab_code.specs.Program.{Program}
-use Rattle.trlab_code.specs.Encoding.{encoding}
+use Rattle.std.proofs.Common.{◌≡◌, ◌∙◌, ℕ, ◌≤◌, [], refl, sym, ap, subst, arith, List, Option, Some, None}
+use Rattle.std.proofs.Common.{IfSome}
+use Rattle.trlab_code.specs.declared.program.Kind.{Kind, TheVariants.{Motion, Change}}
+use Rattle.trlab_code.specs.{declared.instruction.Instr.Instr, Program.Program, Encoding.encoding}
 use Rattle.trlab_code.proofs.Injective.{same_program}
-use Rattle.trlab_verify.specs.Verified.{CheckedProgram, IsChecked}
-use Rattle.trlab_verify.specs.Verdict.{IsLongest}
+use Rattle.trlab_verify.specs.{Verified.{CheckedProgram, IsChecked}, Verdict.IsLongest}
 use Rattle.trlab_rules.specs.Rules.{Programs}
 use Rattle.trlab_sequential_book.specs.Encoded.{IsEncoded, change_bytes}
 

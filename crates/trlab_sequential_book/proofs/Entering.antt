@@ -1,14 +1,15 @@
 -- A rule that enters a sheet: the result is a sheet, and earlier steps keep their rules.
-use Rattle.std.proofs.Common.{◌≡◌, ℕ, zero, suc, ◌+◌, ◌<◌, ◌≤◌, Bool, [], ◌∷◌, ◌++◌, ap, sym, ◌∙◌, refl, arith, length, ltb, length-append, append-nil, ◌≢◌, ◌==◌, ◌||◌, not, true, false, subst}
-use Rattle.std.proofs.lemmas.Bool.{ltb-true, lt-ltb, le-ltb, lt-leb, cond_both, cond-true, cond-false, ltb-false}
+use Rattle.std.proofs.Common.{◌≡◌, ℕ, zero, suc, ◌+◌, ◌<◌, ◌≤◌, Bool, [], ◌∷◌, ◌++◌, ap, sym, ◌∙◌, refl}
+use Rattle.std.proofs.Common.{arith, length, ltb, length-append, append-nil, ◌≢◌, ◌==◌, ◌||◌, not, true}
+use Rattle.std.proofs.Common.{false, subst, ltb-true, lt-ltb, le-ltb, ltb-false, Option, Some, None, All}
+use Rattle.std.proofs.Common.{filter, nat_le, unwrap_or, if◌then◌else◌}
+use Rattle.std.proofs.lemmas.Bool.{lt-leb, cond_both, cond-true, cond-false}
 use Rattle.std.proofs.lemmas.List.Elements.{filter-append, All-filter, All-append}
-use Rattle.std.specs.Prelude.{Option, Some, None, All, filter, nat_le, unwrap_or, if◌then◌else◌}
 use Rattle.trlab_rules.specs.Rules.{Programs}
 use Rattle.trlab_road.specs.Cells.{Cells}
-use Rattle.trlab_step.specs.declared.tally.StepTally.{StepTally}
-use Rattle.trlab_step.specs.Run.{Seed, Sheet, IsSheet, StepsIncreaseFrom, in_force, ComesTo, IsRuleFor, IsReachedByRun}
+use Rattle.trlab_step.specs.{declared.tally.StepTally.StepTally, Run.{Seed, Sheet, IsSheet}}
+use Rattle.trlab_step.specs.Run.{StepsIncreaseFrom, in_force, ComesTo, IsRuleFor, IsReachedByRun, suits}
 use Rattle.trlab_sequential_book.specs.Sheets.{BeginBy, IsBookSheet, with_rule_from}
-use Rattle.trlab_sequential_book.specs.Leases.{suits}
 use Rattle.trlab_sequential_book.specs.Machine.{JobState, JobOutcome, refusal, replace_outcome}
 use Rattle.trlab_sequential_book.specs.declared.sheet.TheConstants.{MAX_ENTRIES}
 use Rattle.trlab_sequential_book.specs.declared.event.Reply.TheVariants.{Number}

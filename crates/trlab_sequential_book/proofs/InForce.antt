@@ -1,14 +1,11 @@
 -- The entry in force is the last one that has begun.
-use Rattle.std.proofs.Common.{◌≡◌, ℕ, zero, suc, ◌+◌, ◌<◌, ◌≤◌, Bool, List, [], ◌∷◌, subst, inl, inr, length, get_or, refl, sym, ap, ◌∙◌, arith, true, false}
-use Rattle.std.proofs.lemmas.Bool.{le-leb, lt-leb, false≢true}
-use Rattle.std.proofs.lemmas.Option.{slice_get-get_or}
-use Rattle.std.proofs.Math.Nat.{eq-or-lt_of_le}
-use Rattle.std.specs.Prelude.{All, slice_get, Option, Some, None, nat_le, unwrap_or, option_map, if◌then◌else◌}
-use Rattle.std.specs.List.{AllWithin}
+use Rattle.std.proofs.Common.{◌≡◌, ℕ, zero, suc, ◌+◌, ◌<◌, ◌≤◌, Bool, List, [], ◌∷◌, subst, inl, inr, length}
+use Rattle.std.proofs.Common.{get_or, refl, sym, ap, ◌∙◌, arith, true, false, le-leb, eq-or-lt_of_le, All}
+use Rattle.std.proofs.Common.{slice_get, Option, Some, None, nat_le, unwrap_or, option_map, if◌then◌else◌}
+use Rattle.std.{proofs.lemmas.{Bool.{lt-leb, false≢true}, Option.slice_get-get_or}, specs.List.AllWithin}
 use Rattle.trlab_rules.specs.Rules.{Programs}
 use Rattle.trlab_step.specs.Run.{Sheet, StepsIncreaseFrom, IsSheet, in_force}
-use Rattle.trlab_sequential_book.specs.declared.lease.ExecutedStep.{ExecutedStep}
-use Rattle.trlab_sequential_book.specs.Leases.{IsSteady}
+use Rattle.trlab_sequential_book.specs.{declared.lease.ExecutedStep.ExecutedStep, Leases.IsSteady}
 use Rattle.trlab_sequential_book.specs.Sheets.{RanUnderSheet, entry_in_force}
 
 -- the steps of a sheet rise from 0 on

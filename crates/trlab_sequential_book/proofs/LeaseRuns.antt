@@ -1,25 +1,19 @@
 -- The steps that a lease has run continue a job's road and its tally.
-use Rattle.std.proofs.Common.{◌≡◌, ℕ, suc, ◌+◌, ◌<◌, ◌==◌, not, true, Option, None, List, [], ◌∷◌, ◌++◌, refl, sym, ◌∙◌, ap, subst, length, length-append, arith, get_or, drop}
-use Rattle.std.proofs.lemmas.List.{drop_more}
-use Rattle.std.specs.Prelude.{◌&&◌, IsSome, Some, is_some, nat_le, if◌then◌else◌}
+use Rattle.std.proofs.Common.{◌≡◌, ℕ, suc, ◌+◌, ◌<◌, ◌==◌, not, true, Option, None, List, [], ◌∷◌, ◌++◌, refl}
+use Rattle.std.proofs.Common.{sym, ◌∙◌, ap, subst, length, length-append, arith, get_or, drop, ◌&&◌, IsSome}
+use Rattle.std.proofs.{Common.{Some, is_some, nat_le, if◌then◌else◌}, lemmas.List.drop_more}
 use Rattle.trlab_road.specs.Cells.{Cells}
 use Rattle.trlab_rules.specs.Rules.{Programs}
 use Rattle.trlab_machine.specs.declared.dice.Dice.{Dice}
 use Rattle.trlab_verify.specs.Verified.{CheckedProgram}
-use Rattle.trlab_step.proofs.AskedCars.{same_dice}
+use Rattle.trlab_step.proofs.{AskedCars.same_dice, RunLaws.{force_all, run_continues, road_at_is_one}}
+use Rattle.trlab_step.{proofs.OnTheWay.{IsSmallSum, like_start, room_for}, specs.Answers.dice_of}
+use Rattle.trlab_step.specs.{Next.IsNext, Run.{Seed, Sheet, ComesTo, in_force, tally_sum, IsRuleFor}}
+use Rattle.trlab_step.specs.{Run.{IsReachedByRun, suits}, declared.tally.StepTally.StepTally}
 use Rattle.trlab_words.specs.declared.key.Key.{Key}
-use Rattle.trlab_step.specs.Answers.{dice_of}
-use Rattle.trlab_step.specs.Next.{IsNext}
-use Rattle.trlab_step.specs.Run.{Seed, Sheet, ComesTo, in_force, tally_sum, IsRuleFor, IsReachedByRun}
-use Rattle.trlab_step.specs.declared.tally.StepTally.{StepTally}
-use Rattle.trlab_step.proofs.RunLaws.{force_all, run_goes_on, road_at_is_one}
-use Rattle.trlab_step.proofs.OnTheWay.{IsSmallSum, like_start, room_for}
-use Rattle.trlab_sequential_book.specs.declared.lease.ExecutedStep.{ExecutedStep}
-use Rattle.trlab_sequential_book.specs.Sheets.{RanUnderSheet}
-use Rattle.trlab_sequential_book.specs.Leases.{LeadsTo, LeaseState, IsLease, suits, with_executed_step}
-use Rattle.trlab_sequential_book.specs.Comparison.{RunsRoadOfJob}
-use Rattle.trlab_sequential_book.specs.Jobs.{run_start, progress_of}
-use Rattle.trlab_sequential_book.specs.Machine.{JobState}
+use Rattle.trlab_sequential_book.specs.{declared.lease.ExecutedStep.ExecutedStep, Sheets.RanUnderSheet}
+use Rattle.trlab_sequential_book.specs.Leases.{LeadsTo, LeaseState, IsLease, with_executed_step}
+use Rattle.trlab_sequential_book.specs.{Comparison.{RunsRoadOfJob, run_seed, progress_of}, Machine.JobState}
 
 -- one more step
 pub leads_push : (key : List ℕ) (number step : ℕ) (road last next : Cells) (xs : List ExecutedStep) (ran : ExecutedStep) → LeadsTo key number step road xs last
@@ -53,7 +47,7 @@ go_on seed sheet step sum ran more last way =
     let here : step + 0 ≡ step = omega arith in
     let under : in_force sheet step ≡ Some ran.rule = subst (λ s. in_force sheet s ≡ Some ran.rule) here (way.rules 0 ran refl) in
     let after = if nat_le seed.warm step then tally_sum sum ran.tally else sum in
-    let comes : ComesTo seed sheet (suc step) next after = run_goes_on seed sheet step way.road next sum ran.tally ran.rule way.run.comes under is in
+    let comes : ComesTo seed sheet (suc step) next after = run_continues seed sheet step way.road next sum ran.tally ran.rule way.run.comes under is in
     let like = like_start seed sheet (suc step) next after way.run.legal way.run.suits comes in
     let one : suc step ≡ step + 1 = omega arith in
     record {
@@ -87,9 +81,9 @@ way_suits seed sheet step at sum ran last rule way under =
 
 -- a lease of a job's road, from the job's step on
 pub way_of_lease : (job : JobState) (lease : LeaseState) (road : Cells) (sum : StepTally) → IsReachedByRun (progress_of job.seed job.sheet job.done road sum) → IsLease lease → RunsRoadOfJob job lease → lease.base.step ≡ job.done
-    → WayOn (run_start job.seed) job.sheet job.done sum lease.applied lease.road
+    → WayOn (run_seed job.seed) job.sheet job.done sum lease.applied lease.road
 way_of_lease job lease road sum run is own base =
-    let same : lease.base.road ≡ road = road_at_is_one (run_start job.seed) job.sheet job.done lease.base.road road own.base (sum, run.comes) in
+    let same : lease.base.road ≡ road = road_at_is_one (run_seed job.seed) job.sheet job.done lease.base.road road own.base (sum, run.comes) in
     let K : Key → Type 0 = λ k. LeadsTo k.0 lease.road_number lease.base.step lease.base.road lease.applied lease.road in
     let N : ℕ → Type 0 = λ n. LeadsTo job.seed.key.0 n lease.base.step lease.base.road lease.applied lease.road in
     let S : ℕ → Type 0 = λ s. LeadsTo job.seed.key.0 job.seed.number s lease.base.road lease.applied lease.road in
@@ -103,9 +97,9 @@ way_of_lease job lease road sum run is own base =
 
 -- the same for a job that is seen through its model
 pub way_begins : (state now : JobState) (lease : LeaseState) (road : Cells) (sum : StepTally) → state ≡ now → IsReachedByRun (progress_of state.seed state.sheet state.done road sum) → IsLease lease
-    → RunsRoadOfJob now lease → lease.base.step ≡ now.done → WayOn (run_start now.seed) now.sheet state.done sum lease.applied lease.road
+    → RunsRoadOfJob now lease → lease.base.step ≡ now.done → WayOn (run_seed now.seed) now.sheet state.done sum lease.applied lease.road
 way_begins state now lease road sum view run is own base =
-    let P : JobState → Type 0 = λ s. RunsRoadOfJob s lease → lease.base.step ≡ s.done → WayOn (run_start s.seed) s.sheet state.done sum lease.applied lease.road in
+    let P : JobState → Type 0 = λ s. RunsRoadOfJob s lease → lease.base.step ≡ s.done → WayOn (run_seed s.seed) s.sheet state.done sum lease.applied lease.road in
     subst P view (λ mine at. way_of_lease state lease road sum run is mine at) own base
 
 -- one step of a list of them

@@ -5,4 +5,6 @@ pub mod LeaseRuns
 pub mod Booking
 pub mod Submitting
 pub mod Reading
+pub mod LeaseTracking
+pub mod OrderedSteps
 pub mod Refusals

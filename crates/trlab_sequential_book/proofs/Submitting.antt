@@ -1,29 +1,27 @@
 -- Each job of a book was submitted by one event of its history.
-use Rattle.std.proofs.Common.{◌≡◌, ℕ, zero, suc, ◌+◌, ◌≤◌, ◌==◌, ◌||◌, not, ltb, Bool, true, false, List, [], ◌∷◌, ◌++◌, Option, Some, None, length, map, refl, sym, ◌∙◌, ap, subst, inl, inr, ◌⊎◌, arith, length-append, slice_get, slice_set}
-use Rattle.std.proofs.lemmas.Bool.{cases_eq}
-use Rattle.std.proofs.lemmas.List.{get_or-set_other, get_or-set_same, length-set}
-use Rattle.std.proofs.lemmas.Option.{get_or_from_slice_get, none-some, same_Some, slice_get-get_or, slice_get_within}
-use Rattle.std.specs.Prelude.{MatchOption, is_some, if◌then◌else◌}
-use Rattle.std.specs.List.{position}
+use Rattle.std.proofs.Common.{◌≡◌, ℕ, zero, suc, ◌+◌, ◌≤◌, ◌==◌, ◌||◌, not, ltb, Bool, true, false, List, []}
+use Rattle.std.proofs.Common.{◌∷◌, ◌++◌, Option, Some, None, length, map, refl, sym, ◌∙◌, ap, subst, inl, inr}
+use Rattle.std.proofs.Common.{◌⊎◌, arith, length-append, slice_get, slice_set, get_or-set_other}
+use Rattle.std.proofs.Common.{get_or-set_same, length-set, MatchOption, is_some, if◌then◌else◌, position}
+use Rattle.std.proofs.lemmas.{Bool.cases_eq, Option.{get_or_from_slice_get, none-some, same_Some}}
+use Rattle.std.proofs.lemmas.Option.{slice_get-get_or, slice_get_within}
 use Rattle.trlab_rules.specs.Rules.{Programs}
-use Rattle.trlab_step.specs.Run.{Progress}
-use Rattle.trlab_sequential_book.specs.declared.book.TheConstants.{MAX_JOBS}
-use Rattle.trlab_sequential_book.specs.declared.sheet.TheConstants.{MAX_ENTRIES}
-use Rattle.trlab_sequential_book.specs.declared.seed.Seed.{Seed}
-use Rattle.trlab_sequential_book.specs.declared.event.Offered.{Offered}
-use Rattle.trlab_sequential_book.specs.declared.event.Event.{Event}
-use Rattle.trlab_sequential_book.specs.declared.event.Call.{Call}
+use Rattle.trlab_step.specs.Run.{Progress, suits}
+use Rattle.trlab_sequential_book.specs.declared.{book.TheConstants.MAX_JOBS, sheet.TheConstants.MAX_ENTRIES}
+use Rattle.trlab_sequential_book.specs.declared.{seed.Seed.Seed, event.{Offered.Offered, Event.Event}}
+use Rattle.trlab_sequential_book.specs.{declared.event.{Call.Call, Reply.Reply}, Comparison.IsSnapshotOf}
+use Rattle.trlab_sequential_book.specs.Machine.{JobState, JobOutcome, JobsOutcome, BookState, after}
+use Rattle.trlab_sequential_book.specs.Machine.{cancel_outcome, give_back_outcome, is_free, has_full_history}
+use Rattle.trlab_sequential_book.specs.Machine.{accepts_lease, lease_outcome, new_job, next_after, on_free}
+use Rattle.trlab_sequential_book.specs.Machine.{on_job, order_outcome, read_outcome, replace_outcome}
+use Rattle.trlab_sequential_book.specs.Machine.{reply_of, revoke_outcome, outcome_of_call, empty_book}
+use Rattle.trlab_sequential_book.specs.Histories.{Replays, call_of, event, replies_from, state_from}
+use Rattle.trlab_sequential_book.specs.Histories.{reply_of_event, IsSubmitted, JobsAreSubmitted}
+use Rattle.trlab_sequential_book.specs.Histories.{SnapshotsShowSubmittedJobs, SubmitNumbersAreUnique}
+use Rattle.trlab_sequential_book.{specs.Sheets.with_rule_from, proofs.Booking.on_found}
 use Rattle.trlab_sequential_book.specs.declared.event.Call.TheVariants as call
-use Rattle.trlab_sequential_book.specs.declared.event.Reply.{Reply}
 use Rattle.trlab_sequential_book.specs.declared.event.Reply.TheVariants as reply
 use Rattle.trlab_sequential_book.specs.declared.fault.BookFault.TheVariants as fault
-use Rattle.trlab_sequential_book.specs.Comparison.{IsSnapshotOf}
-use Rattle.trlab_sequential_book.specs.Leases.{suits}
-use Rattle.trlab_sequential_book.specs.Machine.{JobState, JobOutcome, JobsOutcome, BookState, after, cancel_outcome, give_back_outcome, is_free, has_full_history, accepts_lease, lease_outcome, new_job, next_after, on_free, on_job, order_outcome, read_outcome, replace_outcome, reply_of, revoke_outcome, outcome_of_call, empty_book}
-use Rattle.trlab_sequential_book.specs.Replay.{Replays, call_of, event, replies_from, state_from, reply_of_event}
-use Rattle.trlab_sequential_book.specs.Sheets.{with_rule_from}
-use Rattle.trlab_sequential_book.specs.Submits.{IsSubmitted, JobsAreSubmitted, SnapshotsAreOfSubmits, SubmitNumbersAreUnique}
-use Rattle.trlab_sequential_book.proofs.Booking.{on_found}
 
 -- a job keeps its seed and its number of steps
 record Keeps (old new : JobState) : Type 0 where
@@ -248,7 +246,7 @@ of_job : (history : List Event) (book : BookState) (number : ℕ) (seen : Progre
 of_job history book number seen replays None none is = absurd is
 of_job history book number seen replays (Some job) here is = (job, jobs_are_submitted history book number job replays here, is)
 
-pub snapshots_are_of_submits : SnapshotsAreOfSubmits
+pub snapshots_are_of_submits : SnapshotsShowSubmittedJobs
 snapshots_are_of_submits history book number seen replays is = of_job history book number seen replays (slice_get book.jobs number) refl is
 
 -- the reply to a submit after some calls has a number that no earlier job has

@@ -1,14 +1,35 @@
--- How leases, orders and snapshots belong to the jobs of a book.
-use Rattle.std.specs.Prelude.{◌≡◌, ℕ, Bool, List, slice_get, MatchOption, Option, Some, None}
-use Rattle.trlab_step.specs.Run.{IsRoadAt, in_force, Progress}
-use Rattle.trlab_sequential_book.specs.declared.event.Offered.{Offered}
-use Rattle.trlab_sequential_book.specs.declared.event.Call.{Call}
+-- The jobs of a book: their invariant, and how leases, orders and snapshots belong to them.
+use Rattle.std.specs.Prelude.{ℕ, ◌≤◌, ◌≡◌, Bool, List, slice_get, MatchOption, Option, Some, None}
+use Rattle.trlab_road.specs.Cells.{Cells}
+use Rattle.trlab_step.specs.Run.{Sheet, Seed as RunSeed, Progress, IsReachedByRun, IsRoadAt, in_force}
+use Rattle.trlab_step.specs.declared.tally.StepTally.{StepTally}
+use Rattle.trlab_sequential_book.specs.declared.{seed.Seed.Seed, event.{Offered.Offered, Call.Call}}
+use Rattle.trlab_sequential_book.specs.{declared.order.Order.Order, Machine.JobState}
+use Rattle.trlab_sequential_book.specs.{Sheets.{BeginBy, RanUnderSheet}, Leases.LeaseState}
 use Rattle.trlab_sequential_book.specs.declared.event.Call.TheVariants as call
-use Rattle.trlab_sequential_book.specs.declared.order.Order.{Order}
-use Rattle.trlab_sequential_book.specs.Leases.{LeaseState}
-use Rattle.trlab_sequential_book.specs.Machine.{JobState}
-use Rattle.trlab_sequential_book.specs.Jobs.{run_start}
-use Rattle.trlab_sequential_book.specs.Sheets.{RanUnderSheet}
+
+-- The invariant of the jobs of a book.
+
+-- the seed of the run of a job with this seed: its road, the bytes of its key, its road number, and `warm`,
+-- the step from which on tallies are counted
+abbrev pub run_seed : Seed → RunSeed
+run_seed seed = record { road = seed.road; key = seed.key.0; number = seed.number; warm = seed.warm }
+
+-- a progress with these fields; `IsReachedByRun` says whether the run really comes to this road and this sum
+abbrev pub progress_of : Seed → Sheet → ℕ → Cells → StepTally → Progress
+progress_of seed sheet step road sum =
+    record { seed = run_seed seed; sheet = sheet; step = step; road = road; sum = sum }
+
+-- the invariant of a job: the steps done are at most the steps ordered (`high`), and these are at most all
+-- its steps; each of its rules begins at step `high` or before; and its run starts on a legal road under
+-- rules for its lanes, and after the steps done is at this road, with this sum of tallies
+pub record IsJob (job : JobState) (road : Cells) (sum : StepTally) : Type 0 where
+  pub ordered : job.done ≤ job.high
+  pub within : job.high ≤ job.steps
+  pub begin : BeginBy job.high job.sheet
+  pub run : IsReachedByRun (progress_of job.seed job.sheet job.done road sum)
+
+-- How leases, orders and snapshots belong to the jobs of a book.
 
 -- the parts of a lease that a call records: its job, its number, the step of its base, its next step, and
 -- `same`: whether it runs the road of its job
@@ -26,7 +47,7 @@ offered lease same = record {
 pub record RunsRoadOfJob (job : JobState) (lease : LeaseState) : Type 0 where
   pub key : lease.key ≡ job.seed.key
   pub number : lease.road_number ≡ job.seed.number
-  pub base : IsRoadAt (run_start job.seed) job.sheet job.done lease.base.road
+  pub base : IsRoadAt (run_seed job.seed) job.sheet job.done lease.base.road
   pub rules : RanUnderSheet job.sheet lease.base.step lease.applied
 
 -- the job of the lease exists, and the lease runs this job's road: the meaning of `same` in `Offered`
@@ -41,7 +62,7 @@ HasRuleInForce jobs order =
 -- a snapshot of the job: it has the job's seed and sheet, and its step is the number of steps done. Its road
 -- and its tally follow from these, as the type `Snapshot` guarantees
 pub record IsSnapshotOf (job : JobState) (snapshot : Progress) : Type 0 where
-  pub seed : snapshot.seed ≡ run_start job.seed
+  pub seed : snapshot.seed ≡ run_seed job.seed
   pub sheet : snapshot.sheet ≡ job.sheet
   pub step : snapshot.step ≡ job.done
 

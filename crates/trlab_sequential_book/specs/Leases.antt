@@ -1,13 +1,21 @@
--- Leases: the steps that they have run outside the book, and how a lease runs one more.
-use Rattle.std.specs.Prelude.{◌≡◌, ℕ, ◌+◌, ◌==◌, ◌&&◌, not, is_some, Bool, true, List, [], ◌∷◌, ◌++◌, length, All}
+-- Leases: the steps that they have run outside the book, and the roads that they share with it.
+use Rattle.std.specs.Prelude.{Option, Some, None, ◌≡◌, ℕ, ◌+◌, true, List, [], ◌∷◌, ◌++◌, length, All}
+use Rattle.std.specs.{Arc.arc_value, Global.Global, declared.sync.Arc.Arc}
 use Rattle.trlab_road.specs.Cells.{Cells}
+use Rattle.trlab_sequential_book.specs.declared.{seed.Seed.Seed, lease.ExecutedStep.ExecutedStep}
+use Rattle.trlab_sequential_book.specs.declared.order.Order.{Order}
 use Rattle.trlab_rules.specs.Rules.{Programs}
 use Rattle.trlab_words.specs.declared.key.Key.{Key}
-use Rattle.trlab_step.specs.Answers.{dice_of}
-use Rattle.trlab_step.specs.Next.{IsNext}
-use Rattle.trlab_step.specs.declared.tally.StepTally.{StepTally}
-use Rattle.trlab_sequential_book.specs.declared.lease.ExecutedStep.{ExecutedStep}
-use Rattle.trlab_sequential_book.specs.declared.order.Order.{Order}
+use Rattle.trlab_step.specs.{Answers.dice_of, Next.IsNext, Run.suits, declared.tally.StepTally.StepTally}
+
+-- Roads of a seed's run, in memory that several owners share. The road at the start is not stored again.
+
+-- the road that is stored; or the seed's own road if none is (`None`)
+abbrev pub held_road : Option (Arc Cells Global) → Seed → Cells
+held_road None seed = seed.road
+held_road (Some road) seed = arc_value road
+
+-- Leases: the steps that they have run outside the book, and how a lease runs one more.
 
 -- the executed steps, which are numbered from `step`, lead from `road` to `last`, each under its rule and
 -- with its tally. `key` and `road_number` determine the random numbers. Without any steps `last` is `road`
@@ -45,10 +53,6 @@ pub record IsLease (lease : LeaseState) : Type 0 where
 abbrev pub IsSteady : List ExecutedStep → Type 0
 IsSteady [] = Unit {0}
 IsSteady (first ∷ more) = All (λ (ran : ExecutedStep). ran.rule ≡ first.rule) more
-
--- does a rule suit a road? Not if it has a change program and the road has one lane
-abbrev pub suits : Programs → Cells → Bool
-suits rule road = not (is_some rule.change && length road.lanes == 1)
 
 -- the order fits the lease: it is for this lease of this job and for its next step, and its rule suits the
 -- road of the lease

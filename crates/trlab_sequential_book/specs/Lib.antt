@@ -1,11 +1,6 @@
 pub mod Encoded
 pub mod Sheets
-pub mod Held
 pub mod Leases
 pub mod Machine
-pub mod Jobs
-pub mod Answers
+pub mod Histories
 pub mod Comparison
-pub mod Replay
-pub mod Submits
-pub mod Refusals

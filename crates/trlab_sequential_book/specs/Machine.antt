@@ -1,21 +1,17 @@
 -- The book of jobs as a machine: the reply to each call, and the state after it. It has no roads but those of
 -- the seeds, because the road of a job follows from its seed, its sheet and its steps done.
-use Rattle.std.specs.Prelude.{ℕ, ◌+◌, ◌==◌, max, Bool, true, false, ◌&&◌, ◌||◌, not, ltb, List, [], ◌∷◌, ◌++◌, length, slice_get, slice_set, Option, Some, None, is_some, if◌then◌else◌}
-use Rattle.std.specs.List.{position}
+use Rattle.std.specs.Prelude.{ℕ, ◌+◌, ◌==◌, max, Bool, true, false, ◌&&◌, ◌||◌, not, ltb, List, [], ◌∷◌, ◌++◌}
+use Rattle.std.specs.Prelude.{length, slice_get, slice_set, Option, Some, None, is_some, if◌then◌else◌}
+use Rattle.std.specs.Prelude.{position}
 use Rattle.trlab_rules.specs.Rules.{Programs}
-use Rattle.trlab_step.specs.Run.{Sheet}
-use Rattle.trlab_sequential_book.specs.declared.book.TheConstants.{MAX_EVENTS, MAX_JOBS}
-use Rattle.trlab_sequential_book.specs.declared.sheet.TheConstants.{MAX_ENTRIES}
-use Rattle.trlab_sequential_book.specs.declared.seed.Seed.{Seed}
-use Rattle.trlab_sequential_book.specs.declared.fault.BookFault.{BookFault}
+use Rattle.trlab_step.specs.Run.{Sheet, suits}
+use Rattle.trlab_sequential_book.specs.declared.{book.TheConstants.{MAX_EVENTS, MAX_JOBS}, event.Reply.Reply}
+use Rattle.trlab_sequential_book.specs.declared.{sheet.TheConstants.MAX_ENTRIES, fault.BookFault.BookFault}
+use Rattle.trlab_sequential_book.specs.declared.{seed.Seed.Seed, event.Offered.Offered}
+use Rattle.trlab_sequential_book.specs.{declared.event.Call.Call, Sheets.{begin_in_force, with_rule_from}}
 use Rattle.trlab_sequential_book.specs.declared.fault.BookFault.TheVariants as fault
-use Rattle.trlab_sequential_book.specs.declared.event.Offered.{Offered}
-use Rattle.trlab_sequential_book.specs.declared.event.Call.{Call}
 use Rattle.trlab_sequential_book.specs.declared.event.Call.TheVariants as call
-use Rattle.trlab_sequential_book.specs.declared.event.Reply.{Reply}
 use Rattle.trlab_sequential_book.specs.declared.event.Reply.TheVariants as reply
-use Rattle.trlab_sequential_book.specs.Leases.{suits}
-use Rattle.trlab_sequential_book.specs.Sheets.{begin_in_force, with_rule_from}
 
 -- a job: its seed and its sheet, the number of its steps, of steps ever ordered (`high`) and of steps done,
 -- whether it was cancelled, and the number of the lease that is out, if one is. For example, with `high` 5

@@ -1,10 +1,10 @@
 -- Sheets of the book: which entry is in force at a step, and how a new rule enters.
-use Rattle.std.specs.Prelude.{◌≡◌, ℕ, ◌+◌, ◌≤◌, ◌<◌, nat_le, ltb, List, [], ◌∷◌, ◌++◌, filter, length, slice_get, Option, Some, None, unwrap_or, if◌then◌else◌}
+use Rattle.std.specs.Prelude.{◌≡◌, ℕ, ◌+◌, ◌≤◌, ◌<◌, nat_le, ltb, List, [], ◌∷◌, ◌++◌, filter, length}
+use Rattle.std.specs.Prelude.{slice_get, Option, Some, None, unwrap_or, if◌then◌else◌}
 use Rattle.trlab_rules.specs.Rules.{Programs}
 use Rattle.trlab_step.specs.Run.{Sheet, IsSheet, in_force}
 use Rattle.trlab_sequential_book.specs.declared.sheet.TheConstants.{MAX_ENTRIES}
-use Rattle.trlab_sequential_book.specs.declared.lease.ExecutedStep.{ExecutedStep}
-use Rattle.trlab_sequential_book.specs.declared.fault.BookFault.{BookFault}
+use Rattle.trlab_sequential_book.specs.declared.{lease.ExecutedStep.ExecutedStep, fault.BookFault.BookFault}
 use Rattle.trlab_sequential_book.specs.declared.fault.BookFault.TheVariants.{Memory, SheetFull}
 
 -- the entry in force at a step of a sheet whose steps rise: the last one that begins at this step or before;

@@ -2,11 +2,11 @@
 
 ghost use Rattle.std.specs.Prelude.{◌≡◌, ◌↔◌, ◌+◌, ◌<◌, ◌≤◌, ℕ, Bool, true, false, IsTrue, IfOk, IfErr, IfSome, MatchBool, length, ltb, not, vec_len, vec_capacity};
 ghost use Rattle.std.specs.List.{position};
-ghost use Rattle.trlab_road.specs.Legal.{IsLegal};
-ghost use Rattle.trlab_step.specs.Run.{IsRuleFor};
-ghost use Rattle.trlab_sequential_book.specs.Answers.{LeadsAs, RepliesAs, give_back_reply, done_reply, is_memory, lease_reply, number_reply, order_reply, read_reply};
+ghost use Rattle.trlab_road.specs.Cells.{IsLegal};
+ghost use Rattle.trlab_step.specs.Run.{IsRuleFor, suits};
+ghost use Rattle.trlab_sequential_book.specs.Histories.{LeadsAs, RepliesAs, give_back_reply, done_reply, is_memory, lease_reply, number_reply, order_reply, read_reply};
 ghost use Rattle.trlab_sequential_book.specs.Comparison.{IsFreshIfLent, HasRuleInForce, RunsRoadOfItsJob, ShowsJob, LeaseCall, OrderCall, offered};
-ghost use Rattle.trlab_sequential_book.specs.Leases.{FitsOrder, suits};
+ghost use Rattle.trlab_sequential_book.specs.Leases.{FitsOrder};
 ghost use Rattle.trlab_sequential_book.specs.Machine.{after, cancel_outcome, give_back_outcome, is_free, has_full_history, on_job, order_outcome, read_outcome, replace_outcome, reply_of, revoke_outcome, empty_book, submit_outcome};
 ghost use Rattle.trlab_sequential_book.specs.declared.event.Call.TheVariants.{Cancel, GiveBack, Read, Replace, Revoke, Submit};
 ghost use Rattle.trlab_sequential_book.specs.declared.event.Reply.TheVariants.{Refused};
@@ -16,12 +16,13 @@ use crate::fault::BookFault;
 use crate::job::JobRecord;
 use crate::lease::Lease;
 use crate::order::Order;
-use crate::rule::{BoxedRule, suits};
-use crate::seed::{BoxedSeed, Seed};
+use crate::rule::SharedRule;
+use crate::seed::{Seed, SharedSeed};
 use crate::snapshot::Snapshot;
 use std::alloc::Global;
 use std::marker::Model;
 use trlab_rules::Rule;
+use trlab_step::suits;
 
 /// The maximum number of jobs of a book.
 pub const MAX_JOBS: usize = 256;
@@ -99,13 +100,13 @@ impl Book {
     ) -> Result<u32, BookFault>
         ensures reply { RepliesAs (is_memory result) (number_reply result) self.old (Submit seed rule steps) }
         ensures state { LeadsAs (is_memory result) self.old (Submit seed rule steps) self.new }
-        ensures full { has_full_history self.old ≡ true → result ≡ Err HistoryFull }
+        ensures full_history { has_full_history self.old ≡ true → result ≡ Err HistoryFull }
     {
         if self.has_full_history() {
             return Err(BookFault::HistoryFull);
         }
-        let seed = BoxedSeed::new(alloc, seed)?;
-        let rule = BoxedRule::new(alloc, rule)?;
+        let seed = SharedSeed::new(alloc, seed)?;
+        let rule = SharedRule::new(alloc, rule)?;
         self.add_job(alloc, seed, rule, steps)
     }
 
@@ -114,16 +115,16 @@ impl Book {
     /// # Errors
     ///
     /// Those of `submit`.
-    pub fn submit_boxed(
+    pub fn submit_shared(
         &mut self,
         alloc: Global,
-        seed: BoxedSeed,
-        rule: BoxedRule,
+        seed: SharedSeed,
+        rule: SharedRule,
         steps: u32,
     ) -> Result<u32, BookFault>
         ensures reply { RepliesAs (is_memory result) (number_reply result) self.old (Submit seed rule steps) }
         ensures state { LeadsAs (is_memory result) self.old (Submit seed rule steps) self.new }
-        ensures full { has_full_history self.old ≡ true → result ≡ Err HistoryFull }
+        ensures full_history { has_full_history self.old ≡ true → result ≡ Err HistoryFull }
     {
         if self.has_full_history() {
             return Err(BookFault::HistoryFull);
@@ -135,8 +136,8 @@ impl Book {
     fn add_job(
         &mut self,
         alloc: Global,
-        seed: BoxedSeed,
-        rule: BoxedRule,
+        seed: SharedSeed,
+        rule: SharedRule,
         steps: u32,
     ) -> Result<u32, BookFault>
         requires { has_full_history self.old ≡ false }
@@ -156,7 +157,7 @@ impl Book {
     pub fn replace(&mut self, job: u32, rule: Rule) -> Result<u32, BookFault>
         ensures reply { RepliesAs (is_memory result) (number_reply result) self.old (Replace job rule) }
         ensures state { LeadsAs (is_memory result) self.old (Replace job rule) self.new }
-        ensures full { has_full_history self.old ≡ true → result ≡ Err HistoryFull }
+        ensures full_history { has_full_history self.old ≡ true → result ≡ Err HistoryFull }
     {
         if self.has_full_history() {
             return Err(BookFault::HistoryFull);
@@ -175,7 +176,7 @@ impl Book {
     pub fn lease(&mut self, alloc: Global) -> Result<Option<Lease>, BookFault>
         ensures reply { RepliesAs (is_memory result) (lease_reply result) self.old LeaseCall }
         ensures state { LeadsAs (is_memory result) self.old LeaseCall self.new }
-        ensures full { has_full_history self.old ≡ true → result ≡ Err HistoryFull }
+        ensures full_history { has_full_history self.old ≡ true → result ≡ Err HistoryFull }
         ensures lent { IfOk result (λ lent. IsFreshIfLent self.old.jobs self.old.next lent) }
     {
         if self.has_full_history() {
@@ -214,7 +215,7 @@ impl Book {
             → RepliesAs (is_memory result) (order_reply result) self.old (OrderCall (offered lease.now runs_its_road)) }
         ensures state { (runs_its_road : Bool) → (IsTrue runs_its_road ↔ RunsRoadOfItsJob self.old.jobs lease.now)
             → LeadsAs (is_memory result) self.old (OrderCall (offered lease.now runs_its_road)) self.new }
-        ensures full { has_full_history self.old ≡ true → result ≡ Err HistoryFull }
+        ensures full_history { has_full_history self.old ≡ true → result ≡ Err HistoryFull }
         ensures rule { IfOk result (λ order. HasRuleInForce self.old.jobs order) }
         ensures fits { IfOk result (λ order. FitsOrder lease.now order) }
     {
@@ -232,7 +233,7 @@ impl Book {
         ensures reply { RepliesAs (is_memory result) (order_reply result) self.old
             (OrderCall (offered lease.now runs_its_road)) }
         ensures state { LeadsAs (is_memory result) self.old (OrderCall (offered lease.now runs_its_road)) self.new }
-        ensures full { has_full_history self.old ≡ true → result ≡ Err HistoryFull }
+        ensures full_history { has_full_history self.old ≡ true → result ≡ Err HistoryFull }
         ensures rule { IfOk result (λ order. HasRuleInForce self.old.jobs order) }
         ensures fits { IfOk result (λ order. FitsOrder lease.now order) }
     {
@@ -322,7 +323,7 @@ impl Book {
     pub fn read(&mut self, alloc: Global, job: u32) -> Result<Snapshot, BookFault>
         ensures reply { RepliesAs (is_memory result) (read_reply result) self.old (Read job) }
         ensures state { LeadsAs (is_memory result) self.old (Read job) self.new }
-        ensures full { has_full_history self.old ≡ true → result ≡ Err HistoryFull }
+        ensures full_history { has_full_history self.old ≡ true → result ≡ Err HistoryFull }
         ensures seen { IfOk result (λ seen. ShowsJob self.old.jobs job seen) }
     {
         if self.has_full_history() {
@@ -338,7 +339,7 @@ impl Book {
 fn count_after<T>(count: u32, answer: &Result<T, BookFault>) -> u32
     requires { count < MAX_EVENTS }
     ensures value { MatchBool (is_memory answer.now) (result ≡ count) (result ≡ count + 1) }
-    ensures within { (count ≤ result) × (result ≤ MAX_EVENTS) }
+    ensures in_range { (count ≤ result) × (result ≤ MAX_EVENTS) }
 {
     match answer {
         Err(BookFault::Memory) => count,
@@ -351,8 +352,8 @@ fn count_after<T>(count: u32, answer: &Result<T, BookFault>) -> u32
 fn submit_in(
     jobs: &mut Vec<JobRecord>,
     alloc: Global,
-    seed: BoxedSeed,
-    rule: BoxedRule,
+    seed: SharedSeed,
+    rule: SharedRule,
     steps: u32,
 ) -> Result<u32, BookFault>
     requires { length jobs.old.items ≤ MAX_JOBS }
@@ -434,7 +435,7 @@ fn cancel_in(jobs: &mut Vec<JobRecord>, index: u32) -> Result<(), BookFault>
 /// The smallest number of a free job.
 fn free_in(jobs: &[JobRecord]) -> Option<usize>
     ensures place { result ≡ position is_free jobs.now }
-    ensures within { IfSome result (λ index. index < length jobs.now) }
+    ensures in_range { IfSome result (λ index. index < length jobs.now) }
 {
     jobs.iter().position(|job| job.is_free())
 }

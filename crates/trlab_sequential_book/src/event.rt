@@ -1,8 +1,8 @@
 //! Events: calls of the book with their replies.
 
 use crate::fault::BookFault;
-use crate::rule::BoxedRule;
-use crate::seed::BoxedSeed;
+use crate::rule::SharedRule;
+use crate::seed::SharedSeed;
 
 /// The parts of a lease that events keep.
 #[derive(Clone, Copy, PartialEq, Eq)]
@@ -21,8 +21,8 @@ pub struct Offered {
 /// steps.
 #[derive(Drop)]
 pub enum Call {
-    Submit(BoxedSeed, BoxedRule, u32),
-    Replace(u32, BoxedRule),
+    Submit(SharedSeed, SharedRule, u32),
+    Replace(u32, SharedRule),
     Lease,
     Order(Offered),
     GiveBack(Offered),

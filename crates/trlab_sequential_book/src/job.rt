@@ -1,31 +1,30 @@
 //! The record of one job.
 
 ghost use Rattle.std.specs.Prelude.{◌≡◌, ◌==◌, ◌||◌, true, false, IsTrue, IfOk, IfErr, OnErr, Some, length, ◌↔◌, MatchBool};
-ghost use Rattle.trlab_road.specs.Legal.{IsLegal};
-ghost use Rattle.trlab_step.specs.Run.{IsReachedByRun, IsRuleFor, in_force};
-ghost use Rattle.trlab_sequential_book.specs.Answers.{give_back_reply, done_reply, is_memory, number_reply, order_reply};
-ghost use Rattle.trlab_sequential_book.specs.Comparison.{IsFresh, RunsRoadOfJob, IsSnapshotOf, offered};
-ghost use Rattle.trlab_sequential_book.specs.Jobs.{progress_of};
-ghost use Rattle.trlab_sequential_book.specs.Leases.{FitsOrder, suits};
+ghost use Rattle.trlab_road.specs.Cells.{IsLegal};
+ghost use Rattle.trlab_step.specs.Run.{IsReachedByRun, IsRuleFor, in_force, suits};
+ghost use Rattle.trlab_sequential_book.specs.Histories.{give_back_reply, done_reply, is_memory, number_reply, order_reply};
+ghost use Rattle.trlab_sequential_book.specs.Comparison.{IsFresh, RunsRoadOfJob, IsSnapshotOf, offered, progress_of};
+ghost use Rattle.trlab_sequential_book.specs.Leases.{FitsOrder};
 ghost use Rattle.trlab_sequential_book.specs.Machine.{cancel_outcome, give_back_outcome, is_free, accepts_lease, lease_outcome, new_job, order_outcome, refusal, replace_outcome, revoke_outcome};
 
 use crate::fault::BookFault;
 use crate::lease::Lease;
 use crate::order::Order;
-use crate::rule::{BoxedRule, suits};
-use crate::seed::{BoxedRoad, BoxedSeed};
+use crate::rule::SharedRule;
+use crate::seed::{SharedRoad, SharedSeed};
 use crate::sheet::Sheet;
 use crate::snapshot::Snapshot;
 use std::alloc::{AllocError, Global};
 use std::marker::Model;
 use std::sync::Arc;
 use trlab_rules::Rule;
-use trlab_step::{StepRoom, StepTally, no_tally, tally_sum};
+use trlab_step::{StepRoom, StepTally, no_tally, suits, tally_sum};
 use trlab_words::Key;
 
 /// A job. Contracts do not see its road and its tally, which follow from the seed, the sheet and the steps done.
 pub(crate) struct JobRecord {
-    seed: BoxedSeed,
+    seed: SharedSeed,
     sheet: Sheet,
     steps: u32,
     /// The number of steps that were ever ordered.
@@ -36,7 +35,7 @@ pub(crate) struct JobRecord {
     /// The number of the lease that is out.
     out: Option<u32>,
     /// The road at the steps done.
-    road: BoxedRoad,
+    road: SharedRoad,
     tally: StepTally,
 }
 
@@ -58,7 +57,7 @@ impl Drop for JobRecord {
 }
 
 impl Model for JobRecord {
-    ghost use Rattle.trlab_sequential_book.specs.Jobs.{IsJob};
+    ghost use Rattle.trlab_sequential_book.specs.Comparison.{IsJob};
     ghost use Rattle.trlab_sequential_book.specs.Machine.{JobState};
 
     ghost Value = { JobState };
@@ -90,8 +89,8 @@ impl JobRecord {
     /// A new job at step 0. No step has been ordered, and no lease is out.
     pub fn new(
         alloc: Global,
-        seed: BoxedSeed,
-        rule: BoxedRule,
+        seed: SharedSeed,
+        rule: SharedRule,
         steps: u32,
     ) -> Result<JobRecord, AllocError>
         requires legal { IsLegal seed.road }
@@ -99,7 +98,7 @@ impl JobRecord {
         ensures { IfOk result (λ job. job ≡ new_job seed rule steps) }
     {
         let sheet = Sheet::new(alloc, rule)?;
-        let road = BoxedRoad::of_seed(seed.share()?);
+        let road = SharedRoad::of_seed(seed.share()?);
         Ok(JobRecord {
             seed,
             sheet,

@@ -3,9 +3,8 @@
 //! Each law is the contract of a function with an empty body.
 
 ghost use Rattle.std.specs.Prelude.{◌≡◌};
-ghost use Rattle.trlab_sequential_book.specs.Refusals.{RefusedLeasesAreNotOut};
-ghost use Rattle.trlab_sequential_book.specs.Submits.{JobsAreSubmitted, ReadsAreDriven, SnapshotsAreOfSubmits};
-ghost use Rattle.trlab_sequential_book.specs.Submits.{SubmitNumbersAreUnique};
+ghost use Rattle.trlab_sequential_book.specs.Histories.{RefusedLeasesAreNotOut, SubmitNumbersAreUnique};
+ghost use Rattle.trlab_sequential_book.specs.Histories.{JobsAreSubmitted, ReadsAreDriven, SnapshotsShowSubmittedJobs};
 
 use crate::book::{MAX_EVENTS, MAX_JOBS};
 use crate::sheet::MAX_ENTRIES;
@@ -19,10 +18,10 @@ pub fn limits()
 
 /// Exactly one event of a book's history submitted the job with a given number: the submit that was answered
 /// with this number. A snapshot of the job has the seed of that submit.
-pub fn jobs_are_of_submits()
+pub fn jobs_are_submitted()
     ensures submitted { JobsAreSubmitted }
     ensures one { SubmitNumbersAreUnique }
-    ensures seen { SnapshotsAreOfSubmits }
+    ensures seen { SnapshotsShowSubmittedJobs }
 {}
 
 /// A read shows the road of one worker that runs the seed of the job's submit under the job's sheet, regardless

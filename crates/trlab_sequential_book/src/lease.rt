@@ -10,8 +10,8 @@ ghost use Rattle.trlab_sequential_book.specs.Leases.{FitsOrder, HasRun, IsLease,
 ghost use Rattle.trlab_sequential_book.specs.declared.lease.LeaseFault.TheVariants.{Memory, WrongOrder};
 
 use crate::order::Order;
-use crate::rule::{BoxedRule, suits};
-use crate::seed::BoxedRoad;
+use crate::rule::SharedRule;
+use crate::seed::SharedRoad;
 use std::alloc::{AllocError, Global};
 use std::marker::Model;
 use std::sync::Arc;
@@ -19,7 +19,7 @@ use thiserror::Error;
 use trlab_machine::Dice;
 use trlab_road::Road;
 use trlab_rules::Rule;
-use trlab_step::{Executor, NoObserver, StepContext, StepRoom, StepTally, take_step};
+use trlab_step::{Executor, NoObserver, StepContext, StepRoom, StepTally, suits, take_step};
 use trlab_words::Key;
 
 /// Why a lease ran no step.
@@ -43,7 +43,7 @@ impl From<AllocError> for LeaseFault {
 
 /// A step that a lease has run: its rule, and the counts of this step.
 pub struct ExecutedStep {
-    pub rule: BoxedRule,
+    pub rule: SharedRule,
     pub tally: StepTally,
 }
 
@@ -67,7 +67,7 @@ pub struct Lease {
     pub(crate) key: Key,
     pub(crate) road_number: u32,
     pub(crate) base_step: u32,
-    pub(crate) base_road: BoxedRoad,
+    pub(crate) base_road: SharedRoad,
     pub(crate) step: u32,
     /// Not shared until the job takes it over.
     pub(crate) road: Arc<Road, Global>,
@@ -206,13 +206,13 @@ impl Lease {
     ///
     /// `WrongOrder` if the order is for another job, lease or step, or its rule has a change program and the road has
     /// one lane; `Memory` if an allocation fails. Then nothing changes.
-    pub fn advance<A: Executor>(
+    pub fn advance<E: Executor>(
         &mut self,
-        executor: &A,
+        executor: &E,
         alloc: Global,
         order: &Order,
     ) -> Result<(), LeaseFault>
-        requires ready { A.is_ready executor.now }
+        requires ready { E.is_ready executor.now }
         ensures ok { OnOk result (HasRun self.old order.now self.new) }
         ensures unchanged { OnErr result (self.new ≡ self.old) }
         ensures wrong { (result ≡ Err WrongOrder) ↔ (FitsOrder self.old order.now → ⊥) }
@@ -235,13 +235,13 @@ impl Lease {
     }
 
     /// Runs the lease's next step under a rule. If an allocation fails, nothing changes.
-    fn run<A: Executor>(
+    fn run<E: Executor>(
         &mut self,
-        executor: &A,
+        executor: &E,
         alloc: Global,
-        rule: &BoxedRule,
+        rule: &SharedRule,
     ) -> Result<(), AllocError>
-        requires ready { A.is_ready executor.now }
+        requires ready { E.is_ready executor.now }
         requires rule { IsRuleFor (length self.old.road.lanes) rule.now }
         requires step { self.old.step + 1 < 2 ^ 32 }
         ensures ok { OnOk result ((tally : StepTally)
@@ -253,7 +253,7 @@ impl Lease {
         self.applied.reserve(1)?;
         let dice = Dice::new(&self.key, self.road_number, self.step);
         let shared = rule.share()?;
-        let is_steady = stays_steady(&self.applied, self.is_steady, rule);
+        let is_steady = is_still_steady(&self.applied, self.is_steady, rule);
         let rule = rule.get();
         let context = StepContext {
             executor,
@@ -272,13 +272,13 @@ impl Lease {
 }
 
 /// Runs a step on a lease's road, which no one else shares; a shared road would be reported as a failed allocation.
-fn step_unshared<A: Executor>(
-    context: &StepContext<A>,
+fn step_unshared<E: Executor>(
+    context: &StepContext<E>,
     road: &mut Arc<Road, Global>,
     room: &mut StepRoom,
     rule: &Rule,
 ) -> Result<StepTally, AllocError>
-    requires ready { A.is_ready context.now.executor.now }
+    requires ready { E.is_ready context.now.executor.now }
     requires rule { IsRuleFor (length (arc_value road.old).lanes) rule.now }
     ensures next { IfOk result (λ tally.
         IsNext rule.now context.now.dice.now (arc_value road.old) (arc_value road.new) tally) }
@@ -291,7 +291,7 @@ fn step_unshared<A: Executor>(
 }
 
 /// Whether all steps of a lease are known to have the same rule, once a step with `rule` is added to `applied`.
-fn stays_steady(applied: &[ExecutedStep], is_steady: bool, rule: &BoxedRule) -> bool
+fn is_still_steady(applied: &[ExecutedStep], is_steady: bool, rule: &SharedRule) -> bool
     requires { IsTrue is_steady → IsSteady applied.now }
     ensures { IsTrue result → (tally : StepTally)
         → IsSteady (applied.now ++ record { rule = rule.now; tally = tally } ∷ []) }

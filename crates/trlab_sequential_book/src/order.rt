@@ -2,7 +2,7 @@
 
 ghost use Rattle.std.specs.Prelude.{◌≡◌, ◌+◌, ◌<◌, ◌^◌};
 
-use crate::rule::BoxedRule;
+use crate::rule::SharedRule;
 use trlab_rules::Rule;
 
 /// The rule for one step of a lease.
@@ -12,7 +12,7 @@ pub struct Order {
     pub(crate) lease: u32,
     pub(crate) step: u32,
     pub(crate) from: u32,
-    pub(crate) rule: BoxedRule,
+    pub(crate) rule: SharedRule,
     ghost fits: { step + 1 < 2 ^ 32 },
 }
 

@@ -1,27 +1,13 @@
-//! Rules that jobs, histories, orders and leases share, and whether a rule suits a road.
+//! Rules that jobs, histories, orders and leases share.
 
-ghost use Rattle.std.specs.Prelude.{◌≡◌, ◌↔◌, IsTrue, IfOk, length};
-ghost use Rattle.trlab_road.specs.Legal.{IsLegal};
-ghost use Rattle.trlab_step.specs.Run.{IsRuleFor};
+ghost use Rattle.std.specs.Prelude.{◌≡◌, ◌↔◌, IsTrue, IfOk};
 ghost use Rattle.trlab_sequential_book.specs.Encoded.{change_bytes};
-ghost use Rattle.trlab_sequential_book.specs.Leases.{suits};
 
 use std::alloc::{AllocError, Global};
 use std::marker::Model;
 use std::sync::Arc;
 use trlab_code::encode;
-use trlab_road::Road;
 use trlab_rules::Rule;
-
-/// Whether a rule suits a road: a rule with a change program needs two lanes.
-pub(crate) fn suits(rule: &Rule, road: &Road) -> bool
-    ensures value { result ≡ suits rule.now road.now }
-    ensures rule { IsTrue result → IsRuleFor (length road.now.lanes) rule.now }
-    ensures legal { IsLegal road.now }
-{
-    let lanes = road.lanes();
-    !(rule.change().is_some() && lanes == 1)
-}
 
 /// A rule with the encodings of its motion program and its change program. Rules are compared by these bytes, because
 /// bytes are compared many at a time and instructions one by one.
@@ -97,37 +83,37 @@ fn bytes_of_change(alloc: Global, rule: &Rule) -> Result<Vec<u8>, AllocError>
 }
 
 /// An immutable rule that several owners share.
-pub struct BoxedRule {
+pub struct SharedRule {
     held: Arc<EncodedRule, Global>,
 }
 
 // Not derived: a derived drop is proved again, field by field, wherever the value goes out of scope.
-impl Drop for BoxedRule {
+impl Drop for SharedRule {
     fn drop(self) {
-        let BoxedRule { held: _held } = self;
+        let SharedRule { held: _held } = self;
     }
 }
 
-impl Model for BoxedRule {
+impl Model for SharedRule {
     ghost use Rattle.std.specs.Arc.{arc_value};
     ghost use Rattle.trlab_rules.specs.Rules.{Programs};
 
     ghost Value = { Programs };
 
-    ghost view = { λ boxed. arc_value boxed.held };
+    ghost view = { λ shared. arc_value shared.held };
 }
 
-impl BoxedRule {
+impl SharedRule {
     /// A copy of a rule, in memory that can be shared.
     ///
     /// # Errors
     ///
     /// If an allocation fails.
-    pub fn copy_of(alloc: Global, rule: &Rule) -> Result<BoxedRule, AllocError>
+    pub fn copy_of(alloc: Global, rule: &Rule) -> Result<SharedRule, AllocError>
         ensures { IfOk result (λ copy. copy ≡ rule.now) }
     {
         let copy = rule.copy(alloc)?;
-        BoxedRule::new(alloc, copy)
+        SharedRule::new(alloc, copy)
     }
 
     /// Moves a rule into memory that can be shared.
@@ -135,12 +121,12 @@ impl BoxedRule {
     /// # Errors
     ///
     /// If an allocation fails; the rule is dropped.
-    pub fn new(alloc: Global, rule: Rule) -> Result<BoxedRule, AllocError>
-        ensures { IfOk result (λ boxed. boxed ≡ rule) }
+    pub fn new(alloc: Global, rule: Rule) -> Result<SharedRule, AllocError>
+        ensures { IfOk result (λ shared. shared ≡ rule) }
     {
         let encoded = EncodedRule::new(alloc, rule)?;
         let held = Arc::new(alloc, encoded)?;
-        Ok(BoxedRule { held })
+        Ok(SharedRule { held })
     }
 
     /// Another owner of the same rule. No program is copied.
@@ -148,11 +134,11 @@ impl BoxedRule {
     /// # Errors
     ///
     /// If the number of owners would exceed its range.
-    pub fn share(&self) -> Result<BoxedRule, AllocError>
+    pub fn share(&self) -> Result<SharedRule, AllocError>
         ensures { IfOk result (λ shared. shared ≡ self.now) }
     {
         let held = Arc::try_clone(&self.held)?;
-        Ok(BoxedRule { held })
+        Ok(SharedRule { held })
     }
 
     /// The shared rule.
@@ -163,7 +149,7 @@ impl BoxedRule {
     }
 
     /// Whether the rules have the same programs.
-    pub(crate) fn equals(&self, other: &BoxedRule) -> bool
+    pub(crate) fn equals(&self, other: &SharedRule) -> bool
         ensures { IsTrue result ↔ (self.now ≡ other.now) }
     {
         self.held.equals(&other.held)

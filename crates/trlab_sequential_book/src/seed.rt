@@ -11,9 +11,12 @@ use std::sync::Arc;
 use trlab_road::Road;
 use trlab_words::Key;
 
-/// The initial state of a job. Its key and its number determine its random numbers.
+/// The initial state of a job. Its key and its number determine its random numbers, so the random seed is the key, and
+/// not the whole `Seed`.
 pub struct Seed {
+    /// The road at step 0.
     pub road: Road,
+    /// The random seed.
     pub key: Key,
     /// The number of the road.
     pub number: u32,
@@ -53,37 +56,37 @@ impl Seed {
 }
 
 /// An immutable seed that several owners share.
-pub struct BoxedSeed {
+pub struct SharedSeed {
     held: Arc<Seed, Global>,
 }
 
 // Not derived: a derived drop is proved again, field by field, wherever the value goes out of scope.
-impl Drop for BoxedSeed {
+impl Drop for SharedSeed {
     fn drop(self) {
-        let BoxedSeed { held: _held } = self;
+        let SharedSeed { held: _held } = self;
     }
 }
 
-impl Model for BoxedSeed {
+impl Model for SharedSeed {
     ghost use Rattle.std.specs.Arc.{arc_value};
     ghost use Rattle.trlab_sequential_book.specs.declared.seed.Seed.{Seed};
 
     ghost Value = { Seed };
 
-    ghost view = { λ boxed. arc_value boxed.held };
+    ghost view = { λ shared. arc_value shared.held };
 }
 
-impl BoxedSeed {
+impl SharedSeed {
     /// Moves a seed into memory that can be shared.
     ///
     /// # Errors
     ///
     /// If an allocation fails; the seed is dropped.
-    pub fn new(alloc: Global, seed: Seed) -> Result<BoxedSeed, AllocError>
-        ensures { IfOk result (λ boxed. boxed ≡ seed) }
+    pub fn new(alloc: Global, seed: Seed) -> Result<SharedSeed, AllocError>
+        ensures { IfOk result (λ shared. shared ≡ seed) }
     {
         let held = Arc::new(alloc, seed)?;
-        Ok(BoxedSeed { held })
+        Ok(SharedSeed { held })
     }
 
     /// Another owner of the same seed. No road is copied.
@@ -91,11 +94,11 @@ impl BoxedSeed {
     /// # Errors
     ///
     /// If the number of owners would exceed its range.
-    pub fn share(&self) -> Result<BoxedSeed, AllocError>
+    pub fn share(&self) -> Result<SharedSeed, AllocError>
         ensures { IfOk result (λ shared. shared ≡ self.now) }
     {
         let held = Arc::try_clone(&self.held)?;
-        Ok(BoxedSeed { held })
+        Ok(SharedSeed { held })
     }
 
     /// The shared seed.
@@ -107,37 +110,37 @@ impl BoxedSeed {
 }
 
 /// An immutable road of a seed's run that several owners share.
-pub(crate) struct BoxedRoad {
-    seed: BoxedSeed,
+pub(crate) struct SharedRoad {
+    seed: SharedSeed,
     /// `None` if the road is the seed's own.
     held: Option<Arc<Road, Global>>,
 }
 
 // Not derived: a derived drop is proved again, field by field, wherever the value goes out of scope.
-impl Drop for BoxedRoad {
+impl Drop for SharedRoad {
     fn drop(self) {
-        let BoxedRoad {
+        let SharedRoad {
             seed: _seed,
             held: _held,
         } = self;
     }
 }
 
-impl Model for BoxedRoad {
+impl Model for SharedRoad {
     ghost use Rattle.trlab_road.specs.Cells.{Cells};
-    ghost use Rattle.trlab_sequential_book.specs.Held.{held_road};
+    ghost use Rattle.trlab_sequential_book.specs.Leases.{held_road};
 
     ghost Value = { Cells };
 
     ghost view = { λ road. held_road road.held road.seed };
 }
 
-impl BoxedRoad {
+impl SharedRoad {
     /// The road at step 0: the seed's road.
-    pub(crate) fn of_seed(seed: BoxedSeed) -> BoxedRoad
+    pub(crate) fn of_seed(seed: SharedSeed) -> SharedRoad
         ensures { result ≡ seed.road }
     {
-        BoxedRoad { seed, held: None }
+        SharedRoad { seed, held: None }
     }
 
     /// Another owner of the same road.
@@ -145,7 +148,7 @@ impl BoxedRoad {
     /// # Errors
     ///
     /// If the number of owners would exceed its range.
-    pub(crate) fn share(&self) -> Result<BoxedRoad, AllocError>
+    pub(crate) fn share(&self) -> Result<SharedRoad, AllocError>
         ensures { IfOk result (λ shared. shared ≡ self.now) }
     {
         let seed = self.seed.share()?;
@@ -153,7 +156,7 @@ impl BoxedRoad {
             Some(road) => Some(Arc::try_clone(road)?),
             None => None,
         };
-        Ok(BoxedRoad { seed, held })
+        Ok(SharedRoad { seed, held })
     }
 
     /// The shared road.

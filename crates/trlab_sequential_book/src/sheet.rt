@@ -8,7 +8,7 @@ ghost use Rattle.trlab_rules.specs.Rules.{Programs};
 
 use crate::fault::BookFault;
 use crate::lease::ExecutedStep;
-use crate::rule::BoxedRule;
+use crate::rule::SharedRule;
 use std::alloc::{AllocError, Global};
 use std::marker::Model;
 use trlab_rules::Rule;
@@ -18,7 +18,7 @@ pub const MAX_ENTRIES: usize = 1024;
 
 /// The rules of a job. Each entry is in force from its step until the next entry begins; the first begins at step 0.
 pub struct Sheet {
-    entries: Vec<(u32, BoxedRule)>,
+    entries: Vec<(u32, SharedRule)>,
 }
 
 // Not derived: a derived drop is proved again, field by field, wherever the value goes out of scope.
@@ -41,7 +41,7 @@ impl Model for Sheet {
 
 impl Sheet {
     /// The sheet with one rule, in force from step 0.
-    pub(crate) fn new(alloc: Global, rule: BoxedRule) -> Result<Sheet, AllocError>
+    pub(crate) fn new(alloc: Global, rule: SharedRule) -> Result<Sheet, AllocError>
         ensures { IfOk result (λ sheet. sheet ≡ (0, rule) ∷ []) }
     {
         let mut entries = Vec::new(alloc);
@@ -63,12 +63,12 @@ impl Sheet {
         requires { index < length self.now }
         ensures { slice_get self.now index ≡ Some (result.0, result.1.now) }
     {
-        let (from, rule) = self.boxed_entry(index);
+        let (from, rule) = self.shared_entry(index);
         (from, rule.get())
     }
 
-    /// `entry`, with the rule as a `BoxedRule`, which can be shared.
-    fn boxed_entry(&self, index: usize) -> (u32, &BoxedRule)
+    /// `entry`, with the rule as a `SharedRule`, which can be shared.
+    fn shared_entry(&self, index: usize) -> (u32, &SharedRule)
         requires { index < length self.now }
         ensures { slice_get self.now index ≡ Some (result.0, result.1.now) }
     {
@@ -77,7 +77,7 @@ impl Sheet {
     }
 
     /// The entry in force at a step: the last one that begins there or before.
-    pub(crate) fn entry_in_force(&self, step: u32) -> &(u32, BoxedRule)
+    pub(crate) fn entry_in_force(&self, step: u32) -> &(u32, SharedRule)
         ensures entry { entry_in_force self.now step ≡ Some result.now }
         ensures rule { in_force self.now step ≡ Some result.now.1 }
     {
@@ -107,7 +107,7 @@ impl Sheet {
         let Some(ran) = applied.first() else {
             return true;
         };
-        let (from, rule) = self.boxed_entry(self.len() - 1);
+        let (from, rule) = self.shared_entry(self.len() - 1);
         if is_steady && from <= first {
             rule.equals(&ran.rule)
         } else {
@@ -145,7 +145,7 @@ impl Sheet {
         ensures unchanged { OnErr result (self.new ≡ self.old) }
     {
         let alloc = *self.entries.allocator();
-        let rule = BoxedRule::new(alloc, rule)?;
+        let rule = SharedRule::new(alloc, rule)?;
         make_room(&mut self.entries, from)?;
         self.entries.push_reserved((from, rule));
         Ok(())
@@ -153,7 +153,7 @@ impl Sheet {
 }
 
 /// Makes room for an entry that begins at the step `from`. Drops the last entry if it begins there as well.
-fn make_room(entries: &mut Vec<(u32, BoxedRule)>, from: u32) -> Result<(), BookFault>
+fn make_room(entries: &mut Vec<(u32, SharedRule)>, from: u32) -> Result<(), BookFault>
     requires sheet { IsBookSheet entries.old.items }
     requires begin { BeginBy from entries.old.items }
     ensures ok { (rule : Programs) → OnOk result
@@ -180,8 +180,8 @@ fn make_room(entries: &mut Vec<(u32, BoxedRule)>, from: u32) -> Result<(), BookF
 /// A copy of a list of entries that shares their rules.
 fn copy_entries(
     alloc: Global,
-    entries: &[(u32, BoxedRule)],
-) -> Result<Vec<(u32, BoxedRule)>, AllocError>
+    entries: &[(u32, SharedRule)],
+) -> Result<Vec<(u32, SharedRule)>, AllocError>
     ensures { IfOk result (λ copies. copies.items ≡ entries.now) }
 {
     let mut copies = Vec::with_capacity(alloc, entries.len())?;

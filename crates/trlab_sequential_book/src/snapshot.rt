@@ -1,24 +1,24 @@
 //! Snapshots: the results of reads.
 
 ghost use Rattle.std.specs.Prelude.{◌≡◌, length};
-ghost use Rattle.trlab_road.specs.Legal.{IsLegal};
+ghost use Rattle.trlab_road.specs.Cells.{IsLegal};
 ghost use Rattle.trlab_step.specs.Laws.{IsLegalLike};
 ghost use Rattle.trlab_step.specs.Run.{IsSheetFor, IsRoadAt, IsTallyAt};
-ghost use Rattle.trlab_sequential_book.specs.Jobs.{run_start};
+ghost use Rattle.trlab_sequential_book.specs.Comparison.{run_seed};
 
-use crate::seed::{BoxedRoad, BoxedSeed, Seed};
+use crate::seed::{Seed, SharedRoad, SharedSeed};
 use crate::sheet::Sheet;
 use std::marker::Model;
 use trlab_road::Road;
 use trlab_step::StepTally;
 
-/// The state of a job after the steps that it has done. Its type guarantees that the road and the tally are those of one worker
-/// who runs the seed under the sheet.
+/// The state of a job after the steps that it has done. Its type guarantees that the road and the tally are those of
+/// one worker who runs the seed under the sheet.
 pub struct Snapshot {
-    pub(crate) seed: BoxedSeed,
+    pub(crate) seed: SharedSeed,
     pub(crate) sheet: Sheet,
     pub(crate) step: u32,
-    pub(crate) road: BoxedRoad,
+    pub(crate) road: SharedRoad,
     pub(crate) tally: StepTally,
 }
 
@@ -37,7 +37,7 @@ impl Drop for Snapshot {
 
 impl Model for Snapshot {
     ghost use Rattle.trlab_step.specs.Run.{IsReachedByRun, Progress};
-    ghost use Rattle.trlab_sequential_book.specs.Jobs.{progress_of};
+    ghost use Rattle.trlab_sequential_book.specs.Comparison.{progress_of};
 
     ghost Value = { Progress };
 
@@ -49,7 +49,7 @@ impl Model for Snapshot {
 impl Snapshot {
     /// The initial state of the job.
     pub fn seed(&self) -> &Seed
-        ensures value { run_start result.now ≡ self.now.seed }
+        ensures value { run_seed result.now ≡ self.now.seed }
         ensures legal { IsLegal result.now.road }
     {
         self.seed.get()

@@ -1,24 +1,18 @@
 -- Accepted programs have an answer for each car of a legal road.
-use Rattle.std.proofs.Common.{◌≡◌, ℕ, zero, suc, ◌-◌, ◌<◌, ◌≤◌, Bool, Option, true, false, cond, Some, None, length, refl, subst, arith, is_none}
+use Rattle.std.proofs.Common.{◌≡◌, ℕ, zero, suc, ◌-◌, ◌<◌, ◌≤◌, Bool, Option, true, false, cond, Some, None}
+use Rattle.std.proofs.Common.{length, refl, subst, arith, is_none}
 use Rattle.trlab_bounds.specs.declared.roads.TheConstants.{MAX_LENGTH}
 use Rattle.trlab_words.proofs.RandomWords.{length-random_words}
-use Rattle.trlab_code.specs.declared.program.Kind.TheVariants.{Motion, Change}
-use Rattle.trlab_code.specs.Views.{IsViewInRange}
+use Rattle.trlab_code.specs.{declared.program.Kind.TheVariants.{Motion, Change}, Views.IsViewInRange}
 use Rattle.trlab_verify.specs.Verified.{CheckedProgram, IsChecked}
-use Rattle.trlab_road.specs.Cells.{Cell, Cells, Lane, cell, lane_of, IsAt}
-use Rattle.trlab_road.specs.LaneChange.{other_lane, CrossesToEmpty}
-use Rattle.trlab_road.specs.Gaps.{gap, side, ahead, behind, clear_cells, largest, is_clear}
-use Rattle.trlab_road.specs.Legal.{IsLegal}
-use Rattle.trlab_road.specs.Motion.{Fits}
-use Rattle.trlab_road.proofs.Headspeeds.{headspeed_within}
-use Rattle.trlab_road.proofs.MotionLaws.{on_lane}
-use Rattle.trlab_machine.proofs.Crossings.{checked_change_answers}
-use Rattle.trlab_machine.proofs.Speeds.{checked_motion_moves}
-use Rattle.trlab_machine.specs.declared.dice.Dice.{Dice}
-use Rattle.trlab_machine.specs.Blocks.{words_of}
-use Rattle.trlab_step.specs.Answers.{motion_view_of, change_view_of, AnswersSpeed, AnswersCrossing, AnswersSpeeds, AnswersCrossings}
-use Rattle.trlab_road.specs.declared.car.Car.{Car}
-use Rattle.trlab_road.proofs.Ring.{car_in}
+use Rattle.trlab_road.specs.{Cells.{Cell, Cells, Lane, cell, lane_of, IsAt, IsLegal}, LaneChange.other_lane}
+use Rattle.trlab_road.specs.{LaneChange.CrossesToEmpty, Gaps.{gap, side, ahead, behind, clear_cells, largest}}
+use Rattle.trlab_road.specs.{Gaps.is_clear, Motion.Fits, declared.car.Car.Car}
+use Rattle.trlab_road.proofs.{Headspeeds.headspeed_within, MotionLaws.on_lane, Ring.car_in}
+use Rattle.trlab_machine.proofs.{Crossings.checked_change_answers, Speeds.checked_motion_moves}
+use Rattle.trlab_machine.specs.{declared.dice.Dice.Dice, Blocks.words_of}
+use Rattle.trlab_step.specs.Answers.{motion_view_of, change_view_of, AnswersSpeed, AnswersCrossing}
+use Rattle.trlab_step.specs.Answers.{AnswersSpeeds, AnswersCrossings}
 
 greatest_within : (test : ℕ → Bool) (n : ℕ) → largest test n ≤ n
 greatest_within test zero = omega arith

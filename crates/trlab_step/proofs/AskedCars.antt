@@ -1,23 +1,17 @@
 -- The views of the cars whose programs are run, and the answers of their programs.
-use Rattle.std.proofs.Common.{◌≡◌, ◌∙◌, ℕ, ◌≤◌, Bool, true, false, Some, List, length, refl, sym, ap, subst, slice_index, slice_index_or}
-use Rattle.trlab_code.specs.declared.program.Kind.TheVariants.{Motion, Change}
-use Rattle.trlab_code.specs.declared.view.View.{View}
-use Rattle.trlab_code.specs.Machine.{EndsWith, Goes}
-use Rattle.trlab_code.specs.Views.{IsViewInRange, motion_view}
+use Rattle.std.proofs.Common.{◌≡◌, ◌∙◌, ℕ, ◌≤◌, Bool, true, false, Some, List, length, refl, sym, ap, subst}
+use Rattle.std.proofs.Common.{slice_index, slice_index_or}
+use Rattle.trlab_code.specs.declared.{program.Kind.TheVariants.{Motion, Change}, view.View.View}
+use Rattle.trlab_code.specs.{Machine.{EndsWith, Goes}, Views.{IsViewInRange, motion_view}}
 use Rattle.trlab_machine.specs.Blocks.{CrossesWith, MovesWith, with_other_lane, words_of}
-use Rattle.trlab_machine.specs.Answers.{crossing_answer}
-use Rattle.trlab_road.specs.declared.car.Car.{Car}
-use Rattle.trlab_road.specs.Cells.{Cells, lane_of, IsAt}
-use Rattle.trlab_road.specs.LaneChange.{other_lane, sides}
-use Rattle.trlab_road.specs.Gaps.{gap, headspeed, side, sidegap, sideback}
-use Rattle.trlab_road.specs.Legal.{IsLegal}
+use Rattle.trlab_machine.specs.{Answers.crossing_answer, declared.dice.Dice.Dice}
+use Rattle.trlab_road.specs.{declared.car.Car.Car, Cells.{Cells, lane_of, IsAt, IsLegal, IsNthCar}}
+use Rattle.trlab_road.specs.{LaneChange.{other_lane, sides}, Gaps.{gap, headspeed, side, sidegap, sideback}}
 use Rattle.trlab_road.specs.Motion.{gaps}
-use Rattle.trlab_road.specs.Standing.{IsNthCar}
-use Rattle.trlab_machine.specs.declared.dice.Dice.{Dice}
-use Rattle.trlab_step.specs.Answers.{AnswersCrossing, AnswersSpeed, change_view_of, dice_of, motion_view_of, DescribesCar}
+use Rattle.trlab_step.specs.Answers.{AnswersCrossing, AnswersSpeed, change_view_of, dice_of, motion_view_of}
+use Rattle.trlab_step.{specs.Answers.DescribesCar, proofs.AnswersExist.change_view_is_view}
+use Rattle.trlab_step.proofs.{AnswersExist.motion_view_is_view, Parts.{same_beside, same_view}}
 use Rattle.trlab_verify.specs.Verified.{CheckedProgram}
-use Rattle.trlab_step.proofs.AnswersExist.{change_view_is_view, motion_view_is_view}
-use Rattle.trlab_step.proofs.Parts.{same_beside, same_view}
 
 some_same : {a b : Car} → Some a ≡ Some b → a ≡ b
 some_same h = cc

@@ -1,14 +1,14 @@
 -- The answers of the cars of a block, which are appended to the answers before them.
-use Rattle.std.proofs.Common.{◌≡◌, ◌∙◌, ℕ, ◌+◌, ◌%◌, ◌<◌, ◌≤◌, List, ◌++◌, Bool, false, length, take, get_or, get_or-take, length-take, sym, subst, arith, slice_index, slice_index_or}
+use Rattle.std.proofs.Common.{◌≡◌, ◌∙◌, ℕ, ◌+◌, ◌%◌, ◌<◌, ◌≤◌, List, ◌++◌, Bool, false, length, take, get_or}
+use Rattle.std.proofs.Common.{get_or-take, length-take, sym, subst, arith, slice_index, slice_index_or}
 use Rattle.trlab_bounds.specs.declared.roads.TheConstants.{MAX_LIMIT}
 use Rattle.trlab_code.specs.declared.program.Kind.TheVariants.{Motion, Change}
-use Rattle.trlab_machine.specs.declared.dice.Dice.{Dice}
-use Rattle.trlab_machine.specs.declared.views.Views.{Views}
+use Rattle.trlab_machine.specs.declared.{dice.Dice.Dice, views.Views.Views}
 use Rattle.trlab_machine.specs.Blocks.{CrossesWith, MovesWith, car_words, view_of}
 use Rattle.trlab_road.specs.Cells.{Cells}
-use Rattle.trlab_step.specs.Answers.{AnswersCrossing, AnswersCrossingsPart, AnswersSpeed, AnswersSpeedsPart, CrossingsFitPart, SpeedsFitPart, DescribesCar}
-use Rattle.trlab_step.proofs.AskedCars.{CrossesBy, GoesBy, crosses_by, goes_by}
-use Rattle.trlab_step.proofs.PartLaws.{more_answers}
+use Rattle.trlab_step.specs.Answers.{AnswersCrossing, AnswersCrossingsPart, AnswersSpeed, AnswersSpeedsPart}
+use Rattle.trlab_step.specs.Answers.{CrossingsFitPart, SpeedsFitPart, DescribesCar}
+use Rattle.trlab_step.proofs.{AskedCars.{CrossesBy, GoesBy, crosses_by, goes_by}, PartLaws.more_answers}
 use Rattle.trlab_step.proofs.Parts.{more_fits, more_free}
 use Rattle.trlab_verify.specs.Verified.{CheckedProgram}
 

@@ -1,7 +1,6 @@
 -- The blocks of cars whose programs are run, one block after another.
 use Rattle.std.proofs.Common.{◌≡◌, ℕ, ◌+◌, ◌-◌, ◌*◌, ◌/◌, ◌%◌, ◌<◌, ◌≤◌, List, [], min, Bool, arith}
-use Rattle.trlab_road.specs.declared.car.Car.{Car}
-use Rattle.trlab_road.specs.Cells.{Cells}
+use Rattle.trlab_road.specs.{declared.car.Car.Car, Cells.Cells}
 use Rattle.trlab_step.specs.Answers.{AreAnswersPart, CrossingsFitPart, SpeedsFitPart}
 
 -- there are no answers before the first block

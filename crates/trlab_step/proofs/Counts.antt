@@ -1,12 +1,10 @@
 -- The largest counts of one step.
-use Rattle.std.proofs.Common.{◌≡◌, ℕ, suc, ◌*◌, ◌<◌, ◌≤◌, List, [], ◌∷◌, length, get_or, arith, Bool, true, false, cond, Option, Some, None, sum_by, count_by, is_some, nat_eq}
+use Rattle.std.proofs.Common.{◌≡◌, ℕ, suc, ◌*◌, ◌<◌, ◌≤◌, List, [], ◌∷◌, length, get_or, arith, Bool, true}
+use Rattle.std.proofs.Common.{false, cond, Option, Some, None, sum_by, count_by, is_some, nat_eq}
 use Rattle.std.proofs.lemmas.List.Sums.{sum_by-cons}
 use Rattle.trlab_bounds.specs.declared.roads.TheConstants.{MAX_LIMIT}
-use Rattle.trlab_road.specs.declared.car.Car.{Car}
-use Rattle.trlab_road.specs.Cells.{Cells, Lane, cars, lane_car_count}
-use Rattle.trlab_road.specs.Legal.{IsLegal}
-use Rattle.trlab_road.specs.Standing.{standing}
-use Rattle.trlab_road.proofs.StandingOrder.{standing_cell, length-standing_from_lane}
+use Rattle.trlab_road.specs.{declared.car.Car.Car, Cells.{Cells, Lane, cars, lane_car_count, IsLegal}}
+use Rattle.trlab_road.{specs.Cells.standing, proofs.StandingOrder.{standing_cell, length-standing_from_lane}}
 use Rattle.trlab_rules.specs.Rules.{Programs}
 use Rattle.trlab_verify.specs.Verified.{CheckedProgram}
 use Rattle.trlab_machine.specs.declared.dice.Dice.{Dice}

@@ -1,22 +1,20 @@
 -- The roads of a run are driven by one worker.
 use Rattle.std.proofs.Common.{ℕ, suc, length, subst, zero-le, arith}
 use Rattle.trlab_machine.specs.declared.dice.Dice.{Dice}
-use Rattle.trlab_road.specs.Cells.{Cells}
-use Rattle.trlab_road.specs.Legal.{IsLegal}
+use Rattle.trlab_road.specs.Cells.{Cells, IsLegal}
 use Rattle.trlab_rules.specs.Rules.{Programs}
-use Rattle.trlab_step.specs.declared.tally.StepTally.{StepTally}
-use Rattle.trlab_step.specs.Laws.{IsDrivenStep, RunsAreDriven, IsLegalLike}
-use Rattle.trlab_step.specs.Run.{IsRuleFor, IsSheetFor, Seed, Sheet, IsRoadAt, dice_at}
-use Rattle.trlab_step.specs.Next.{IsCleanNext, IsNext}
-use Rattle.trlab_step.proofs.NextLaws.{next_road_exists, next_road_is_one}
-use Rattle.trlab_step.proofs.RunLaws.{force_all, road_at_is_one, rule_for_like, run_comes_to_road}
+use Rattle.trlab_step.specs.{declared.tally.StepTally.StepTally, Laws.{IsDrivenStep, RunsAreDriven}}
+use Rattle.trlab_step.specs.{Laws.IsLegalLike, Run.{IsRuleFor, IsSheetFor, Seed, Sheet, IsRoadAt, dice_at}}
+use Rattle.trlab_step.{specs.Next.{IsCleanNext, IsNext}, proofs.NextLaws.next_road_exists}
+use Rattle.trlab_step.proofs.{NextLaws.next_road_is_unique, RunLaws.{force_all, road_at_is_one}}
+use Rattle.trlab_step.proofs.RunLaws.{rule_for_like, run_comes_to_road}
 
 -- there is exactly one next road, and it is clean
 next_is_clean : (rule : Programs) (dice : Dice) (road next : Cells) (tally : StepTally) → IsRuleFor (length road.lanes) rule → IsLegal road
     → IsNext rule dice road next tally → IsCleanNext rule dice road next tally
 next_is_clean rule dice road next tally is legal comes =
     let found = next_road_exists rule dice road is legal in
-    let same = next_road_is_one rule dice road found.0 next found.1 tally (found.2.0, found.2.1.step) comes in
+    let same = next_road_is_unique rule dice road found.0 next found.1 tally (found.2.0, found.2.1.step) comes in
     subst (λ (count : StepTally). IsCleanNext rule dice road next count) same.1
     (subst (λ (other : Cells). IsCleanNext rule dice road other found.1) same.0 found.2)
 

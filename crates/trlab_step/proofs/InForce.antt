@@ -1,6 +1,6 @@
 -- The rule in force is that of the last entry whose step has come.
-use Rattle.std.proofs.Common.{◌≡◌, ℕ, zero, suc, ◌+◌, ◌<◌, ◌≤◌, [], ◌∷◌, length, get_or, refl, arith, true, false, le-leb, Some, None, nat_le}
-use Rattle.std.specs.List.{AllWithin}
+use Rattle.std.proofs.Common.{◌≡◌, ℕ, zero, suc, ◌+◌, ◌<◌, ◌≤◌, [], ◌∷◌, length, get_or, refl, arith, true}
+use Rattle.std.{proofs.Common.{false, le-leb, Some, None, nat_le}, specs.List.AllWithin}
 use Rattle.std.specs.List.Sorted.{IsNonDecreasingBy}
 use Rattle.trlab_rules.specs.Rules.{Programs}
 use Rattle.trlab_step.specs.Run.{Sheet, StepsIncreaseFrom, in_force}

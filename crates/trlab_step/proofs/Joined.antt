@@ -1,11 +1,9 @@
 -- The answers of two adjacent parts, one after the other, are those of both.
-use Rattle.std.proofs.Common.{◌≡◌, ℕ, ◌+◌, ◌-◌, ◌<◌, ◌≤◌, ◌++◌, Bool, true, false, List, [], length, get_or, refl, sym, subst, inl, inr, arith, length-append}
-use Rattle.std.proofs.lemmas.Bool.{cases_lt}
+use Rattle.std.proofs.Common.{◌≡◌, ℕ, ◌+◌, ◌-◌, ◌<◌, ◌≤◌, ◌++◌, Bool, true, false, List, [], length, get_or}
+use Rattle.std.proofs.{Common.{refl, sym, subst, inl, inr, arith, length-append}, lemmas.Bool.cases_lt}
 use Rattle.std.proofs.lemmas.List.{get_or_append_left, get_or-append_right}
 use Rattle.trlab_machine.specs.declared.dice.Dice.{Dice}
-use Rattle.trlab_road.specs.Cells.{Cells}
-use Rattle.trlab_road.specs.LaneChange.{sides}
-use Rattle.trlab_road.specs.Motion.{gaps}
+use Rattle.trlab_road.specs.{Cells.Cells, LaneChange.sides, Motion.gaps}
 use Rattle.trlab_step.specs.Answers.{CrossingsFitPart, SpeedsFitPart, IsCrossingsPart, IsSpeedsPart}
 use Rattle.trlab_step.proofs.PartLaws.{speeds_join as join_speeds, crossings_join as join_crossings}
 use Rattle.trlab_verify.specs.Verified.{CheckedProgram}

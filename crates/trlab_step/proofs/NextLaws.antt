@@ -1,28 +1,23 @@
 -- There is exactly one next road.
-use Rattle.std.proofs.Common.{◌≡◌, ℕ, suc, ◌<◌, ◌+◌, Bool, cond, Option, Some, None, List, [], ◌∷◌, length, get_or, refl, sym, ◌∙◌, ap, subst, arith, count_by, IfSome, IsSome}
+use Rattle.std.proofs.Common.{◌≡◌, ℕ, suc, ◌<◌, ◌+◌, Bool, cond, Option, Some, None, List, [], ◌∷◌, length}
+use Rattle.std.proofs.Common.{get_or, refl, sym, ◌∙◌, ap, subst, arith, count_by, IfSome, IsSome}
 use Rattle.std.proofs.lemmas.List.Sums.{sum_by-cons}
 use Rattle.trlab_code.specs.declared.program.Kind.TheVariants.{Motion, Change}
 use Rattle.trlab_verify.specs.Verified.{CheckedProgram, IsChecked}
-use Rattle.trlab_road.specs.declared.car.Car.{Car}
-use Rattle.trlab_road.specs.Cells.{Cells, AgreeAtCars}
-use Rattle.trlab_road.specs.LaneChange.{IsCleanLaneChange, road_after_change}
-use Rattle.trlab_road.specs.LaneChange.StaysOrCrosses.{on_own_lane}
-use Rattle.trlab_road.specs.Standing.{standing}
-use Rattle.trlab_road.specs.Legal.{IsLegal}
+use Rattle.trlab_road.specs.{declared.car.Car.Car, Cells.{Cells, AgreeAtCars, standing, IsLegal}}
+use Rattle.trlab_road.specs.LaneChange.{IsCleanLaneChange, road_after_change, StaysOrCrosses.on_own_lane}
 use Rattle.trlab_road.specs.Motion.{IsCleanMotion}
 use Rattle.trlab_road.proofs.MotionLaws.{moves_clean, moves_same_count, moved_legal, one_road_only}
-use Rattle.trlab_road.proofs.MotionExists.{road_moves_somewhere}
-use Rattle.trlab_road.proofs.MotionInOrder.{moves_by}
-use Rattle.trlab_road.proofs.LaneChangeLaws.{crosses_by, road_after_change_is, lane_change_clean, lane_change_legal, lane_change_same_count, one_road_after_change}
+use Rattle.trlab_road.proofs.{MotionExists.road_moves_somewhere, MotionInOrder.moves_by}
+use Rattle.trlab_road.proofs.LaneChangeLaws.{crosses_by, road_after_change_is, lane_change_clean}
+use Rattle.trlab_road.proofs.LaneChangeLaws.{lane_change_legal, lane_change_same_count, one_road_after_change}
 use Rattle.trlab_road.proofs.StandingOrder.{standing_cell, length-standing_from_lane}
-use Rattle.trlab_step.specs.declared.tally.StepTally.{StepTally}
-use Rattle.trlab_machine.specs.declared.dice.Dice.{Dice}
-use Rattle.trlab_step.specs.Answers.{AnswersSpeeds, AnswersCrossings}
+use Rattle.trlab_step.specs.{declared.tally.StepTally.StepTally, Answers.{AnswersSpeeds, AnswersCrossings}}
 use Rattle.trlab_step.specs.Next.{total_speed, stopped_cars, crossing_cars, IsLaneChangePhase, IsMotionPhase}
 use Rattle.trlab_step.specs.Laws.{IsLegalLike, NextRoadExists, NextRoadIsUnique}
 use Rattle.trlab_step.proofs.AnswersExist.{speeds_exist, crossings_exist}
-use Rattle.trlab_step.proofs.PartLaws.{one_answer_each, one_crossing_each}
-use Rattle.trlab_step.proofs.SafeCalls.{step_calls_safe}
+use Rattle.trlab_step.proofs.{PartLaws.{one_answer_each, one_crossing_each}, SafeCalls.step_calls_safe}
+use Rattle.trlab_machine.specs.declared.dice.Dice.{Dice}
 
 -- a road is like itself, and likeness is transitive
 pub like_itself : (road : Cells) → IsLegal road → IsLegalLike road road
@@ -168,8 +163,8 @@ unfolding counted
 tally_path a b distance stopped changes =
     ap (λ n. counted n a.stopped a.changes) distance ∙ ap (λ n. counted b.distance n a.changes) stopped ∙ ap (counted b.distance b.stopped) changes
 
-pub next_road_is_one : NextRoadIsUnique
-next_road_is_one rule dice road next other tally count a b =
+pub next_road_is_unique : NextRoadIsUnique
+next_road_is_unique rule dice road next other tally count a b =
     let side = lane_change_is_one rule.change dice road a.0 b.0 tally.changes count.changes a.1.lane_change b.1.lane_change in
     let phase = subst (λ (middle : Cells). IsMotionPhase rule.motion dice middle next) side.0 a.1.motion in
     let same = motion_is_one rule.motion dice b.0 next other phase b.1.motion in

@@ -1,22 +1,20 @@
 -- A run on its way: its road is legal, and its counts are small enough.
-use Rattle.std.proofs.Common.{◌≡◌, ℕ, zero, suc, ◌+◌, ◌*◌, ◌^◌, ◌<◌, ◌≤◌, length, refl, sym, subst, arith, Bool, true, false, Some, nat_le, if◌then◌else◌}
+use Rattle.std.proofs.Common.{◌≡◌, ℕ, zero, suc, ◌+◌, ◌*◌, ◌^◌, ◌<◌, ◌≤◌, length, refl, sym, subst, arith}
+use Rattle.std.proofs.Common.{Bool, true, false, Some, nat_le, if◌then◌else◌}
 use Rattle.trlab_bounds.specs.declared.roads.TheConstants.{MAX_LIMIT}
-use Rattle.trlab_road.specs.Cells.{Cells}
-use Rattle.trlab_road.specs.Legal.{IsLegal}
+use Rattle.trlab_road.specs.Cells.{Cells, IsLegal}
 use Rattle.trlab_rules.specs.Rules.{Programs}
-use Rattle.trlab_step.specs.Run.{IsRuleFor, IsSheetFor, Seed, Sheet, in_force, tally_sum, dice_at, ComesTo, Progress, IsReachedByRun}
-use Rattle.trlab_step.specs.Laws.{IsLegalLike}
-use Rattle.trlab_step.specs.Next.{IsNext}
-use Rattle.trlab_step.specs.declared.tally.StepTally.{StepTally}
-use Rattle.trlab_step.proofs.RunLaws.{force_all, run_comes_to_road, road_is_one}
-use Rattle.trlab_step.proofs.Counts.{IsSmall, small_tally}
+use Rattle.trlab_step.specs.Run.{IsRuleFor, IsSheetFor, Seed, Sheet, in_force, tally_sum, dice_at, ComesTo}
+use Rattle.trlab_step.specs.{Run.{Progress, IsReachedByRun}, Laws.IsLegalLike, Next.IsNext}
+use Rattle.trlab_step.{specs.declared.tally.StepTally.StepTally, proofs.RunLaws.force_all}
+use Rattle.trlab_step.proofs.{RunLaws.{run_comes_to_road, road_is_unique}, Counts.{IsSmall, small_tally}}
 
 -- each road of a run is like its first road
 pub like_start : (seed : Seed) (sheet : Sheet) (step : ℕ) (road : Cells) (sum : StepTally) → IsLegal seed.road → IsSheetFor (length seed.road.lanes) sheet
     → ComesTo seed sheet step road sum → IsLegalLike seed.road road
 like_start seed sheet step road sum legal suits comes =
     let at = run_comes_to_road seed sheet step legal suits in
-    subst (λ (r : Cells). IsLegalLike seed.road r) (road_is_one seed sheet step at.0 road at.1 sum at.2 comes).0 at.3
+    subst (λ (r : Cells). IsLegalLike seed.road r) (road_is_unique seed sheet step at.0 road at.1 sum at.2 comes).0 at.3
 
 -- the rule in force is one for the lanes of the current road
 pub rule_here : (run : Progress) (rule : Programs) → IsReachedByRun run → in_force run.sheet run.step ≡ Some rule → IsRuleFor (length run.road.lanes) rule

@@ -1,20 +1,16 @@
 -- The answers to parts of the standing order.
-use Rattle.std.proofs.Common.{◌≡◌, ℕ, ◌+◌, ◌-◌, ◌<◌, ◌≤◌, ◌++◌, ◌∙◌, Bool, true, false, Some, List, length, get_or, refl, sym, ap, subst, inl, inr, arith, length-append, slice_get}
-use Rattle.std.proofs.lemmas.Bool.{cases_lt}
-use Rattle.std.proofs.lemmas.List.{ext_get_or, get_or_append_left, get_or-append_right}
-use Rattle.std.proofs.lemmas.Option.{slice_get-get_or, slice_get_past, get_or_from_slice_get}
-use Rattle.trlab_code.specs.declared.program.Kind.TheVariants.{Motion, Change}
-use Rattle.trlab_code.specs.Machine.{Goes}
-use Rattle.trlab_machine.specs.Answers.{crossing_answer}
+use Rattle.std.proofs.Common.{◌≡◌, ℕ, ◌+◌, ◌-◌, ◌<◌, ◌≤◌, ◌++◌, ◌∙◌, Bool, true, false, Some, List, length}
+use Rattle.std.proofs.Common.{get_or, refl, sym, ap, subst, inl, inr, arith, length-append, slice_get}
+use Rattle.std.proofs.{Common.ext_get_or, lemmas.List.{get_or_append_left, get_or-append_right}}
+use Rattle.std.proofs.lemmas.{Bool.cases_lt, Option.{slice_get-get_or, slice_get_past, get_or_from_slice_get}}
+use Rattle.trlab_code.specs.{declared.program.Kind.TheVariants.{Motion, Change}, Machine.Goes}
+use Rattle.trlab_machine.specs.{Answers.crossing_answer, declared.dice.Dice.Dice, Blocks.words_of}
 use Rattle.trlab_machine.proofs.Answers.{one_answer}
 use Rattle.trlab_verify.specs.Verified.{CheckedProgram}
-use Rattle.trlab_road.specs.declared.car.Car.{Car}
-use Rattle.trlab_road.specs.Cells.{Cells, cars}
-use Rattle.trlab_road.specs.Standing.{IsNthCar, rank, standing}
+use Rattle.trlab_road.specs.{declared.car.Car.Car, Cells.{Cells, cars, IsNthCar, rank, standing}}
 use Rattle.trlab_road.proofs.StandingOrder.{car_of, length-standing_from_lane, rank_below_cars, standing_rank}
-use Rattle.trlab_machine.specs.declared.dice.Dice.{Dice}
-use Rattle.trlab_machine.specs.Blocks.{words_of}
-use Rattle.trlab_step.specs.Answers.{motion_view_of, change_view_of, AnswersSpeed, AnswersCrossing, AreAnswers, AreAnswersPart}
+use Rattle.trlab_step.specs.Answers.{motion_view_of, change_view_of, AnswersSpeed, AnswersCrossing}
+use Rattle.trlab_step.specs.Answers.{AreAnswers, AreAnswersPart}
 use Rattle.trlab_step.specs.Laws.{SpeedsAreUnique, SpeedsJoin, CrossingsAreUnique, CrossingsJoin}
 
 one_speed : {a b : ℕ} → Goes a ≡ Goes b → a ≡ b

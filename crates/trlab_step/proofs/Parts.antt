@@ -1,18 +1,14 @@
 -- Answers to parts of the standing order.
-use Rattle.std.proofs.Common.{◌≡◌, ℕ, ◌+◌, ◌-◌, ◌<◌, ◌≤◌, Bool, true, false, List, ◌++◌, length, get_or, refl, sym, ◌∙◌, ap, subst, inl, inr, arith, length-append}
-use Rattle.std.proofs.lemmas.Bool.{cases_lt}
+use Rattle.std.proofs.Common.{◌≡◌, ℕ, ◌+◌, ◌-◌, ◌<◌, ◌≤◌, Bool, true, false, List, ◌++◌, length, get_or, refl}
+use Rattle.std.proofs.{Common.{sym, ◌∙◌, ap, subst, inl, inr, arith, length-append}, lemmas.Bool.cases_lt}
 use Rattle.std.proofs.lemmas.List.{get_or_append_left, get_or-append_right}
-use Rattle.trlab_code.specs.declared.view.View.{View}
-use Rattle.trlab_code.specs.Views.{motion_view}
+use Rattle.trlab_code.specs.{declared.view.View.View, Views.motion_view}
 use Rattle.trlab_verify.specs.Verified.{CheckedProgram}
-use Rattle.trlab_road.specs.declared.car.Car.{Car}
-use Rattle.trlab_road.specs.Cells.{Cells, cars, lane_of}
-use Rattle.trlab_road.specs.LaneChange.{AreSafeCrossings, other_lane, sides}
-use Rattle.trlab_road.specs.Gaps.{side, sidegap, sideback}
-use Rattle.trlab_road.specs.Motion.{AreSafeSpeeds, gaps}
-use Rattle.trlab_machine.specs.declared.dice.Dice.{Dice}
-use Rattle.trlab_machine.specs.Blocks.{with_other_lane}
-use Rattle.trlab_step.specs.Answers.{change_view_of, motion_view_of, CrossingsFitPart, SpeedsFitPart, IsCrossingsPart, IsSpeedsPart}
+use Rattle.trlab_road.specs.{declared.car.Car.Car, Cells.{Cells, cars, lane_of}, Motion.{AreSafeSpeeds, gaps}}
+use Rattle.trlab_road.specs.{LaneChange.{AreSafeCrossings, other_lane, sides}, Gaps.{side, sidegap, sideback}}
+use Rattle.trlab_machine.specs.{declared.dice.Dice.Dice, Blocks.with_other_lane}
+use Rattle.trlab_step.specs.Answers.{change_view_of, motion_view_of, CrossingsFitPart, SpeedsFitPart}
+use Rattle.trlab_step.specs.Answers.{IsCrossingsPart, IsSpeedsPart}
 
 pub same_view : (a b c d x y z w : ℕ) → a ≡ x → b ≡ y → c ≡ z → d ≡ w → motion_view a b c d ≡ motion_view x y z w
 same_view a b c d x y z w e f g h = ap (λ k. motion_view k b c d) e ∙ ap (λ k. motion_view x k c d) f ∙ ap (λ k. motion_view x y k d) g ∙ ap (motion_view x y z) h

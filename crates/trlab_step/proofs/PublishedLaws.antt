@@ -1,32 +1,27 @@
 -- Steps under the published rules, cell by cell.
-use Rattle.std.proofs.Common.{◌≡◌, ℕ, ◌+◌, ◌<◌, ◌&&◌, Bool, true, false, cond, Option, Some, None, List, length, if◌then◌else◌, refl, sym, ◌∙◌, ap, subst, arith, is_none, nat_lt, slice_index, MatchOption}
-use Rattle.trlab_words.specs.Chances.{happens_on}
-use Rattle.trlab_words.specs.Words.{random_word}
-use Rattle.trlab_words.proofs.RandomWords.{slice_index-random_words}
-use Rattle.trlab_code.specs.declared.program.Kind.TheVariants.{Change}
-use Rattle.trlab_code.specs.declared.view.View.{View}
+use Rattle.std.proofs.Common.{◌≡◌, ℕ, ◌+◌, ◌<◌, ◌&&◌, Bool, true, false, cond, Option, Some, None, List}
+use Rattle.std.proofs.Common.{length, if◌then◌else◌, refl, sym, ◌∙◌, ap, subst, arith, is_none, nat_lt}
+use Rattle.std.proofs.Common.{slice_index, MatchOption}
+use Rattle.trlab_words.{specs.Words.{happens_on, random_word}, proofs.RandomWords.slice_index-random_words}
+use Rattle.trlab_code.specs.declared.{program.Kind.TheVariants.Change, view.View.View}
 use Rattle.trlab_code.specs.Machine.{Answer, Crosses as EndsAcross, Stays, EndsWith}
-use Rattle.trlab_machine.specs.Answers.{crossing_answer}
+use Rattle.trlab_machine.specs.{Answers.crossing_answer, declared.dice.Dice.Dice, Blocks.words_of}
 use Rattle.trlab_verify.specs.Verified.{CheckedProgram}
-use Rattle.trlab_road.specs.Cells.{Cell, Cells, cars, cell, lane_of, IsAt}
+use Rattle.trlab_road.specs.Cells.{Cell, Cells, cars, cell, lane_of, IsAt, IsLegal}
 use Rattle.trlab_road.specs.LaneChange.{ChangesLanes, CrossesToEmpty, other_lane, car_after_crossing}
 use Rattle.trlab_road.specs.LaneChange.StaysOrCrosses.{on_own_lane, on_other_lane}
-use Rattle.trlab_road.specs.Gaps.{gap, side, sidegap, sideback}
-use Rattle.trlab_road.specs.Legal.{IsLegal}
-use Rattle.trlab_road.proofs.LaneChangeLaws.{came_from, lane_change_legal, lane_change_none_lost, lane_change_same_count}
-use Rattle.trlab_road.proofs.MotionLaws.{on_lane}
-use Rattle.trlab_rules.specs.Published.{brake, safe_speed, nasch_speed, rickert_crosses, vdr_braking_chance, vdr_speed}
-use Rattle.trlab_rules.specs.Rules.{IsChangeComputing, ComputesCrossing, ComputesSpeed, Programs}
-use Rattle.trlab_rules.specs.Standard.{rickert_program}
-use Rattle.trlab_machine.specs.declared.dice.Dice.{Dice}
-use Rattle.trlab_machine.specs.Blocks.{words_of}
+use Rattle.trlab_road.specs.{Gaps.{gap, side, sidegap, sideback}, declared.car.Car.Car}
+use Rattle.trlab_road.proofs.LaneChangeLaws.{came_from, lane_change_legal, lane_change_none_lost}
+use Rattle.trlab_road.proofs.{LaneChangeLaws.lane_change_same_count, MotionLaws.on_lane, Ring.car_in}
+use Rattle.trlab_rules.specs.Published.{brake, safe_speed, nasch_speed, rickert_crosses, vdr_braking_chance}
+use Rattle.trlab_rules.specs.{Published.vdr_speed, Rules.{IsChangeComputing, ComputesCrossing, ComputesSpeed}}
+use Rattle.trlab_rules.specs.{Rules.Programs, Standard.rickert_program}
 use Rattle.trlab_step.specs.Answers.{AnswersCrossings, change_view_of, motion_view_of}
 use Rattle.trlab_step.specs.Next.{IsMotionPhase, IsLaneChangePhase}
-use Rattle.trlab_step.specs.Published.{CarsCrossIf, AllMoveAhead, NaschOnCells, RickertOnCells, VdrOnCells, nasch_car_speed, rickert_car_crosses, vdr_car_speed, car_after_motion}
+use Rattle.trlab_step.specs.Published.{CarsCrossIf, AllMoveAhead, NaschOnCells, RickertOnCells, VdrOnCells}
+use Rattle.trlab_step.specs.Published.{nasch_car_speed, rickert_car_crosses, vdr_car_speed, car_after_motion}
 use Rattle.trlab_step.proofs.AnswersExist.{change_view_is_view, motion_view_is_view}
 use Rattle.trlab_step.proofs.PartLaws.{one_answer_each, one_crossing_each}
-use Rattle.trlab_road.specs.declared.car.Car.{Car}
-use Rattle.trlab_road.proofs.Ring.{car_in}
 
 -- the random words of a car
 word_is : (dice : Dice) (number k : ℕ) → k < 16 → slice_index (words_of dice number) k ≡ random_word dice.key dice.road number dice.step k

@@ -1,18 +1,14 @@
 -- The views of the cars of a legal road are in range, so the calls of accepted programs are safe.
 use Rattle.std.proofs.Common.{◌≡◌, ◌≤◌, ℕ, Option, Some, None, length, refl, subst, IfSome, IsSome}
 use Rattle.trlab_words.proofs.RandomWords.{length-random_words}
-use Rattle.trlab_code.specs.declared.program.Kind.{Kind}
-use Rattle.trlab_code.specs.declared.program.Kind.TheVariants.{Motion, Change}
-use Rattle.trlab_code.specs.Machine.{Goes}
+use Rattle.trlab_code.specs.{declared.program.Kind.{Kind, TheVariants.{Motion, Change}}, Machine.Goes}
 use Rattle.trlab_verify.specs.Verified.{CheckedProgram, IsChecked}
-use Rattle.trlab_machine.specs.declared.dice.Dice.{Dice}
-use Rattle.trlab_machine.specs.Blocks.{words_of}
-use Rattle.trlab_machine.specs.Answers.{crossing_answer}
+use Rattle.trlab_machine.specs.{declared.dice.Dice.Dice, Blocks.words_of, Answers.crossing_answer}
 use Rattle.trlab_machine.proofs.Answers.{one_answer}
-use Rattle.trlab_road.specs.Cells.{Cells}
-use Rattle.trlab_road.specs.Legal.{IsLegal}
+use Rattle.trlab_road.specs.Cells.{Cells, IsLegal}
 use Rattle.trlab_rules.specs.Rules.{IsRule, Programs}
-use Rattle.trlab_step.specs.Answers.{change_view_of, motion_view_of, view_for_kind, AreSafeCalls, StepCallsAreSafe}
+use Rattle.trlab_step.specs.Answers.{change_view_of, motion_view_of, view_for_kind, AreSafeCalls}
+use Rattle.trlab_step.specs.Answers.{StepCallsAreSafe}
 use Rattle.trlab_step.specs.Laws.{CrossingsComeWithinBudget, SpeedsComeWithinBudget, ViewsAreInRange}
 use Rattle.trlab_step.proofs.AnswersExist.{change_view_is_view, motion_view_is_view}
 

@@ -1,6 +1,6 @@
 -- A rule from step 0 on, and later rules whose steps rise, are a sheet.
-use Rattle.std.proofs.Common.{◌≡◌, ℕ, zero, suc, ◌+◌, Bool, true, false, [], ◌∷◌, refl, subst, arith, ◌==◌, All, if◌then◌else◌}
-use Rattle.std.proofs.lemmas.Bool.{eqb-true, eqb-false}
+use Rattle.std.proofs.Common.{◌≡◌, ℕ, zero, suc, ◌+◌, Bool, true, false, [], ◌∷◌, refl, subst, arith, ◌==◌}
+use Rattle.std.proofs.{Common.{All, if◌then◌else◌, eqb-true}, lemmas.Bool.eqb-false}
 use Rattle.trlab_rules.specs.Rules.{Programs}
 use Rattle.trlab_step.specs.Run.{Sheet, StepsIncreaseFrom, IsSheet, sheet_with}
 

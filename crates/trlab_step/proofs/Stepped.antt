@@ -1,17 +1,15 @@
 -- The answers of all cars give the two phases of a step.
-use Rattle.std.proofs.Common.{◌≡◌, ℕ, Some, None, List, refl, sym, ◌∙◌, ap, arith, Bool, Option, false, length, count_by, nat_eq, sum}
+use Rattle.std.proofs.Common.{◌≡◌, ℕ, Some, None, List, refl, sym, ◌∙◌, ap, arith, Bool, Option, false}
+use Rattle.std.proofs.Common.{length, count_by, nat_eq, sum}
 use Rattle.trlab_verify.specs.Verified.{CheckedProgram}
-use Rattle.trlab_road.specs.Cells.{Cells, cars}
-use Rattle.trlab_road.specs.LaneChange.{ChangesLanes, crosses_at}
-use Rattle.trlab_road.specs.Motion.{Moves, in_order}
+use Rattle.trlab_road.specs.{Cells.{Cells, cars}, LaneChange.{ChangesLanes, crosses_at}}
+use Rattle.trlab_road.{specs.Motion.{Moves, in_order}, proofs.MotionInOrder.answer_at}
 use Rattle.trlab_machine.specs.declared.dice.Dice.{Dice}
-use Rattle.trlab_step.specs.Answers.{AnswersSpeedsPart, AnswersCrossingsPart, AnswersSpeed, AnswersCrossing, IsSpeedsPart}
-use Rattle.trlab_step.specs.Next.{total_speed, stopped_cars, IsLaneChangePhase, IsMotionPhase}
-use Rattle.trlab_step.specs.Laws.{IsLaneChangeByAnswers, AnswersLeadToNextRoad}
-use Rattle.trlab_road.proofs.MotionInOrder.{answer_at}
-use Rattle.trlab_step.proofs.Parts.{whole_allowed}
-use Rattle.trlab_step.proofs.SumsOverCars.{answers_in_order, total_speed-moved, stopped_cars-moved, crossing_cars-counted}
-use Rattle.trlab_step.proofs.PartLaws.{by_place}
+use Rattle.trlab_step.specs.Answers.{AnswersSpeedsPart, AnswersCrossingsPart, AnswersSpeed, AnswersCrossing}
+use Rattle.trlab_step.specs.{Answers.IsSpeedsPart, Next.{total_speed, stopped_cars, IsLaneChangePhase}}
+use Rattle.trlab_step.specs.{Next.IsMotionPhase, Laws.{IsLaneChangeByAnswers, AnswersLeadToNextRoad}}
+use Rattle.trlab_step.proofs.{Parts.whole_allowed, SumsOverCars.{answers_in_order, total_speed-moved}}
+use Rattle.trlab_step.proofs.{SumsOverCars.{stopped_cars-moved, crossing_cars-counted}, PartLaws.by_place}
 
 -- if all cars change lanes by their programs' answers on the given road, the lane change is done
 pub lane_change_is_done : (change : CheckedProgram) (dice : Dice) (road middle : Cells) (crosses : List Bool) (changes : ℕ) → length road.lanes ≡ 2 → AnswersCrossingsPart change dice road 0 (cars road) crosses
@@ -53,8 +51,8 @@ crossed_by_answers (Some change) dice road middle crosses by =
     lane_change_is_done change dice road middle crosses (count_by (λ c. c) crosses) by.0 by.1 by.2 refl
 
 -- followed by the motion by their answers, gives the next road
-pub answers_lead_on : AnswersLeadToNextRoad
-answers_lead_on rule dice road middle next crosses speeds cross go =
+pub answers_lead_to_next_road : AnswersLeadToNextRoad
+answers_lead_to_next_road rule dice road middle next crosses speeds cross go =
     let moves = moved_by_place rule.motion dice middle next speeds go.answers.0 go.moves in (
       middle,
       record {

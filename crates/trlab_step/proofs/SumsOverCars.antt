@@ -1,17 +1,13 @@
 -- Sums over the cars of a road: the counts of a step are sums over the answers.
-use Rattle.std.proofs.Common.{◌≡◌, ◌≢◌, ℕ, zero, suc, ◌+◌, ◌<◌, ◌≤◌, Bool, false, Some, None, List, [], ◌∷◌, length, get_or, set, map, refl, sym, ◌∙◌, ap, subst, arith, cond, sum_by, sum, count_by, nat_eq}
-use Rattle.std.proofs.lemmas.List.{get_or-set_other, ext_get_or, length-map}
+use Rattle.std.proofs.Common.{◌≡◌, ◌≢◌, ℕ, zero, suc, ◌+◌, ◌<◌, ◌≤◌, Bool, false, Some, None, List, [], ◌∷◌}
+use Rattle.std.proofs.Common.{length, get_or, set, map, refl, sym, ◌∙◌, ap, subst, arith, cond, sum_by, sum}
+use Rattle.std.proofs.{Common.{count_by, nat_eq, get_or-set_other, ext_get_or}, lemmas.List.length-map}
 use Rattle.std.proofs.lemmas.List.Sums.{sum_by-cons, sum_by-append}
 use Rattle.trlab_road.specs.declared.car.Car.{Car}
-use Rattle.trlab_road.specs.Cells.{Lane, Cells, at, cars}
-use Rattle.trlab_road.specs.Gaps.{ahead}
-use Rattle.trlab_road.specs.Motion.{LaneMoves, Moves, AreSafeSpeeds}
-use Rattle.trlab_road.specs.Standing.{standing_from, standing_from_lane, standing, rank}
-use Rattle.trlab_road.specs.LaneChange.{crosses_at}
-use Rattle.trlab_road.proofs.Ring.{Apart, apart_within_gaps}
-use Rattle.trlab_road.proofs.MotionInOrder.{answer_at, allowed_fits}
-use Rattle.trlab_road.proofs.Numbers.{rank_of_kth}
-use Rattle.trlab_road.proofs.StandingOrder.{get_or-map_in, length-standing_from_lane}
+use Rattle.trlab_road.specs.Cells.{Lane, Cells, at, cars, standing_from, standing_from_lane, standing, rank}
+use Rattle.trlab_road.specs.{Gaps.ahead, Motion.{LaneMoves, Moves, AreSafeSpeeds}, LaneChange.crosses_at}
+use Rattle.trlab_road.proofs.{Ring.{Apart, apart_within_gaps}, MotionInOrder.{answer_at, allowed_fits}}
+use Rattle.trlab_road.proofs.{Numbers.rank_of_kth, StandingOrder.{get_or-map_in, length-standing_from_lane}}
 use Rattle.trlab_step.specs.Next.{total_speed, stopped_cars, crossing_cars}
 
 -- the sum over the cars of a lane of a weight of each car's place, number and speed

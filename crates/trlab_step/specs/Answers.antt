@@ -1,21 +1,14 @@
 -- The answers of the cars of a road in a step, from their views; the views of a block of cars; and the calls of
 -- programs in a step, each of which is safe.
-use Rattle.std.specs.Prelude.{◌≡◌, ◌+◌, ◌<◌, ◌≤◌, ℕ, Bool, true, false, Some, List, length, slice_get, slice_index, slice_index_or, IfSome}
-use Rattle.trlab_code.specs.declared.program.Kind.TheVariants.{Motion, Change}
-use Rattle.trlab_code.specs.declared.view.View.{View}
+use Rattle.std.specs.Prelude.{◌≡◌, ◌+◌, ◌<◌, ◌≤◌, ℕ, Bool, true, false, Some, List, length, slice_get}
+use Rattle.std.specs.Prelude.{slice_index, slice_index_or, IfSome}
+use Rattle.trlab_code.specs.declared.{program.Kind.{Kind, TheVariants.{Motion, Change}}, view.View.View}
 use Rattle.trlab_code.specs.Views.{motion_view, change_view, IsViewInRange}
 use Rattle.trlab_code.specs.Machine.{Goes, EndsWith, EndsWithin}
 use Rattle.trlab_verify.specs.Verified.{CheckedProgram}
-use Rattle.trlab_machine.specs.declared.dice.Dice.{Dice}
-use Rattle.trlab_machine.specs.Blocks.{words_of}
-use Rattle.trlab_machine.specs.Answers.{crossing_answer}
-use Rattle.trlab_road.specs.declared.car.Car.{Car}
-use Rattle.trlab_road.specs.Cells.{Cells, IsAt, lane_of}
-use Rattle.trlab_road.specs.Standing.{IsNthCar}
-use Rattle.trlab_road.specs.Motion.{gaps}
-use Rattle.trlab_road.specs.Gaps.{gap, headspeed, side, sidegap, sideback}
-use Rattle.trlab_road.specs.LaneChange.{other_lane, sides}
-use Rattle.trlab_code.specs.declared.program.Kind.{Kind}
+use Rattle.trlab_machine.specs.{declared.dice.Dice.Dice, Blocks.words_of, Answers.crossing_answer}
+use Rattle.trlab_road.specs.{declared.car.Car.Car, Cells.{Cells, IsAt, lane_of, IsNthCar}, Motion.gaps}
+use Rattle.trlab_road.specs.{Gaps.{gap, headspeed, side, sidegap, sideback}, LaneChange.{other_lane, sides}}
 use Rattle.trlab_rules.specs.Rules.{Programs}
 
 -- the dice of a step of a run: the key, the number of the road and the number of the step, which determine

@@ -1,22 +1,18 @@
 -- Laws of answers, steps and runs, independent of the code that computes the answers and moves the cars; and
 -- driven runs, which have all guarantees step by step. The cars `from..to` are those with the indices from,
 -- from + 1 and so on to to - 1 in standing order.
-use Rattle.std.specs.Prelude.{◌≡◌, ◌≤◌, ◌++◌, ℕ, suc, Bool, Option, Some, None, List, [], length, sum, count_by, nat_eq, nat_le, if◌then◌else◌, ◌<◌}
-use Rattle.trlab_code.specs.declared.program.Kind.{Kind}
-use Rattle.trlab_code.specs.declared.program.Kind.TheVariants.{Motion, Change}
-use Rattle.trlab_code.specs.Views.{IsViewInRange}
+use Rattle.std.specs.Prelude.{◌≡◌, ◌≤◌, ◌++◌, ℕ, suc, Bool, Option, Some, None, List, [], length, sum}
+use Rattle.std.specs.Prelude.{count_by, nat_eq, nat_le, if◌then◌else◌, ◌<◌}
+use Rattle.trlab_code.specs.{declared.program.Kind.{Kind, TheVariants.{Motion, Change}}, Views.IsViewInRange}
 use Rattle.trlab_verify.specs.Verified.{CheckedProgram, IsChecked}
-use Rattle.trlab_road.specs.declared.car.Car.{Car}
-use Rattle.trlab_road.specs.Cells.{Cells, IsAt, cars}
-use Rattle.trlab_road.specs.Legal.{IsLegal}
-use Rattle.trlab_road.specs.LaneChange.{ChangesLanes}
-use Rattle.trlab_road.specs.Motion.{Moves, in_order}
+use Rattle.trlab_road.specs.{declared.car.Car.Car, Cells.{Cells, IsAt, cars, IsLegal}}
+use Rattle.trlab_road.specs.{LaneChange.ChangesLanes, Motion.{Moves, in_order}}
 use Rattle.trlab_rules.specs.Rules.{Programs}
-use Rattle.trlab_step.specs.declared.tally.StepTally.{StepTally}
+use Rattle.trlab_step.specs.{declared.tally.StepTally.StepTally, Answers.{AnswersCrossing, AnswersSpeed}}
+use Rattle.trlab_step.specs.Answers.{AnswersSpeedsPart, AnswersCrossingsPart, IsSpeedsPart, view_for_kind}
+use Rattle.trlab_step.specs.{Answers.StepCallsAreSafe, Next.{IsNext, IsCleanNext, IsStep}, Run.{Seed, Sheet}}
+use Rattle.trlab_step.specs.Run.{in_force, tally_sum, dice_at, ComesTo, IsRuleFor, IsSheetFor, IsRoadAt}
 use Rattle.trlab_machine.specs.declared.dice.Dice.{Dice}
-use Rattle.trlab_step.specs.Answers.{AnswersCrossing, AnswersSpeed, AnswersSpeedsPart, AnswersCrossingsPart, IsSpeedsPart, view_for_kind, StepCallsAreSafe}
-use Rattle.trlab_step.specs.Next.{IsNext, IsCleanNext, IsStep}
-use Rattle.trlab_step.specs.Run.{Seed, Sheet, in_force, tally_sum, dice_at, ComesTo, IsRuleFor, IsSheetFor, IsRoadAt}
 
 -- road `new` is legal, and has the limit and the numbers of lanes and cars of road `old`
 pub record IsLegalLike (old new : Cells) : Type 0 where

@@ -1,18 +1,14 @@
 -- One step of a road: the lane change, then the motion, each for all cars at once.
-use Rattle.std.specs.Prelude.{◌≡◌, ◌↔◌, ℕ, Bool, Option, Some, None, Result, Err, IfOk, IsSome, length, sum_by, count_by, nat_eq}
-use Rattle.trlab_road.specs.declared.car.Car.{Car}
-use Rattle.trlab_road.specs.Cells.{Cells}
-use Rattle.trlab_road.specs.Legal.{IsLegal}
-use Rattle.trlab_road.specs.Standing.{standing}
-use Rattle.trlab_road.specs.LaneChange.{ChangesLanes, IsCleanLaneChange}
-use Rattle.trlab_road.specs.Motion.{Moves, IsCleanMotion}
+use Rattle.std.specs.Prelude.{◌≡◌, ◌↔◌, ℕ, Bool, Option, Some, None, Result, Err, IfOk, IsSome, length}
+use Rattle.std.specs.Prelude.{sum_by, count_by, nat_eq}
+use Rattle.trlab_road.specs.{declared.car.Car.Car, Cells.{Cells, IsLegal, standing}}
+use Rattle.trlab_road.specs.{LaneChange.{ChangesLanes, IsCleanLaneChange}, Motion.{Moves, IsCleanMotion}}
 use Rattle.trlab_verify.specs.Verified.{CheckedProgram}
 use Rattle.trlab_rules.specs.Rules.{Programs}
-use Rattle.trlab_step.specs.declared.for_embedders.StepFault.{StepFault}
-use Rattle.trlab_step.specs.declared.for_embedders.StepFault.TheVariants.{LanesMismatch}
+use Rattle.trlab_step.specs.declared.for_embedders.StepFault.{StepFault, TheVariants.LanesMismatch}
 use Rattle.trlab_step.specs.declared.tally.StepTally.{StepTally}
-use Rattle.trlab_machine.specs.declared.dice.Dice.{Dice}
 use Rattle.trlab_step.specs.Answers.{AnswersSpeeds, AnswersCrossings, StepCallsAreSafe}
+use Rattle.trlab_machine.specs.declared.dice.Dice.{Dice}
 
 -- the sum of the speeds of all cars on a road
 abbrev pub total_speed : Cells → ℕ

@@ -2,18 +2,14 @@
 -- same speeds and lane changes (`nasch_speed`, `vdr_speed`, `rickert_crosses`) as functions of a program's
 -- input, a view and a list of random words; the definitions here are functions of a road and a car.
 use Rattle.std.specs.Prelude.{◌≡◌, ℕ, ◌+◌, ◌&&◌, Bool, length, nat_lt, if◌then◌else◌}
-use Rattle.trlab_words.specs.Words.{random_word}
-use Rattle.trlab_words.specs.Chances.{happens_on}
-use Rattle.trlab_road.specs.declared.car.Car.{Car}
-use Rattle.trlab_road.specs.Cells.{Cells, IsAt, cars, lane_of}
+use Rattle.trlab_words.specs.Words.{random_word, happens_on}
+use Rattle.trlab_road.specs.{declared.car.Car.Car, Cells.{Cells, IsAt, cars, lane_of, IsLegal}}
 use Rattle.trlab_road.specs.LaneChange.{car_after_crossing, other_lane}
 use Rattle.trlab_road.specs.Gaps.{ahead, gap, side, sidegap, sideback}
-use Rattle.trlab_road.specs.Legal.{IsLegal}
 use Rattle.trlab_rules.specs.Rules.{IsNasch, IsVdr, IsRickert, Programs}
 use Rattle.trlab_rules.specs.Published.{brake, safe_speed, vdr_braking_chance}
-use Rattle.trlab_step.specs.declared.tally.StepTally.{StepTally}
+use Rattle.trlab_step.specs.{declared.tally.StepTally.StepTally, Next.IsNext}
 use Rattle.trlab_machine.specs.declared.dice.Dice.{Dice}
-use Rattle.trlab_step.specs.Next.{IsNext}
 
 -- does an event of probability `chance` / 2 ^ 31 happen on random word k of the car?
 abbrev pub happens_to : Dice → Car → ℕ → ℕ → Bool

@@ -1,17 +1,16 @@
 -- Runs of many steps under a sheet of rules, and the progress of a run.
-use Rattle.std.specs.Prelude.{◌≡◌, ◌≤◌, ◌==◌, ℕ, zero, suc, ◌+◌, List, [], ◌∷◌, Option, Some, None, nat_le, unwrap_or, if◌then◌else◌, ◌++◌, All, IfSome, IsSome, length, sum}
-use Rattle.trlab_road.specs.Cells.{Cells, cars}
+use Rattle.std.specs.Prelude.{◌≡◌, ◌≤◌, ◌==◌, ◌&&◌, ℕ, zero, suc, ◌+◌, Bool, not, List, [], ◌∷◌, Option}
+use Rattle.std.specs.Prelude.{is_some, Some, None, nat_le, unwrap_or, if◌then◌else◌, ◌++◌, All, IfSome}
+use Rattle.std.specs.Prelude.{IsSome, length, sum}
+use Rattle.trlab_road.specs.Cells.{Cells, cars, IsLegal}
 use Rattle.trlab_rules.specs.Rules.{Programs}
 use Rattle.trlab_machine.specs.declared.dice.Dice.{Dice}
-use Rattle.trlab_step.specs.Answers.{dice_of}
-use Rattle.trlab_step.specs.declared.tally.StepTally.{StepTally}
-use Rattle.trlab_step.specs.Next.{IsNext}
+use Rattle.trlab_step.specs.{Answers.dice_of, declared.tally.StepTally.StepTally, Next.IsNext}
 use Rattle.trlab_code.specs.declared.program.Kind.TheVariants.{Motion, Change}
 use Rattle.trlab_verify.specs.Verified.{IsChecked}
-use Rattle.trlab_road.specs.Legal.{IsLegal}
 
--- the start of a run: its road; the key and the number of the road, which determine the random words; and
--- `warm`, the first step whose tally is counted
+-- the seed of a run, which is its initial state: its road; the key and the number of the road, which determine
+-- the random words; and `warm`, the first step whose tally is counted
 pub record Seed : Type 0 where
   pub road : Cells
   pub key : List ℕ
@@ -50,7 +49,8 @@ in_force (entry ∷ sheet) step =
 abbrev pub no_tally : StepTally
 no_tally = record { distance = 0; stopped = 0; changes = 0 }
 
--- the sum of two tallies: of their distances, of their stopped cars and of their lane changes
+-- the sum of two tallies: of their distances, of their stopped cars and of their lane changes. A car counts
+-- once for each step after which it is stopped, so a sum of tallies counts car-steps
 abbrev pub tally_sum : StepTally → StepTally → StepTally
 tally_sum a b = record {
   distance = a.distance + b.distance;
@@ -87,6 +87,10 @@ IsRoadAt seed sheet step road = (sum : StepTally) × ComesTo seed sheet step roa
 abbrev pub IsTallyAt : Seed → Sheet → ℕ → StepTally → Type 0
 IsTallyAt seed sheet step sum = (road : Cells) × ComesTo seed sheet step road sum
 
+-- does a rule suit a road? Not if it has a change program and the road has one lane
+abbrev pub suits : Programs → Cells → Bool
+suits rule road = not (is_some rule.change && length road.lanes == 1)
+
 -- a rule for roads with `lanes` lanes: its motion program and, if there is one, its change program are
 -- accepted programs, which end within their budgets; if it has a change program, `lanes` is 2
 pub record IsRuleFor (lanes : ℕ) (rule : Programs) : Type 0 where
@@ -100,7 +104,7 @@ pub record IsSheetFor (lanes : ℕ) (sheet : Sheet) : Type 0 where
   pub is_sheet : IsSheet sheet
   pub rules : All (λ (entry : ℕ × Programs). IsRuleFor lanes entry.1) sheet
 
--- the progress of a run: its start, its sheet, the number of steps so far, and the road and the sum of
+-- the progress of a run: its seed, its sheet, the number of steps so far, and the road and the sum of
 -- tallies after these steps
 pub record Progress : Type 0 where
   pub seed : Seed
@@ -120,7 +124,7 @@ pub record IsReachedByRun (run : Progress) : Type 0 where
   pub suits : IsSheetFor (length run.seed.road.lanes) run.sheet
   pub comes : ComesTo run.seed run.sheet run.step run.road run.sum
 
--- `new` has the start and the sheet of the run `old`, and its number of steps is one larger
+-- `new` has the seed and the sheet of the run `old`, and its number of steps is one larger
 pub record IsOneStepOn (old new : Progress) : Type 0 where
   pub same_seed : new.seed ≡ old.seed
   pub same_sheet : new.sheet ≡ old.sheet

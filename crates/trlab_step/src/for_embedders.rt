@@ -4,11 +4,10 @@
 //! Programs that embed trlab call them, and so do its tests. A run of trlab itself calls `take_step`, which changes the
 //! road in place and uses the same memory for each step.
 
-ghost use Rattle.std.specs.Prelude.{◌≡◌, ◌↔◌, ◌≤◌, ◌<◌, ℕ, Bool, IfOk, IsSome, IsTrue, length, slice_index};
+ghost use Rattle.std.specs.Prelude.{◌≡◌, ◌≤◌, ◌<◌, ℕ, Bool, IfOk, length, slice_index};
 ghost use Rattle.trlab_bounds.specs.declared.roads.TheConstants.{MAX_LIMIT};
-ghost use Rattle.trlab_road.specs.Cells.{cars};
+ghost use Rattle.trlab_road.specs.Cells.{cars, IsLegal};
 ghost use Rattle.trlab_road.specs.LaneChange.{IsCleanLaneChange, AreSafeCrossings, ChangesLanes};
-ghost use Rattle.trlab_road.specs.Legal.{IsLegal};
 ghost use Rattle.trlab_road.specs.Motion.{IsCleanMotion, AreSafeSpeeds, Moves, in_order};
 ghost use Rattle.trlab_step.specs.Answers.{IsCrossingsPart, IsSpeedsPart, dice_of};
 ghost use Rattle.trlab_step.specs.Next.{IsStepResult};
@@ -17,7 +16,7 @@ ghost use Rattle.trlab_step.specs.declared.for_embedders.StepFault.TheVariants.{
 use crate::executor::{Caller, Executor, NoObserver};
 use crate::lane_change::compute_crossings;
 use crate::motion::compute_speeds;
-use crate::step::{StepContext, StepRoom, take_step};
+use crate::step::{StepContext, StepRoom, suits, take_step};
 use crate::tally::StepTally;
 use std::alloc::{AllocError, Global};
 use thiserror::Error;
@@ -72,17 +71,17 @@ pub fn step_road(
 /// # Errors
 ///
 /// `LanesMismatch` if the rule has a change program and the road has one lane, and `Memory` if an allocation fails.
-pub fn step_road_by<A: Executor>(
-    executor: &A,
+pub fn step_road_by<E: Executor>(
+    executor: &E,
     alloc: Global,
     road: &Road,
     rule: &Rule,
     dice: &Dice,
 ) -> Result<(Road, StepTally), StepFault>
-    requires { A.is_ready executor.now }
+    requires { E.is_ready executor.now }
     ensures { IsStepResult rule.now dice.now road.now result }
 {
-    if lanes_mismatch(road, rule) {
+    if !suits(rule, road) {
         return Err(StepFault::LanesMismatch);
     }
     let mut next = road.copy(alloc)?;
@@ -94,14 +93,6 @@ pub fn step_road_by<A: Executor>(
     };
     let tally = take_step(&context, &mut next, &mut room, rule, &mut NoObserver)?;
     Ok((next, tally))
-}
-
-/// Whether the rule has a change program but the road has only one lane.
-fn lanes_mismatch(road: &Road, rule: &Rule) -> bool
-    ensures value { IsTrue result ↔ (IsSome rule.now.change × (length road.now.lanes ≡ 1)) }
-    ensures legal { IsLegal road.now }
-{
-    road.lanes() == 1 && rule.change().is_some()
 }
 
 /// Runs a change program for the cars `from..to` in standing order on a road of two lanes, and returns which of them
@@ -124,7 +115,7 @@ pub fn choose_part(
     to: u32,
 ) -> Result<Vec<bool>, AllocError>
     requires rising { from ≤ to }
-    requires within { to ≤ cars road.now }
+    requires in_range { to ≤ cars road.now }
     requires two_lanes { length road.now.lanes ≡ 2 }
     ensures { IfOk result (λ crosses.
         IsCrossingsPart change.now (dice_of key.now.0 number step) road.now from to crosses.items) }
@@ -178,7 +169,7 @@ pub fn move_part(
     to: u32,
 ) -> Result<Vec<u32>, AllocError>
     requires rising { from ≤ to }
-    requires within { to ≤ cars road.now }
+    requires in_range { to ≤ cars road.now }
     ensures { IfOk result (λ speeds.
         IsSpeedsPart motion.now (dice_of key.now.0 number step) road.now from to speeds.items) }
 {

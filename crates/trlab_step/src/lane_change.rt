@@ -27,7 +27,7 @@ pub fn compute_crossings(
     to: u32,
 ) -> Result<(), AllocError>
     requires rising { from ≤ to }
-    requires within { to ≤ cars road.now }
+    requires in_range { to ≤ cars road.now }
     requires two_lanes { length road.now.lanes ≡ 2 }
     ensures { OnOk result (IsCrossingsPart change.now dice.now road.now from to crosses.new.items) }
 {

@@ -10,21 +10,21 @@ ghost use Rattle.trlab_step.specs.Laws.{StepsCallSafely, ViewsAreInRange};
 
 /// For each part of the standing order a motion program gives at most one list of speeds, and the lists of adjacent
 /// parts join to the list of both. So it does not matter which thread computes a part, or in which order.
-pub fn parts_make_the_whole()
+pub fn speeds_join()
     ensures one { SpeedsAreUnique }
     ensures join { SpeedsJoin }
 {}
 
 /// For each part of the standing order a change program gives at most one list of lane changes, and the lists of
 /// adjacent parts join to the list of both.
-pub fn crossings_make_the_whole()
+pub fn crossings_join()
     ensures one { CrossingsAreUnique }
     ensures join { CrossingsJoin }
 {}
 
 /// If all cars cross, and then move, by their answers in standing order, the result is the next road and its tally,
 /// regardless of the code that computed the answers.
-pub fn answers_lead_on()
+pub fn answers_lead_to_next_road()
     ensures { AnswersLeadToNextRoad }
 {}
 
@@ -35,7 +35,7 @@ pub fn views_are_in_range()
 {}
 
 /// On a legal road accepted programs answer within their budgets.
-pub fn answers_come_in_time()
+pub fn answers_come_within_budget()
     ensures speeds { SpeedsComeWithinBudget }
     ensures crossings { CrossingsComeWithinBudget }
 {}
@@ -55,28 +55,28 @@ pub fn next_road_exists()
 {}
 
 /// Under any rule a road has at most one next road, and at most one tally.
-pub fn next_road_is_one()
+pub fn next_road_is_unique()
     ensures { NextRoadIsUnique }
 {}
 
-/// A run from a legal road, under a schedule of rules for its number of lanes, has a legal road at each step, with the
+/// A run from a legal road, under a sheet of rules for its number of lanes, has a legal road at each step, with the
 /// same limit and the same numbers of lanes and cars.
 pub fn road_exists()
     ensures { RoadExists }
 {}
 
 /// A run has at most one road at each step, and at most one sum of tallies.
-pub fn road_is_one()
+pub fn road_is_unique()
     ensures { RoadIsUnique }
 {}
 
 /// A run continues from the road at a step to its next road under the rule in force. From the step on at which counting
 /// begins, the tally is added to the sum.
-pub fn run_goes_on()
+pub fn run_continues()
     ensures { RunContinues }
 {}
 
-/// In every run from a legal road, under a schedule for its number of lanes, the road at each step is legal, with the
+/// In every run from a legal road, under a sheet for its number of lanes, the road at each step is legal, with the
 /// limit and the numbers of lanes and cars of the initial road. No car moves onto or through another, and all programs
 /// end within their budgets.
 pub fn runs_are_driven()

@@ -1,14 +1,24 @@
 //! One step of a road under a rule, and runs of many steps.
 //!
-//! A step computes the answers of all cars on the same road; then all cars move at once. The parts of a step can be
-//! called one by one. A run is a road that advances under a schedule of rules:
+//! A step on two lanes has two phases: the lane change, if the rule has a change program, and then the motion. A step
+//! on one lane is the motion. In each phase the program answers for all cars on the same road, and only then the
+//! answers take effect, for all cars at once: in the lane change some cars cross to their side cells, and in the motion
+//! each car moves as many cells as its new speed. The motion program sees the road after the lane change.
+//!
+//! - `step` takes a whole step, `tally` counts it, and `run` takes one step after another, under a sheet of rules
+//!   (`sheet`).
+//! - `lane_change` and `motion` compute the answers of each phase for some of the cars, `block` by block. An `executor`
+//!   does so for all cars, on one thread or several.
+//! - `for_embedders` has a step and its phases as calls that leave the road as it is.
+//!
+//! A run of a road whose rule never changes:
 //!
 //! ```text
 //! let rule = nasch(alloc, Chance::new(0)?).ok()?;
 //! let road = Road::parse(alloc, LIMIT, &LANES).ok()?;
-//! let schedule = Schedule::new(rule, Vec::new(alloc));
+//! let sheet = RunSheet::new(rule, Vec::new(alloc));
 //! let (key, number, warm) = (Key([0; 32]), 0, 0);
-//! Run::new(alloc, key, number, warm, road, schedule)
+//! Run::new(alloc, key, number, warm, road, sheet)
 //!     // then, for each step
 //!     run.advance(&Caller, alloc).ok()?;
 //! ```
@@ -21,7 +31,7 @@ mod lane_change;
 pub mod laws;
 mod motion;
 mod run;
-mod schedule;
+mod sheet;
 mod step;
 mod tally;
 
@@ -32,6 +42,6 @@ pub use for_embedders::{
 pub use lane_change::compute_crossings;
 pub use motion::compute_speeds;
 pub use run::Run;
-pub use schedule::Schedule;
-pub use step::{StepContext, StepRoom, take_step};
+pub use sheet::RunSheet;
+pub use step::{StepContext, StepRoom, suits, take_step};
 pub use tally::{StepTally, no_tally, tally_sum};

@@ -41,7 +41,7 @@ pub fn compute_speeds(
     to: u32,
 ) -> Result<(), AllocError>
     requires rising { from ≤ to }
-    requires within { to ≤ cars road.now }
+    requires in_range { to ≤ cars road.now }
     ensures { OnOk result (IsSpeedsPart motion.now dice.now road.now from to speeds.new.items) }
 {
     if to - from <= SMALL_BLOCK_CARS as u32 {
@@ -71,8 +71,8 @@ fn compute_few_speeds(
     to: u32,
 ) -> Result<(), AllocError>
     requires rising { from ≤ to }
-    requires few { to ≤ from + SMALL_BLOCK_CARS }
-    requires within { to ≤ cars road.now }
+    requires at_most_small_block { to ≤ from + SMALL_BLOCK_CARS }
+    requires in_range { to ≤ cars road.now }
     ensures { OnOk result (IsSpeedsPart motion.now dice.now road.now from to speeds.new.items) }
 {
     speeds.clear();

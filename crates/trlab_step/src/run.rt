@@ -1,9 +1,9 @@
-//! Runs: a road advances step by step under a schedule of rules, and the tallies of its steps are added up.
+//! Runs: a road advances step by step under a sheet of rules, and the tallies of its steps are added up.
 
 ghost use Rattle.std.specs.Prelude.{◌≡◌, ◌+◌, ◌<◌, ◌^◌, OnOk, OnErr, length};
 ghost use Rattle.trlab_step.specs.Run.{IsSheetFor, IsRoadAt, IsTallyAt, IsReachedByRun, IsOneStepOn, at_start};
 
-use crate::schedule::Schedule;
+use crate::sheet::RunSheet;
 use crate::tally::{no_tally, tally_sum};
 use crate::{Executor, NoObserver, StepContext, StepObserver, StepRoom, StepTally, take_step};
 use std::alloc::{AllocError, Global};
@@ -13,14 +13,14 @@ use trlab_machine::Dice;
 use trlab_road::Road;
 use trlab_words::Key;
 
-/// A run of a road under a schedule of rules: the current step, the road at this step, and the sum of the tallies
+/// A run of a road under a sheet of rules: the current step, the road at this step, and the sum of the tallies
 /// so far.
 pub struct Run {
     start: Snapshot<Road>,
     key: Key,
     number: u32,
     warm: u32,
-    sheet: Schedule,
+    sheet: RunSheet,
     step: u32,
     road: Road,
     sum: StepTally,
@@ -70,7 +70,7 @@ impl Model for Run {
 impl Run {
     /// A run of a road from step 0 on. The key and the number of the road determine its random words. The tallies of
     /// steps before `warm` are not counted.
-    pub fn new(alloc: Global, key: Key, number: u32, warm: u32, road: Road, sheet: Schedule) -> Run
+    pub fn new(alloc: Global, key: Key, number: u32, warm: u32, road: Road, sheet: RunSheet) -> Run
         requires suits { IsSheetFor (length road.lanes) sheet }
         ensures { result ≡ at_start (record { road = road; key = key.0; number = number; warm = warm }) sheet }
     {
@@ -116,8 +116,8 @@ impl Run {
     /// # Errors
     ///
     /// If an allocation fails; then nothing changes.
-    pub fn advance<A: Executor>(&mut self, executor: &A, alloc: Global) -> Result<(), AllocError>
-        requires ready { A.is_ready executor.now }
+    pub fn advance<E: Executor>(&mut self, executor: &E, alloc: Global) -> Result<(), AllocError>
+        requires ready { E.is_ready executor.now }
         requires steps { self.old.step + 1 < 2 ^ 32 }
         ensures on { OnOk result (IsOneStepOn self.old self.new) }
         ensures unchanged { OnErr result (self.new ≡ self.old) }
@@ -130,13 +130,13 @@ impl Run {
     /// # Errors
     ///
     /// If an allocation fails; then nothing changes, and the observer has seen the road.
-    pub fn advance_showing<A: Executor, O: StepObserver>(
+    pub fn advance_showing<E: Executor, O: StepObserver>(
         &mut self,
-        executor: &A,
+        executor: &E,
         alloc: Global,
         observer: &mut O,
     ) -> Result<(), AllocError>
-        requires ready { A.is_ready executor.now }
+        requires ready { E.is_ready executor.now }
         requires steps { self.old.step + 1 < 2 ^ 32 }
         ensures on { OnOk result (IsOneStepOn self.old self.new) }
         ensures seen { O.observes observer.old self.old.road observer.new }

@@ -1,9 +1,10 @@
 //! One step of a road under a rule: the lane change, if the rule has one, and then the motion.
 
-ghost use Rattle.std.specs.Prelude.{◌≡◌, Some, IfOk, OnOk, OnErr, IsSome, length};
+ghost use Rattle.std.specs.Prelude.{◌≡◌, Some, IfOk, OnOk, OnErr, IsSome, IsTrue, length};
 ghost use Rattle.trlab_road.specs.LaneChange.{IsCleanLaneChange};
-ghost use Rattle.trlab_road.specs.Legal.{IsLegal};
+ghost use Rattle.trlab_road.specs.Cells.{IsLegal};
 ghost use Rattle.trlab_step.specs.Next.{IsCleanNext, IsCountedMotion, IsLaneChangePhase, IsNext};
+ghost use Rattle.trlab_step.specs.Run.{IsRuleFor, suits};
 
 use crate::executor::{Executor, NoObserver, StepObserver};
 use crate::tally::{StepTally, count_lane_changes, tally_of};
@@ -49,10 +50,20 @@ impl StepRoom {
 
 /// How the answers of the cars of a step are computed: the executor, its allocator and the dice.
 #[derive(Drop)]
-pub struct StepContext<'a, A> {
-    pub executor: &'a A,
+pub struct StepContext<'a, E> {
+    pub executor: &'a E,
     pub alloc: Global,
     pub dice: &'a Dice,
+}
+
+/// Whether a rule suits a road: a rule with a change program needs two lanes.
+pub fn suits(rule: &Rule, road: &Road) -> bool
+    ensures value { result ≡ suits rule.now road.now }
+    ensures rule { IsTrue result → IsRuleFor (length road.now.lanes) rule.now }
+    ensures legal { IsLegal road.now }
+{
+    let lanes = road.lanes();
+    !(rule.change().is_some() && lanes == 1)
 }
 
 /// Takes a step: the road becomes the next road under the rule. The step uses the memory of the room. An observer sees
@@ -65,14 +76,14 @@ pub struct StepContext<'a, A> {
 /// # Errors
 ///
 /// If an allocation fails; then the road is unchanged. The room may have lost its memory, but can still be used.
-pub fn take_step<A: Executor, O: StepObserver>(
-    context: &StepContext<A>,
+pub fn take_step<E: Executor, O: StepObserver>(
+    context: &StepContext<E>,
     road: &mut Road,
     room: &mut StepRoom,
     rule: &Rule,
     observer: &mut O,
 ) -> Result<StepTally, AllocError>
-    requires ready { A.is_ready context.now.executor.now }
+    requires ready { E.is_ready context.now.executor.now }
     requires lanes { IsSome rule.now.change → length road.old.lanes ≡ 2 }
     ensures next { IfOk result (λ tally. IsNext rule.now context.now.dice.now road.old road.new tally) }
     ensures clean { IfOk result (λ tally. IsCleanNext rule.now context.now.dice.now road.old road.new tally) }
@@ -95,14 +106,14 @@ pub fn take_step<A: Executor, O: StepObserver>(
 
 /// Runs the motion on `middle`, the road after the lane change, and replaces `road` by the result. Returns the tally of
 /// the motion.
-fn move_after_lane_change<A: Executor>(
-    context: &StepContext<A>,
+fn move_after_lane_change<E: Executor>(
+    context: &StepContext<E>,
     road: &mut Road,
     mut middle: Road,
     room: &mut StepRoom,
     motion: &Motion,
 ) -> Result<StepTally, AllocError>
-    requires { A.is_ready context.now.executor.now }
+    requires { E.is_ready context.now.executor.now }
     ensures moved { IfOk result (λ tally.
         IsCountedMotion motion.now context.now.dice.now middle road.new tally) }
     ensures unchanged { OnErr result (road.new ≡ road.old) }
@@ -114,14 +125,14 @@ fn move_after_lane_change<A: Executor>(
 }
 
 /// The road after the lane change under a change program, and the number of cars that crossed.
-fn change_lanes<A: Executor, O: StepObserver>(
-    context: &StepContext<A>,
+fn change_lanes<E: Executor, O: StepObserver>(
+    context: &StepContext<E>,
     road: &mut Road,
     room: &mut StepRoom,
     change: &Change,
     observer: &mut O,
 ) -> Result<(Road, u64), AllocError>
-    requires ready { A.is_ready context.now.executor.now }
+    requires ready { E.is_ready context.now.executor.now }
     requires two_lanes { length road.old.lanes ≡ 2 }
     ensures phase { IfOk result (λ after.
         IsLaneChangePhase (Some change.now) context.now.dice.now road.old after.0 after.1) }
@@ -144,14 +155,14 @@ fn change_lanes<A: Executor, O: StepObserver>(
 }
 
 /// Moves all cars of the road, and returns the tally of the motion.
-fn move_cars<A: Executor, O: StepObserver>(
-    context: &StepContext<A>,
+fn move_cars<E: Executor, O: StepObserver>(
+    context: &StepContext<E>,
     road: &mut Road,
     speeds: &mut Vec<u8>,
     motion: &Motion,
     observer: &mut O,
 ) -> Result<StepTally, AllocError>
-    requires { A.is_ready context.now.executor.now }
+    requires { E.is_ready context.now.executor.now }
     ensures moved { IfOk result (λ tally.
         IsCountedMotion motion.now context.now.dice.now road.old road.new tally) }
     ensures seen { O.observes observer.old road.old observer.new }

@@ -1,4 +1,5 @@
-//! Tallies: the distance, the stopped cars and the lane changes of a step, or their sums over several steps.
+//! Tallies: the distance, the stopped cars and the lane changes of a step, or their sums over several steps. A sum
+//! counts car-steps: a car that is stopped after three steps counts three times.
 //!
 //! The sums of one step fit into 32 bits, and adding these is faster; the sums over all steps of a run fit into 64.
 
@@ -12,15 +13,15 @@ ghost use Rattle.trlab_step.specs.Run.{no_tally, tally_sum};
 pub struct StepTally {
     /// The sum of the new speeds of all cars, in cells.
     pub distance: u64,
-    /// The number of cars whose new speed is 0.
+    /// The number of cars whose new speed is 0; over several steps, of the car-steps that end with speed 0.
     pub stopped: u64,
-    /// The number of cars that crossed to the other lane.
+    /// The number of cars that crossed to the other lane; over several steps, of the lane changes.
     pub changes: u64,
 }
 
 /// The number of cars that cross.
 pub fn count_lane_changes(crosses: &[bool]) -> u64
-    requires few { length crosses.now ≤ MAX_LANES * MAX_LENGTH }
+    requires at_most_max_cars { length crosses.now ≤ MAX_LANES * MAX_LENGTH }
     ensures { result ≡ count_by (λ crosses. crosses) crosses.now }
 {
     let mut count = 0u32;
@@ -32,7 +33,7 @@ pub fn count_lane_changes(crosses: &[bool]) -> u64
 
 /// The tally of new speeds, without lane changes.
 pub fn tally_of(speeds: &[u8]) -> StepTally
-    requires few { length speeds.now ≤ MAX_LANES * MAX_LENGTH }
+    requires at_most_max_cars { length speeds.now ≤ MAX_LANES * MAX_LENGTH }
     ensures distance { result.distance ≡ sum speeds.now }
     ensures stopped { result.stopped ≡ count_by (λ speed. nat_eq speed 0) speeds.now }
     ensures changes { result.changes ≡ 0 }

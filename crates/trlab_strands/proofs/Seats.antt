@@ -1,7 +1,7 @@
 -- The seats of a table: sums over the views at all seats, and facts of each, if one view changes or a seat
 -- is added.
-use Rattle.std.proofs.Common.{◌≡◌, ℕ, zero, suc, ◌+◌, ◌<◌, ◌≢◌, eqb, cond, List, [], ◌∷◌, ◌++◌, length, get_or, set, sym, subst, ⊎_elim, refl, arith}
-use Rattle.std.specs.Prelude.{sum_by, count_by}
+use Rattle.std.proofs.Common.{◌≡◌, ℕ, zero, suc, ◌+◌, ◌<◌, ◌≢◌, eqb, cond, List, [], ◌∷◌, ◌++◌, length}
+use Rattle.std.proofs.Common.{get_or, set, sym, subst, ⊎_elim, refl, arith, sum_by, count_by}
 use Rattle.std.proofs.lemmas.List.Sums.{sum_by-set, sum_by-cons, sum_by_push, sum_by-append}
 use mathlib.Core.Option.{some, some-injective, some-ne-none}
 use lib.ListN.{get_elem?}

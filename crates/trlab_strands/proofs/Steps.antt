@@ -1,9 +1,8 @@
 -- Each step keeps the rule of the strands.
-use Rattle.std.proofs.Common.{◌≡◌, ℕ, ◌+◌, ◌<◌, ◌≤◌, ◌≢◌, max, eqb, Bool, true, false, cond, List, [], ◌∷◌, ◌++◌, length, set, slice_index, refl, sym, ap, ◌∙◌, subst, ⊎_elim, zero-le, true≢false, arith, length-append, append_assoc}
-use Rattle.std.specs.Prelude.{sum_by}
-use Rattle.std.proofs.lemmas.List.{append-nil}
-use Rattle.std.proofs.lemmas.List.Sums.{sum_by_push}
-use Rattle.std.proofs.lemmas.List.Elements.{All-nil, All-push, All-append, All-weaker}
+use Rattle.std.proofs.Common.{◌≡◌, ℕ, ◌+◌, ◌<◌, ◌≤◌, ◌≢◌, max, eqb, Bool, true, false, cond, List, [], ◌∷◌}
+use Rattle.std.proofs.Common.{◌++◌, length, set, slice_index, refl, sym, ap, ◌∙◌, subst, ⊎_elim, zero-le}
+use Rattle.std.proofs.Common.{true≢false, arith, length-append, append_assoc, sum_by, append-nil}
+use Rattle.std.proofs.lemmas.List.{Sums.sum_by_push, Elements.{All-nil, All-push, All-append, All-weaker}}
 use Rattle.std.proofs.lemmas.Bool.Decides.{nat_tests}
 use mathlib.Core.Option.{some, none, some-injective}
 use lib.ListN.{get_elem?}
@@ -11,10 +10,12 @@ use prog.Atomic.{either}
 use Rattle.atomic_table.specs.Table.{State, Me, step, keeps, Allows, Splits, Joins}
 use Rattle.atomic_table.proofs.Lists.{at_set, set_again, set_else}
 use Rattle.trlab_strands.proofs.Seats.{total_set, each_set, each_snoc, alone, times_push, times_append}
-use Rattle.trlab_strands.specs.declared.knowledge.Noted.{Noted}
-use Rattle.trlab_strands.specs.declared.knowledge.StrandKnowledge.{StrandKnowledge}
-use Rattle.trlab_strands.specs.Knowledge.{noted, event_number, count_with_number, once_below, IsInList, AreInList, no_knowledge, without_list, list_seat, without_one_part, one_part, both_seats, up_to_date, with_event}
-use Rattle.trlab_strands.specs.Rule.{IsSoundStrand, AreSoundStrands, SatisfiesStrandInvariant, NotesEvent, AgreesWithList, AuditsList, SeesWholeList}
+use Rattle.trlab_strands.specs.declared.knowledge.{Noted.Noted, StrandKnowledge.StrandKnowledge}
+use Rattle.trlab_strands.specs.Knowledge.{noted, event_number, count_with_number, once_below, IsInList}
+use Rattle.trlab_strands.specs.Knowledge.{AreInList, no_knowledge, without_list, list_seat, without_one_part}
+use Rattle.trlab_strands.specs.Knowledge.{one_part, both_seats, up_to_date, with_event, IsSoundStrand}
+use Rattle.trlab_strands.specs.Knowledge.{AreSoundStrands, SatisfiesStrandInvariant, NotesEvent}
+use Rattle.trlab_strands.specs.Knowledge.{AgreesWithList, AuditsList, SeesWholeList}
 
 -- the knowledge with these fields
 abbrev strand_knowledge : {E : Type 0} → ℕ → List (Noted E) → ℕ → Bool → List E → StrandKnowledge E

@@ -1,3 +1,2 @@
 pub mod Knowledge
-pub mod Rule
 pub mod Tokens

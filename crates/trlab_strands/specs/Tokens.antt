@@ -1,12 +1,8 @@
 -- Strands and their keeper as callers see them.
 use Rattle.std.specs.Prelude.{◌≡◌, ℕ, ◌+◌, ◌≤◌, List, [], ◌∷◌, ◌++◌, length}
 use Rattle.atomic_table.specs.Seated.{TableId}
-use Rattle.trlab_strands.specs.declared.tokens.Blank.{Blank}
-use Rattle.trlab_strands.specs.declared.knowledge.Ledger.{Ghosts}
-use Rattle.trlab_strands.specs.declared.tokens.Keeper.{Keeper}
-use Rattle.trlab_strands.specs.declared.tokens.Strand.{Strand}
-use Rattle.trlab_strands.specs.declared.knowledge.Noted.{Noted}
-use Rattle.trlab_strands.specs.Knowledge.{noted}
+use Rattle.trlab_strands.specs.declared.tokens.{Blank.Blank, Keeper.Keeper, Strand.Strand}
+use Rattle.trlab_strands.specs.{declared.knowledge.{Ledger.Ghosts, Noted.Noted}, Knowledge.noted}
 
 -- the name of the list that a blank is for; a ledger that opens the blank must have the same name
 abbrev pub name_of : {E : Type 0} → Blank E → TableId

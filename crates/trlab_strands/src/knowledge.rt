@@ -52,8 +52,7 @@ pub struct OncePerEvent<E> {
 }
 
 impl<E> TableRule<E, StrandKnowledge<E>, ()> for OncePerEvent<E> {
-    ghost use Rattle.trlab_strands.specs.Rule.{SatisfiesStrandInvariant};
-    ghost use Rattle.trlab_strands.specs.Knowledge.{first_seat};
+    ghost use Rattle.trlab_strands.specs.Knowledge.{SatisfiesStrandInvariant, first_seat};
 
     ghost holds = { λ key. SatisfiesStrandInvariant };
 
@@ -64,7 +63,7 @@ impl<E> TableRule<E, StrandKnowledge<E>, ()> for OncePerEvent<E> {
 pub struct NoteEvent;
 
 impl<E> Play<E, StrandKnowledge<E>> for NoteEvent {
-    ghost use Rattle.trlab_strands.specs.Rule.{NotesEvent};
+    ghost use Rattle.trlab_strands.specs.Knowledge.{NotesEvent};
 
     ghost then = { NotesEvent };
 }
@@ -73,7 +72,7 @@ impl<E> Play<E, StrandKnowledge<E>> for NoteEvent {
 pub struct AuditList;
 
 impl<E> Play<E, StrandKnowledge<E>> for AuditList {
-    ghost use Rattle.trlab_strands.specs.Rule.{AuditsList};
+    ghost use Rattle.trlab_strands.specs.Knowledge.{AuditsList};
 
     ghost then = { AuditsList };
 }
@@ -82,7 +81,7 @@ impl<E> Play<E, StrandKnowledge<E>> for AuditList {
 pub struct SeeWholeList;
 
 impl<E> Play<E, StrandKnowledge<E>> for SeeWholeList {
-    ghost use Rattle.trlab_strands.specs.Rule.{SeesWholeList};
+    ghost use Rattle.trlab_strands.specs.Knowledge.{SeesWholeList};
 
     ghost then = { SeesWholeList };
 }

@@ -8,6 +8,6 @@ ghost use Rattle.std.specs.Prelude.{◌≡◌};
 use crate::knowledge::ALL_PARTS;
 
 /// The right to add to a list has 1024 parts, so a list has at most 1024 strands.
-pub fn sharing()
+pub fn limits()
     ensures parts { ALL_PARTS ≡ 1024 }
 {}

@@ -124,7 +124,7 @@ impl<L: Ledger, E: Drop> Keeper<L, E> {
     /// list is then a linearization of them.
     pub fn audit(&mut self, strands: &Strands<L, E>, strand: &mut Strand<L, E>)
         ensures same { (keeper_list self.new ≡ keeper_list self.old) × IsSameStrand strand.old strand.new }
-        ensures few { strand_parts strand.old ≤ ALL_PARTS }
+        ensures at_most_all_parts { strand_parts strand.old ≤ ALL_PARTS }
         ensures in_list { AreInList (keeper_list self.old) (strand_events strand.old) }
         ensures most { length (strand_events strand.old) ≤ length (keeper_list self.old) }
         ensures whole { strand_parts strand.old ≡ ALL_PARTS

@@ -1,10 +1,7 @@
 -- The number of lines of a text, and whether it has any.
-use Rattle.std.proofs.Common.{◌≡◌, ◌==◌, ℕ, suc, ◌≤◌, List, [], ◌∷◌, length, refl, sym, ◌∙◌, arith, Bool, true, false, cond}
-use Rattle.std.specs.Prelude.{IsTrue, ◌↔◌}
-use Rattle.std.specs.List.{onto_first}
-use Rattle.std.proofs.lemmas.Bool.{eqb-true, eq-eqb}
-use Rattle.trlab_lines.specs.Lines.{lines_of}
-use Rattle.trlab_lines.proofs.Cuts.{no_line_in}
+use Rattle.std.proofs.Common.{◌≡◌, ◌==◌, ℕ, suc, ◌≤◌, List, [], ◌∷◌, length, refl, sym, ◌∙◌, arith, Bool}
+use Rattle.std.{proofs.Common.{true, false, cond, IsTrue, ◌↔◌, eqb-true, eq-eqb}, specs.List.onto_first}
+use Rattle.trlab_lines.{specs.Lines.lines_of, proofs.Cuts.no_line_in}
 
 onto_some : (c : ℕ) (lines : List (List ℕ)) → onto_first c lines ≡ [] → ⊥
 onto_some c [] e = cc

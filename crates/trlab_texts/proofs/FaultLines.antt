@@ -1,15 +1,12 @@
 -- A fault of a program is at one of its lines, or at line 0.
-use Rattle.std.proofs.Common.{◌≡◌, ◌==◌, ℕ, suc, ◌+◌, ◌≤◌, List, [], ◌∷◌, ◌++◌, length, subst, ap, arith, inl, inr, Bool, true, false, cond}
-use Rattle.std.specs.Prelude.{◌⊎◌, Option, None, Some, Result, Ok, Err}
-use Rattle.trlab_code.specs.declared.program.Kind.{Kind}
-use Rattle.trlab_code.specs.declared.instruction.Instr.{Instr}
-use Rattle.trlab_code.specs.Program.{Program}
-use Rattle.trlab_asm.specs.declared.fault.Why.{Why}
-use Rattle.trlab_asm.specs.declared.fault.Why.TheVariants.{Empty}
-use Rattle.trlab_asm.specs.declared.fault.AsmFault.{AsmFault}
-use Rattle.trlab_asm.specs.Results.{◌>>=◌}
-use Rattle.trlab_asm.specs.Reading.{InstrDraft, Labels, Line, line_content}
-use Rattle.trlab_asm.specs.Assembly.{LineDraft, Parts, no_parts, in_line, with_draft, with_line, first_pass, jump_to, resolve_label, resolve, second_pass, instrs_of, code_of, IsOutOfMemory}
+use Rattle.std.proofs.Common.{◌≡◌, ◌==◌, ℕ, suc, ◌+◌, ◌≤◌, List, [], ◌∷◌, ◌++◌, length, subst, ap, arith, inl}
+use Rattle.std.proofs.Common.{inr, Bool, true, false, cond, ◌⊎◌, Option, None, Some, Result, Ok, Err}
+use Rattle.trlab_code.specs.{declared.{program.Kind.Kind, instruction.Instr.Instr}, Program.Program}
+use Rattle.trlab_asm.specs.declared.fault.{Why.{Why, TheVariants.Empty}, AsmFault.AsmFault}
+use Rattle.trlab_asm.specs.{Operands.{◌>>=◌}, Reading.{InstrDraft, Labels, Line, line_content}}
+use Rattle.trlab_asm.specs.Assembly.{LineDraft, Parts, no_parts, in_line, with_draft, with_line, first_pass}
+use Rattle.trlab_asm.specs.Assembly.{jump_to, resolve_label, resolve, second_pass, instrs_of, code_of}
+use Rattle.trlab_asm.specs.Assembly.{IsOutOfMemory}
 
 -- a fault at a line up to n
 abbrev Within : {A : Type 0} → ℕ → Result A AsmFault → Type 0

@@ -1,24 +1,19 @@
 -- Results for words, lines and texts: values have the required property, and error numbers are not the one
 -- for a rejected standard rule.
-use Rattle.std.proofs.Common.{◌≡◌, ◌≢◌, ℕ, ◌+◌, ◌<◌, ◌≤◌, ◌&&◌, Bool, true, false, List, refl, arith, if◌then◌else◌, leb-true}
-use Rattle.std.specs.Prelude.{Option, None, Some, ok_or, Result, Ok, Err, MatchResult, nat_le}
-use Rattle.trlab_road.specs.declared.fault.RoadFault.{RoadFault}
-use Rattle.trlab_road.specs.declared.fault.RoadFault.TheVariants.{Lanes}
-use Rattle.trlab_code.specs.declared.fault.CodeFault.{CodeFault}
-use Rattle.trlab_code.specs.declared.fault.CodeFault.TheVariants.{Short}
-use Rattle.trlab_code.specs.declared.program.Kind.{Kind}
+use Rattle.std.proofs.Common.{◌≡◌, ◌≢◌, ℕ, ◌+◌, ◌<◌, ◌≤◌, ◌&&◌, Bool, true, false, List, refl, arith}
+use Rattle.std.proofs.Common.{if◌then◌else◌, leb-true, Option, None, Some, ok_or, Result, Ok, Err}
+use Rattle.std.proofs.Common.{MatchResult, nat_le}
+use Rattle.trlab_road.specs.declared.fault.RoadFault.{RoadFault, TheVariants.Lanes}
+use Rattle.trlab_code.specs.declared.{fault.CodeFault.{CodeFault, TheVariants.Short}, program.Kind.Kind}
 use Rattle.trlab_code.specs.Program.{Program}
-use Rattle.trlab_lines.specs.Cutting.{without_prefix}
-use Rattle.trlab_asm.specs.declared.fault.Why.{Why}
-use Rattle.trlab_asm.specs.declared.fault.Why.TheVariants.{Word}
-use Rattle.trlab_asm.specs.Results.{◌>>=◌}
-use Rattle.trlab_verify.specs.Verdict.{IsRefused}
-use Rattle.trlab_verify.proofs.ReasonNumbers.{numbered_from_one}
-use Rattle.trlab_texts.specs.declared.fault.Cause.{Cause}
-use Rattle.trlab_texts.specs.declared.fault.Cause.TheVariants.{Line, Number, Key, OneLane, Order, TooMany, Work, Hex, TooBig, Program as InProgram, Code, Road, Verdict}
-use Rattle.trlab_texts.specs.Causes.{IsNotStandardRefused}
-use Rattle.trlab_texts.specs.Reading.{Fault, at_line}
-use Rattle.trlab_texts.specs.Words.{is_word, number_of, one_word, number_within, within, word_after}
+use Rattle.trlab_lines.specs.Lines.{without_prefix}
+use Rattle.trlab_asm.specs.{declared.fault.Why.{Why, TheVariants.Word}, Operands.{◌>>=◌}}
+use Rattle.trlab_verify.{specs.Verdict.IsRefused, proofs.ReasonNumbers.numbered_from_one}
+use Rattle.trlab_texts.specs.declared.fault.Cause.{Cause, TheVariants.{Line, Number, Key, OneLane, Order}}
+use Rattle.trlab_texts.specs.declared.fault.Cause.TheVariants.{TooMany, Work, Hex, TooBig}
+use Rattle.trlab_texts.specs.declared.fault.Cause.TheVariants.{Program as InProgram, Code, Road, Verdict}
+use Rattle.trlab_texts.specs.{Causes.IsNotStandardRefused, Reading.{LocatedFault, at_line}, Words.is_word}
+use Rattle.trlab_texts.specs.Words.{number_of, one_word, number_within, within, word_after}
 
 -- the number of another cause
 apart : (n : ℕ) → n < 40 → n ≢ 40
@@ -71,7 +66,7 @@ verdict_other kind program at reason refused e =
     absurd (omega (arith, some, same))
 
 -- a fault of a text with another cause
-abbrev pub IsOtherFault : Fault → Type 0
+abbrev pub IsOtherFault : LocatedFault → Type 0
 IsOtherFault fault = IsNotStandardRefused fault.cause
 
 -- the property that every value has
@@ -83,7 +78,7 @@ abbrev pub Fine : {A : Type 0} → (A → Type 0) → Result A Cause → Type 0
 Fine Keeps says = MatchResult says Keeps IsNotStandardRefused
 
 -- the same for a text
-abbrev pub FineText : {A : Type 0} → (A → Type 0) → Result A Fault → Type 0
+abbrev pub FineText : {A : Type 0} → (A → Type 0) → Result A LocatedFault → Type 0
 FineText Keeps says = MatchResult says Keeps IsOtherFault
 
 pub at_line_fine : {A : Type 0} (P : A → Type 0) (number : ℕ) (says : Result A Cause) → Fine P says → FineText P (at_line number says)

@@ -1,19 +1,13 @@
 -- Numbers in words.
-use Rattle.std.proofs.Common.{◌≡◌, ◌≢◌, ℕ, zero, suc, ◌<◌, ◌≤◌, ◌^◌, List, [], ◌∷◌, length, get_or, refl, sym, ◌∙◌, ap, arith, Bool, true, false, cond}
-use Rattle.std.specs.Prelude.{decimal, None, Some, Result, Ok, Err, nat_le, nat_lt, ◌&&◌}
-use Rattle.std.specs.Str.{bytes_eq}
+use Rattle.std.proofs.Common.{◌≡◌, ◌≢◌, ℕ, zero, suc, ◌<◌, ◌≤◌, ◌^◌, List, [], ◌∷◌, length, get_or, refl, sym}
+use Rattle.std.proofs.Common.{◌∙◌, ap, arith, Bool, true, false, cond, decimal, None, Some, Result, Ok, Err}
+use Rattle.std.proofs.Common.{nat_le, nat_lt, ◌&&◌, bytes_eq, leb-true, le-leb, ltb-true, lt-ltb}
+use Rattle.std.proofs.lemmas.Fmt.{decimal_digit, first_decimal, decimal_is_IsNumeral, decimal-digits_value}
+use Rattle.std.proofs.lemmas.{Fmt.length-decimal-le, Str.Parse.digits_value_short, Slice.Eq.bytes_eq-Decides}
 use Rattle.std.specs.Str.Parse.{digits_value}
-use Rattle.std.proofs.lemmas.Fmt.{decimal_digit, first_decimal, decimal_is_IsNumeral, decimal-digits_value, length-decimal-le}
-use Rattle.std.proofs.lemmas.Str.Parse.{digits_value_short}
-use Rattle.std.proofs.lemmas.Slice.Eq.{bytes_eq-Decides}
-use Rattle.std.proofs.lemmas.Bool.{leb-true, le-leb, ltb-true, lt-ltb}
-use Rattle.trlab_bounds.specs.declared.programs.TheConstants.{MAX_DIGITS}
-use Rattle.trlab_bounds.specs.declared.texts.TheConstants.{LONGEST_NUMBER}
-use Rattle.trlab_lines.specs.Numbers.{all_digits, is_numeral}
-use Rattle.trlab_lines.proofs.Digits.{own}
-use Rattle.trlab_texts.specs.Words.{number_of, within}
-use Rattle.trlab_texts.specs.declared.fault.Cause.{Cause}
-use Rattle.trlab_texts.specs.declared.fault.Cause.TheVariants.{Number}
+use Rattle.trlab_bounds.specs.declared.{programs.TheConstants.MAX_DIGITS, texts.TheConstants.LONGEST_NUMBER}
+use Rattle.trlab_lines.{specs.Lines.{all_digits, is_numeral}, proofs.Digits.own}
+use Rattle.trlab_texts.specs.{Words.{number_of, within}, declared.fault.Cause.{Cause, TheVariants.Number}}
 
 abbrev ok_number : ℕ → Result ℕ Cause
 ok_number v = Ok v

@@ -1,13 +1,13 @@
 -- Rules, readings and texts with exactly one meaning, which has the required property.
 use Rattle.std.proofs.Common.{◌≡◌, ℕ, Bool, true, false, List, [], ◌∷◌, length, refl, sym, ◌∙◌, ap, subst}
-use Rattle.std.specs.Prelude.{Option, None, Some, IfSome, Result, Ok, Err, IfOk, MatchResult, nat_lt}
-use Rattle.trlab_texts.specs.declared.fault.Cause.{Cause}
-use Rattle.trlab_texts.specs.declared.fault.Cause.TheVariants.{Line, TooBig}
-use Rattle.trlab_bounds.specs.declared.texts.TheConstants.{TEXT_LIMIT}
+use Rattle.std.proofs.Common.{Option, None, Some, IfSome, Result, Ok, Err, IfOk, MatchResult, nat_lt}
+use Rattle.trlab_texts.specs.declared.fault.Cause.{Cause, TheVariants.{Line, TooBig}}
 use Rattle.trlab_texts.specs.Causes.{IsNotStandardRefused}
-use Rattle.trlab_texts.specs.Lines.{Rest}
-use Rattle.trlab_texts.specs.Reading.{Fault, LineRule, Reading, give, Continues, ◌>>=◌, line_with_rest, LineParsesTo, line, exactly, SizedTextParsesTo, TextParsesTo, read_if, before, at_line, result_of_line}
+use Rattle.trlab_texts.specs.Reading.{Rest, LocatedFault, LineRule, Reading, give, Continues, ◌>>=◌}
+use Rattle.trlab_texts.specs.Reading.{line_with_rest, LineParsesTo, line, exactly, SizedTextParsesTo}
+use Rattle.trlab_texts.specs.Reading.{TextParsesTo, read_if, before, at_line, result_of_line}
 use Rattle.trlab_texts.proofs.Fine.{IsOtherFault, Fine, FineText, line_other, too_big_other, at_line_fine}
+use Rattle.trlab_bounds.specs.declared.texts.TheConstants.{TEXT_LIMIT}
 
 -- there is exactly one result; a value has the required property, and so does a fault
 pub record One {A E : Type 0} (Keeps : A → Type 0) (Fails : E → Type 0) (Says : Result A E → Type 0) : Type 0 where
@@ -21,11 +21,11 @@ abbrev pub OneLine : {A : Type 0} → (A → Type 0) → (Result A Cause → Typ
 OneLine Keeps Says = One Keeps IsNotStandardRefused Says
 
 -- and so does a text
-abbrev pub OneText : {A : Type 0} → (A → Type 0) → (Result A Fault → Type 0) → Type 0
+abbrev pub OneText : {A : Type 0} → (A → Type 0) → (Result A LocatedFault → Type 0) → Type 0
 OneText Keeps Says = One Keeps IsOtherFault Says
 
 -- there is one meaning before the remaining lines
-pub record OnePart {A : Type 0} (Keeps : A → Type 0) (Says : Result (A × Rest) Fault → Type 0) : Type 0 where
+pub record OnePart {A : Type 0} (Keeps : A → Type 0) (Says : Result (A × Rest) LocatedFault → Type 0) : Type 0 where
   pub one : OneText (λ found. Keeps found.0) Says
 
 -- a rule by which each line has one meaning
@@ -92,17 +92,17 @@ line_one rule one place = next_one rule place.number place.left one
 pub exact_line : {A : Type 0} {P : A → Type 0} (rule : List ℕ → Result A Cause) → ((text : List ℕ) → Fine P (rule text)) → OneReading P (line (exactly rule))
 exact_line rule fine = line_one (exactly rule) (λ text. exact (rule text) (fine text))
 
-with_more : {A : Type 0} (P Q : A → Type 0) (found : Result (A × Rest) Fault) → ((x : A) → P x → Q x) → FineText (λ (x : A × Rest). P x.0) found → FineText (λ (x : A × Rest). Q x.0) found
+with_more : {A : Type 0} (P Q : A → Type 0) (found : Result (A × Rest) LocatedFault) → ((x : A) → P x → Q x) → FineText (λ (x : A × Rest). P x.0) found → FineText (λ (x : A × Rest). Q x.0) found
 with_more P Q (Ok found) more fine = more found.0 fine
 with_more P Q (Err fault) more fine = fine
 
 -- the values have any property that follows from the required one
-pub part_with : {A : Type 0} {P Q : A → Type 0} {Says : Result (A × Rest) Fault → Type 0} → ((x : A) → P x → Q x) → OnePart P Says → OnePart Q Says
+pub part_with : {A : Type 0} {P Q : A → Type 0} {Says : Result (A × Rest) LocatedFault → Type 0} → ((x : A) → P x → Q x) → OnePart P Says → OnePart Q Says
 part_with {A} {P} {Q} more part =
     let one = part.one in
     record { one = record { answer = one.answer; says = one.says; keeps = with_more P Q one.answer more one.keeps; only = one.only } }
 
-after_one : {A B : Type 0} {Q : B → Type 0} (P : A → Type 0) (next : A → Reading B) (found : Result (A × Rest) Fault) → FineText (λ (x : A × Rest). P x.0) found
+after_one : {A B : Type 0} {Q : B → Type 0} (P : A → Type 0) (next : A → Reading B) (found : Result (A × Rest) LocatedFault) → FineText (λ (x : A × Rest). P x.0) found
     → ((x : A) → P x → OneReading Q (next x)) → OnePart Q (Continues next found)
 after_one P next (Ok found) fine rest = rest found.0 fine found.1
 after_one P next (Err fault) fine rest = record { one = exact (Err fault) fine }
@@ -118,7 +118,7 @@ then_one {A} {B} {P} {Q} first next one rest place =
         answer = more.answer;
         says = (found.answer, (found.says, more.says));
         keeps = more.keeps;
-        only = λ other p. more.only other (subst (λ (r : Result (A × Rest) Fault). Continues next r other) (found.only p.0 p.1.0) p.1.1);
+        only = λ other p. more.only other (subst (λ (r : Result (A × Rest) LocatedFault). Continues next r other) (found.only p.0 p.1.0) p.1.1);
       };
     }
 
@@ -129,13 +129,13 @@ pub perhaps_one : {A : Type 0} {P : A → Type 0} (there : Bool) (reading : Read
 perhaps_one {A} {P} true reading one = then_one reading (λ (x : A). give (Some x)) one (λ x keeps. said_one (Some x) keeps)
 perhaps_one {A} {P} false reading one = said_one None tt
 
-pub before_fine : {A : Type 0} (P : A → Type 0) (place : Rest) (says : Result A Fault) → FineText P says → FineText (λ (found : A × Rest). P found.0) (before place says)
+pub before_fine : {A : Type 0} (P : A → Type 0) (place : Rest) (says : Result A LocatedFault) → FineText P says → FineText (λ (found : A × Rest). P found.0) (before place says)
 before_fine P place (Ok x) fine = fine
 before_fine P place (Err fault) fine = fine
 
 -- the meaning before a place
-pub before_one : {A : Type 0} {P : A → Type 0} {Says : Result A Fault → Type 0} (place : Rest) → OneText P Says
-    → OnePart P (λ out. (says : Result A Fault) × (Says says × (out ≡ before place says)))
+pub before_one : {A : Type 0} {P : A → Type 0} {Says : Result A LocatedFault → Type 0} (place : Rest) → OneText P Says
+    → OnePart P (λ out. (says : Result A LocatedFault) × (Says says × (out ≡ before place says)))
 before_one {A} {P} place one = record { one = made (before place) one (before_fine P place) }
 
 -- a line that was read
@@ -143,10 +143,10 @@ pub of_line_one : {A : Type 0} {P : A → Type 0} {Says : Result A Cause → Typ
 of_line_one {A} {P} number one place =
     record { one = made (λ says. before place (at_line number says)) one (λ says fine. before_fine P place (at_line number says) (at_line_fine P number says fine)) }
 
-sized_one : {A : Type 0} {P : A → Type 0} (Says : List ℕ → Result A Fault → Type 0) (long : Bool) (text : List ℕ) → OneText P (Says text) → OneText P (SizedTextParsesTo Says long text)
+sized_one : {A : Type 0} {P : A → Type 0} (Says : List ℕ → Result A LocatedFault → Type 0) (long : Bool) (text : List ℕ) → OneText P (Says text) → OneText P (SizedTextParsesTo Says long text)
 sized_one Says true text one = exact (Err (record { line = 0; cause = TooBig })) too_big_other
 sized_one Says false text one = one
 
 -- a text has one meaning if its lines have
-pub text_one : {A : Type 0} {P : A → Type 0} (Says : List ℕ → Result A Fault → Type 0) (text : List ℕ) → OneText P (Says text) → OneText P (TextParsesTo Says text)
+pub text_one : {A : Type 0} {P : A → Type 0} (Says : List ℕ → Result A LocatedFault → Type 0) (text : List ℕ) → OneText P (Says text) → OneText P (TextParsesTo Says text)
 text_one Says text one = sized_one Says (nat_lt TEXT_LIMIT (length text)) text one

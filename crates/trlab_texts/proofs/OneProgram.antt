@@ -1,36 +1,28 @@
 -- The lines of a program have exactly one meaning.
-use Rattle.std.proofs.Common.{◌≡◌, ℕ, ◌+◌, ◌<◌, ◌≤◌, ◌^◌, Bool, true, false, List, [], ◌∷◌, length, refl, sym, ◌∙◌, ap, subst, inl, inr, arith}
-use Rattle.std.proofs.lemmas.Bool.{cases_order}
+use Rattle.std.proofs.Common.{◌≡◌, ℕ, ◌+◌, ◌<◌, ◌≤◌, ◌^◌, Bool, true, false, List, [], ◌∷◌, length, refl, sym}
+use Rattle.std.proofs.Common.{◌∙◌, ap, subst, inl, inr, arith, ◌≢◌, Option, Some, None, Result, Ok, Err}
+use Rattle.std.proofs.{Common.{MatchResult, codes, bytes_eq}, lemmas.Bool.cases_order}
 use Rattle.std.proofs.lemmas.List.Elements.{All-from_get_or}
-use Rattle.std.specs.Prelude.{◌≢◌, Option, Some, None, Result, Ok, Err, MatchResult, codes}
-use Rattle.std.specs.Str.{bytes_eq}
-use Rattle.hex.specs.Hex.{decode_of}
-use Rattle.hex.specs.declared.error.FromHexError.{FromHexError}
+use Rattle.hex.specs.{Hex.decode_of, declared.error.FromHexError.FromHexError}
 use Rattle.hex.proofs.HexLemmas.{decode_of-ok}
-use Rattle.trlab_code.specs.declared.program.Kind.{Kind}
-use Rattle.trlab_code.specs.declared.program.Kind.TheVariants.{Motion, Change}
-use Rattle.trlab_code.specs.declared.instruction.Instr.{Instr}
-use Rattle.trlab_code.specs.declared.fault.CodeFault.{CodeFault}
-use Rattle.trlab_code.specs.declared.fault.CodeFault.TheVariants.{Kind as OtherKind}
-use Rattle.trlab_code.specs.Program.{Program, IsValidProgram}
-use Rattle.trlab_code.specs.Laws.{AreBytes, BytesMean}
-use Rattle.trlab_code.proofs.Readable.{something}
-use Rattle.trlab_code.proofs.Said.{one_thing}
-use Rattle.trlab_asm.specs.declared.fault.AsmFault.{AsmFault}
-use Rattle.trlab_asm.specs.declared.fault.Why.TheVariants.{Memory}
-use Rattle.trlab_asm.specs.Assembly.{code_of}
+use Rattle.trlab_code.specs.{declared.program.Kind.Kind, Program.{Program, IsValidProgram}}
+use Rattle.trlab_code.specs.declared.{program.Kind.TheVariants.{Motion, Change}, instruction.Instr.Instr}
+use Rattle.trlab_code.specs.declared.fault.CodeFault.{CodeFault, TheVariants.Kind as OtherKind}
+use Rattle.trlab_code.{specs.Laws.{AreBytes, BytesMean}, proofs.{Readable.something, Said.one_thing}}
+use Rattle.trlab_asm.specs.{declared.fault.{AsmFault.AsmFault, Why.TheVariants.Memory}, Assembly.code_of}
 use Rattle.trlab_asm.proofs.Said.{lines_say}
 use Rattle.trlab_verify.specs.Verified.{CheckedProgram, IsChecked}
 use Rattle.trlab_verify.specs.Verdict.{IsLongest, IsAccepted, IsRefused, reason_number_at}
 use Rattle.trlab_verify.proofs.Judged.{accepted_or_refused, some_budget}
-use Rattle.trlab_texts.specs.declared.fault.Cause.{Cause}
-use Rattle.trlab_texts.specs.declared.fault.Cause.TheVariants.{Line, Hex, Code, Verdict}
-use Rattle.trlab_texts.specs.Lines.{Rest}
-use Rattle.trlab_texts.specs.Words.{word_after}
-use Rattle.trlab_texts.specs.Reading.{Fault, before}
-use Rattle.trlab_texts.specs.Programs.{BytesDecodeTo, DigitsDecodeTo, CodeParsesTo, code_line, as_kind, of_kind, code_line_of, with_line_offset, program_after, EndSplit, split_at_end, heading_line, block, HeadingParsesTo, PartParsesTo, program_part, IsVerdict, verdict, part}
-use Rattle.trlab_texts.proofs.Fine.{Anything, Fine, FineText, code_other, hex_other, line_other, program_other, verdict_other, word_fine}
-use Rattle.trlab_texts.proofs.OneAnswer.{OneLine, OneText, OnePart, OneRule, OneReading, exact, made, next_one, then_one, before_fine, before_one}
+use Rattle.trlab_texts.specs.declared.fault.Cause.{Cause, TheVariants.{Line, Hex, Code, Verdict}}
+use Rattle.trlab_texts.specs.{Reading.{Rest, LocatedFault, before}, Words.word_after, Programs.BytesDecodeTo}
+use Rattle.trlab_texts.specs.Programs.{DigitsDecodeTo, CodeParsesTo, code_line, as_kind, of_kind}
+use Rattle.trlab_texts.specs.Programs.{code_line_of, with_line_offset, program_after, EndSplit, split_at_end}
+use Rattle.trlab_texts.specs.Programs.{heading_line, block, HeadingParsesTo, PartParsesTo, program_part}
+use Rattle.trlab_texts.{specs.Programs.{IsVerdict, verdict, part}, proofs.Fine.{Anything, Fine, FineText}}
+use Rattle.trlab_texts.proofs.Fine.{code_other, hex_other, line_other, program_other, verdict_other}
+use Rattle.trlab_texts.proofs.{Fine.word_fine, OneAnswer.{OneLine, OneText, OnePart, OneRule, OneReading}}
+use Rattle.trlab_texts.proofs.OneAnswer.{exact, made, next_one, then_one, before_fine, before_one}
 
 -- the result for bytes, with the cause of a text
 abbrev with_cause : Result Program CodeFault → Result Program Cause
@@ -150,12 +142,12 @@ refused_one kind program at reason place other p q =
     one_fault_at (sym p.here ∙ ap (reason_number_at kind program) (refused_at_one kind program at reason place other p q) ∙ q.here)
 
 accepted_only : (kind : Kind) (first : ℕ) (checked : CheckedProgram) → IsAccepted kind checked.program → IsChecked kind checked
-    → (other : Result CheckedProgram Fault) → IsVerdict kind first checked.program other → other ≡ Ok checked
+    → (other : Result CheckedProgram LocatedFault) → IsVerdict kind first checked.program other → other ≡ Ok checked
 accepted_only kind first checked accepted is (Ok other) p = ap Ok (checked_one other checked p.0 kind p.1.1 is)
 accepted_only kind first checked accepted is (Err fault) p = absurd (not_refused kind checked.program p.0 p.1 accepted p.2.0)
 
 refused_only : (kind : Kind) (first : ℕ) (program : Program) (at reason : ℕ) → IsRefused kind program at reason
-    → (other : Result CheckedProgram Fault) → IsVerdict kind first program other → other ≡ Err (record { line = first; cause = Verdict reason })
+    → (other : Result CheckedProgram LocatedFault) → IsVerdict kind first program other → other ≡ Err (record { line = first; cause = Verdict reason })
 refused_only kind first program at reason refused (Ok checked) p = absurd (not_refused kind program at reason p.1.0 refused)
 refused_only kind first program at reason refused (Err fault) p =
     ap Err (p.2.1 ∙ ap (λ n. record { line = first; cause = Verdict n }) (refused_one kind program p.0 p.1 at reason p.2.0 refused))

@@ -1,14 +1,11 @@
 -- The lines of a part are those before the first line `end`.
-use Rattle.std.proofs.Common.{◌≡◌, ℕ, ◌+◌, ◌-◌, ◌<◌, List, [], ◌∷◌, ◌++◌, length, take, refl, sym, ◌∙◌, ap, subst, arith, append_assoc, append-nil, length-append, inl, inr, true, false}
-use Rattle.std.proofs.Math.Seq.{take-append_seam}
-use Rattle.std.specs.Prelude.{Option, None, Some, codes}
-use Rattle.std.specs.Str.{bytes_eq}
+use Rattle.std.proofs.Common.{◌≡◌, ℕ, ◌+◌, ◌-◌, ◌<◌, List, [], ◌∷◌, ◌++◌, length, take, refl, sym, ◌∙◌, ap}
+use Rattle.std.proofs.Common.{subst, arith, append_assoc, append-nil, length-append, inl, inr, true, false}
+use Rattle.std.proofs.{Common.{Option, None, Some, codes, bytes_eq}, Math.Seq.take-append_seam}
 use Rattle.trlab_lines.specs.Lines.{lines_of, BeginsWithLine, HasNoLineFeed}
 use Rattle.trlab_lines.proofs.Cuts.{line_and_rest, no_line, no_byte_in}
-use Rattle.trlab_texts.specs.declared.fault.Cause.TheVariants.{Line}
-use Rattle.trlab_texts.specs.declared.fault.TextFault.TheVariants.{At}
-use Rattle.trlab_texts.specs.Programs.{split_at_end, with_first_line}
-use Rattle.trlab_texts.proofs.Cuts.{no_text_in}
+use Rattle.trlab_texts.specs.declared.fault.{Cause.TheVariants.Line, TextFault.TheVariants.At}
+use Rattle.trlab_texts.{specs.Programs.{split_at_end, with_first_line}, proofs.Cuts.no_text_in}
 
 -- a prefix of a text that ends at the end of a line
 abbrev pub IsClosed : List ℕ → Type 0

@@ -1,16 +1,12 @@
 -- The position of some bytes within a line.
-use Rattle.std.proofs.Common.{Bool, true, false, cond, ◌≡◌, ◌==◌, ℕ, ◌+◌, List, [], ◌∷◌, ◌++◌, length, take, drop, get_or, refl, sym, ◌∙◌, ap, subst, arith, length-append, take-append-drop, drop-cons, add-one}
-use Rattle.std.specs.Prelude.{Option, None, Some, unwrap_or, Result, Ok, Err, nat_le, ◌&&◌}
-use Rattle.std.specs.List.{position}
-use Rattle.std.proofs.lemmas.List.{append_assoc, append-nil}
-use Rattle.std.proofs.lemmas.List.Quantifiers.{position-Some}
-use Rattle.std.proofs.Math.Seq.{append_snoc}
-use Rattle.trlab_lines.specs.Cutting.{split_around, cut, without_prefix}
-use Rattle.trlab_texts.specs.declared.fault.Cause.{Cause}
-use Rattle.trlab_texts.specs.declared.fault.Cause.TheVariants.{Number}
-use Rattle.trlab_texts.specs.Words.{within}
-use Rattle.trlab_texts.specs.Places.{HasBytesAt}
-use Rattle.trlab_texts.proofs.Said.{behind_front}
+use Rattle.std.proofs.Common.{Bool, true, false, cond, ◌≡◌, ◌==◌, ℕ, ◌+◌, List, [], ◌∷◌, ◌++◌, length, take}
+use Rattle.std.proofs.Common.{drop, get_or, refl, sym, ◌∙◌, ap, subst, arith, length-append, take-append-drop}
+use Rattle.std.proofs.Common.{drop-cons, add-one, Option, None, Some, unwrap_or, Result, Ok, Err, nat_le}
+use Rattle.std.proofs.Common.{◌&&◌, position, append_assoc, append-nil}
+use Rattle.std.proofs.{lemmas.List.Quantifiers.position-Some, Math.Seq.append_snoc}
+use Rattle.trlab_lines.specs.Lines.{split_around, cut, without_prefix}
+use Rattle.trlab_texts.specs.{declared.fault.Cause.{Cause, TheVariants.Number}, Words.within}
+use Rattle.trlab_texts.{specs.Reading.HasBytesAt, proofs.Said.behind_front}
 
 -- a line begins at position 0 of itself
 pub whole : (line : List ℕ) → HasBytesAt line 0 line

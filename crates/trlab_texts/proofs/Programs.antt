@@ -1,20 +1,13 @@
 -- The meaning of the lines of programs.
-use Rattle.std.proofs.Common.{◌≡◌, ◌≢◌, ℕ, List, refl, sym, false}
-use Rattle.std.specs.Prelude.{Result, Ok, Err}
-use Rattle.std.specs.Str.{bytes_eq}
-use Rattle.trlab_code.specs.declared.program.Kind.{Kind}
-use Rattle.trlab_code.specs.declared.program.Kind.TheVariants.{Motion, Change}
-use Rattle.trlab_code.specs.declared.fault.CodeFault.TheVariants.{Kind as OtherKind}
-use Rattle.trlab_code.specs.Program.{Program}
+use Rattle.std.proofs.Common.{◌≡◌, ◌≢◌, ℕ, List, refl, sym, false, Result, Ok, Err, bytes_eq}
+use Rattle.trlab_code.specs.declared.program.Kind.{Kind, TheVariants.{Motion, Change}}
+use Rattle.trlab_code.specs.{declared.fault.CodeFault.TheVariants.Kind as OtherKind, Program.Program}
 use Rattle.trlab_verify.specs.Verified.{CheckedProgram}
-use Rattle.trlab_texts.specs.declared.fault.Cause.{Cause}
-use Rattle.trlab_texts.specs.declared.fault.Cause.TheVariants.{Code}
-use Rattle.trlab_texts.specs.declared.fault.TextFault.{TextFault}
+use Rattle.trlab_texts.specs.declared.fault.{Cause.{Cause, TheVariants.Code}, TextFault.TextFault}
 use Rattle.trlab_texts.specs.declared.fault.TextFault.TheVariants.{At, Memory}
-use Rattle.trlab_texts.specs.Lines.{Rest, IsNextLine}
-use Rattle.trlab_texts.specs.Reading.{line, Reports}
-use Rattle.trlab_texts.specs.Programs.{as_kind, code_line, code_line_of, heading_line, program_part, verdict, IsVerdict, part}
-use Rattle.trlab_texts.proofs.Readings.{goes_on}
+use Rattle.trlab_texts.specs.Reading.{Rest, IsNextLine, line, Reports}
+use Rattle.trlab_texts.specs.Programs.{as_kind, code_line, code_line_of, heading_line, program_part, verdict}
+use Rattle.trlab_texts.{specs.Programs.{IsVerdict, part}, proofs.Readings.goes_on}
 
 kind_as : (kind own : Kind) (program : Program) → own ≡ kind → as_kind kind own program ≡ Ok program
 kind_as Motion Motion program e = refl

@@ -1,12 +1,8 @@
 -- The meaning of the next line by a rule, and the reading of the lines after it.
-use Rattle.std.proofs.Common.{◌≡◌, ℕ, ◌+◌, List, [], ◌∷◌, refl, ap}
-use Rattle.std.specs.Prelude.{Result, Ok, Err}
-use Rattle.std.specs.Result.{IsErr, IsErrAnd}
-use Rattle.trlab_texts.specs.declared.fault.Cause.{Cause}
-use Rattle.trlab_texts.specs.declared.fault.TextFault.{TextFault}
-use Rattle.trlab_texts.specs.declared.fault.TextFault.TheVariants.{At, Memory}
-use Rattle.trlab_texts.specs.Lines.{Rest, IsNextLine}
-use Rattle.trlab_texts.specs.Reading.{Fault, LineRule, Reading, LineParsesTo, ◌>>=◌, line, Reports}
+use Rattle.std.proofs.Common.{◌≡◌, ℕ, ◌+◌, List, [], ◌∷◌, refl, ap, Result, Ok, Err, IsErr, IsErrAnd}
+use Rattle.trlab_texts.specs.declared.fault.{Cause.Cause, TextFault.{TextFault, TheVariants.{At, Memory}}}
+use Rattle.trlab_texts.specs.Reading.{Rest, IsNextLine, LocatedFault, LineRule, Reading, LineParsesTo, ◌>>=◌}
+use Rattle.trlab_texts.specs.Reading.{line, Reports}
 
 -- a place is its number and its lines
 pub rest_is : (after : Rest) (n : ℕ) → after.number ≡ n → after ≡ record { number = n; left = after.left }
@@ -24,7 +20,7 @@ pub line_fails : {A : Type 0} (rule : LineRule A) (place after : Rest) (text : L
     → rule text (Err cause) → line rule place (Err (record { line = number; cause = cause }))
 line_fails rule place after text number cause stands here says = rw (stands.0, here) (Err cause, (says, refl))
 
-next_by : {A : Type 0} (P Q : LineRule A) (number : ℕ) (left : List (List ℕ)) (out : Result (A × Rest) Fault) → ((text : List ℕ) (says : Result A Cause) → P text says → Q text says)
+next_by : {A : Type 0} (P Q : LineRule A) (number : ℕ) (left : List (List ℕ)) (out : Result (A × Rest) LocatedFault) → ((text : List ℕ) (says : Result A Cause) → P text says → Q text says)
     → LineParsesTo P number left out → LineParsesTo Q number left out
 next_by P Q number [] out weaker says = says
 next_by P Q number (text ∷ left) out weaker says = (says.0, (weaker text says.0 says.1.0, says.1.1))

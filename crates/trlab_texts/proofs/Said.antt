@@ -1,18 +1,14 @@
 -- Reading a line with a name and a number gives the number in the line.
-use Rattle.std.proofs.Common.{◌≡◌, ℕ, ◌<◌, ◌≤◌, ◌^◌, List, [], ◌∷◌, ◌++◌, length, take, drop, refl, sym, ◌∙◌, ap, arith, Bool, true, false, cond, take-append-drop, inl, inr}
-use Rattle.std.specs.Prelude.{decimal, Option, None, Some, Result, Ok, Err, nat_le, ◌&&◌, ◌⊎◌}
-use Rattle.std.specs.Str.{bytes_eq}
+use Rattle.std.proofs.Common.{◌≡◌, ℕ, ◌<◌, ◌≤◌, ◌^◌, List, [], ◌∷◌, ◌++◌, length, take, drop, refl, sym, ◌∙◌}
+use Rattle.std.proofs.Common.{ap, arith, Bool, true, false, cond, take-append-drop, inl, inr, decimal, Option}
+use Rattle.std.proofs.Common.{None, Some, Result, Ok, Err, nat_le, ◌&&◌, ◌⊎◌, bytes_eq, leb-true, lt-ltb}
+use Rattle.std.proofs.{Common.{le-leb, ne_eqb}, Math.Seq.{take-append_seam, drop-append_seam}}
+use Rattle.std.proofs.lemmas.{Fmt.decimal_is_IsNumeral, Str.Parse.digit_from_value, Slice.Eq.bytes_eq-Decides}
 use Rattle.std.specs.Str.Parse.{digits_value, AllDigits}
-use Rattle.std.proofs.Math.Seq.{take-append_seam, drop-append_seam}
-use Rattle.std.proofs.lemmas.Fmt.{decimal_is_IsNumeral}
-use Rattle.std.proofs.lemmas.Str.Parse.{digit_from_value}
-use Rattle.std.proofs.lemmas.Slice.Eq.{bytes_eq-Decides}
-use Rattle.std.proofs.lemmas.Bool.{leb-true, lt-ltb, le-leb, ne_eqb}
 use Rattle.trlab_texts.proofs.Numbers.{number_of_some}
-use Rattle.trlab_lines.specs.Cutting.{without_prefix}
-use Rattle.trlab_texts.specs.Words.{is_word, has_space, number_of, within, one_word, word_after, number_within}
-use Rattle.trlab_texts.specs.declared.fault.Cause.{Cause}
-use Rattle.trlab_texts.specs.declared.fault.Cause.TheVariants.{Line, Number}
+use Rattle.trlab_texts.specs.Words.{is_word, has_space, number_of, within, one_word, word_after}
+use Rattle.trlab_texts.specs.{Words.number_within, declared.fault.Cause.{Cause, TheVariants.{Line, Number}}}
+use Rattle.trlab_lines.specs.Lines.{without_prefix}
 
 -- the result of a test
 chosen : {A : Type 0} (b : Bool) (x y : A) (z : A) → cond b x y ≡ z → ((b ≡ true) × (x ≡ z)) ⊎ ((b ≡ false) × (y ≡ z))

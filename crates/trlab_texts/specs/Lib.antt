@@ -1,9 +1,5 @@
-pub mod Lines
-pub mod LineNames
-pub mod Places
 pub mod Words
 pub mod Reading
-pub mod Wanted
 pub mod Programs
 pub mod Causes
 pub mod Laws

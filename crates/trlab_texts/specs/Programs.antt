@@ -1,23 +1,15 @@
 -- Programs in texts: their bytes in hexadecimal digits on one line, or a block of lines.
-use Rattle.std.specs.Prelude.{◌≡◌, ◌≢◌, ℕ, ◌+◌, Bool, true, false, List, [], ◌∷◌, length, codes, Option, None, Some, Result, Ok, Err, if◌then◌else◌}
-use Rattle.std.specs.Str.{bytes_eq}
-use Rattle.hex.specs.Hex.{decode_of}
-use Rattle.hex.specs.declared.error.FromHexError.{FromHexError}
-use Rattle.trlab_code.specs.declared.program.Kind.{Kind}
-use Rattle.trlab_code.specs.declared.program.Kind.TheVariants.{Motion, Change}
+use Rattle.std.specs.Prelude.{◌≡◌, ◌≢◌, ℕ, ◌+◌, Bool, true, false, List, [], ◌∷◌, length, codes, Option, None}
+use Rattle.std.specs.Prelude.{Some, Result, Ok, Err, if◌then◌else◌, bytes_eq}
+use Rattle.hex.specs.{Hex.decode_of, declared.error.FromHexError.FromHexError}
+use Rattle.trlab_code.specs.{declared.program.Kind.{Kind, TheVariants.{Motion, Change}}, Encoding.encoding}
 use Rattle.trlab_code.specs.declared.fault.CodeFault.TheVariants.{Kind as OtherKind, Memory as CodeMemory}
-use Rattle.trlab_code.specs.Program.{Program, IsValidProgram}
-use Rattle.trlab_code.specs.Encoding.{encoding}
-use Rattle.trlab_code.specs.Faults.{IsFirstCodeFault as FirstCodeFault}
-use Rattle.trlab_asm.specs.declared.fault.AsmFault.{AsmFault}
-use Rattle.trlab_asm.specs.Assembly.{code_of}
-use Rattle.trlab_verify.specs.Verified.{CheckedProgram, IsChecked}
-use Rattle.trlab_verify.specs.Verdict.{IsAccepted, IsRefused}
-use Rattle.trlab_texts.specs.declared.fault.Cause.{Cause}
-use Rattle.trlab_texts.specs.declared.fault.Cause.TheVariants.{Line, Hex, Program as InProgram, Code, Verdict}
-use Rattle.trlab_texts.specs.Lines.{Rest}
-use Rattle.trlab_texts.specs.Words.{word_after}
-use Rattle.trlab_texts.specs.Reading.{Fault, LineRule, Reading, ◌>>=◌, LineParsesTo, before}
+use Rattle.trlab_code.specs.{Program.{Program, IsValidProgram}, Faults.IsFirstCodeFault as FirstCodeFault}
+use Rattle.trlab_asm.specs.{declared.fault.AsmFault.AsmFault, Assembly.code_of}
+use Rattle.trlab_verify.specs.{Verified.{CheckedProgram, IsChecked}, Verdict.{IsAccepted, IsRefused}}
+use Rattle.trlab_texts.specs.declared.fault.Cause.{Cause, TheVariants.{Line, Hex, Program as InProgram, Code}}
+use Rattle.trlab_texts.specs.{declared.fault.Cause.TheVariants.Verdict, Reading.{Rest, LocatedFault}}
+use Rattle.trlab_texts.specs.{Reading.{LineRule, Reading, ◌>>=◌, LineParsesTo, before}, Words.word_after}
 
 -- `bytes` are the encoding of `program`, which is a valid program
 abbrev pub IsEncodingOf : List ℕ → Program → Type 0
@@ -67,12 +59,12 @@ code_line_of kind text result =
 -- the assembler's result for the lines after line `first` of a text, with the fault's line counted in the
 -- text: after line 5, a fault in line 2 of the program is in line 7. A fault without a line (line 0), as in a
 -- program without instructions, is at the line `first`
-abbrev pub with_line_offset : ℕ → Result Program AsmFault → Result Program Fault
+abbrev pub with_line_offset : ℕ → Result Program AsmFault → Result Program LocatedFault
 with_line_offset first (Ok program) = Ok program
 with_line_offset first (Err fault) = Err (record { line = first + fault.line; cause = InProgram fault.why })
 
 -- the result for `lines` as a program of this kind; in their text, they come after the line `first`
-abbrev pub program_after : Kind → ℕ → List (List ℕ) → Result Program Fault
+abbrev pub program_after : Kind → ℕ → List (List ℕ) → Result Program LocatedFault
 program_after kind first lines = with_line_offset first (code_of kind lines)
 
 -- lines that are split at a line `end`: the lines before it, and the lines after it
@@ -103,7 +95,7 @@ heading_line Change = codes "change"
 -- the result for a block of this kind whose heading is the line `first`: the program before its line `end`
 -- and the rest after it, or the program's first fault. `left` are the lines after the heading, and the last
 -- argument is their split at `end`; without a split, a line is missing after the last line of the text
-abbrev pub block : Kind → ℕ → List (List ℕ) → Option EndSplit → Result (Program × Rest) Fault
+abbrev pub block : Kind → ℕ → List (List ℕ) → Option EndSplit → Result (Program × Rest) LocatedFault
 block kind first left None = Err (record { line = first + 1 + length left; cause = Line })
 block kind first left (Some parts) =
     before (record { number = first + length parts.0 + 2; left = parts.1 })
@@ -113,13 +105,13 @@ block kind first left (Some parts) =
 -- if the line is a heading (`true`), and otherwise the result for the line `code X`; `left` are the lines
 -- after it
 abbrev pub HeadingParsesTo : Kind → Bool → ℕ → List ℕ → List (List ℕ)
-    → Result (Program × Rest) Fault → Type 0
+    → Result (Program × Rest) LocatedFault → Type 0
 HeadingParsesTo kind true number text left out = out ≡ block kind number left (split_at_end left)
 HeadingParsesTo kind false number text left out = LineParsesTo (code_line_of kind) number (text ∷ left) out
 
 -- the result for a program of this kind in the lines that are left, the first of which has this number; if no
 -- line is left, that line is missing
-abbrev pub PartParsesTo : Kind → ℕ → List (List ℕ) → Result (Program × Rest) Fault → Type 0
+abbrev pub PartParsesTo : Kind → ℕ → List (List ℕ) → Result (Program × Rest) LocatedFault → Type 0
 PartParsesTo kind number [] out = out ≡ Err (record { line = number; cause = Line })
 PartParsesTo kind number (text ∷ left) out =
     HeadingParsesTo kind (bytes_eq text (heading_line kind)) number text left out
@@ -130,7 +122,7 @@ program_part kind rest out = PartParsesTo kind rest.number rest.left out
 
 -- the verifier's result for a program as one of this kind: the accepted program with its budget, or a fault
 -- at the program's first line, `first`, with the verifier's reason
-abbrev pub IsVerdict : Kind → ℕ → Program → Result CheckedProgram Fault → Type 0
+abbrev pub IsVerdict : Kind → ℕ → Program → Result CheckedProgram LocatedFault → Type 0
 IsVerdict kind first program (Ok checked) =
     (checked.program ≡ program) × (IsAccepted kind program × IsChecked kind checked)
 IsVerdict kind first program (Err fault) = (at reason : ℕ)
@@ -139,7 +131,7 @@ IsVerdict kind first program (Err fault) = (at reason : ℕ)
 -- gives the verifier's result for a program that was read already, from the line `first` on
 abbrev pub verdict : Kind → ℕ → Program → Reading CheckedProgram
 verdict kind first program rest out =
-    (result : Result CheckedProgram Fault)
+    (result : Result CheckedProgram LocatedFault)
     × (IsVerdict kind first program result × (out ≡ before rest result))
 
 -- reads a program part of this kind; the verifier must accept its program

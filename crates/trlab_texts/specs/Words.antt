@@ -1,11 +1,15 @@
+-- The words of a line: the lines that begin with them, and the numbers that they write.
+use Rattle.std.specs.Prelude.{ℕ, ◌==◌, ◌&&◌, not, Bool, false, List, [], ◌∷◌, length, decimal, nat_le, nat_lt}
+use Rattle.std.specs.Prelude.{Option, None, Some, Result, Ok, Err, if◌then◌else◌, bytes_eq, ◌++◌, codes}
+use Rattle.std.specs.{Prelude.slice_index_or, Str.Parse.digits_value, List.list_any}
+use Rattle.trlab_lines.specs.Lines.{without_prefix, cut, front_or_all}
+use Rattle.trlab_texts.specs.declared.fault.Cause.{Cause, TheVariants.{Line, Number}}
+use Rattle.trlab_texts.specs.declared.line_name.LineName.{LineName, TheVariants.{Road, Sweep, Key, Limit}}
+use Rattle.trlab_texts.specs.declared.line_name.LineName.TheVariants.{Length, Lanes, Lane, Rule, Motion}
+use Rattle.trlab_texts.specs.declared.line_name.LineName.TheVariants.{Change, Steps, At, Warm, Measure, Cars}
+use Rattle.trlab_texts.specs.declared.line_name.{LineName.TheVariants.End, LineNames.LineNames}
+
 -- The words of a line, and the numbers that they write.
-use Rattle.std.specs.Prelude.{ℕ, ◌==◌, ◌&&◌, not, Bool, false, List, [], ◌∷◌, length, decimal, nat_le, nat_lt, Option, None, Some, Result, Ok, Err, if◌then◌else◌}
-use Rattle.std.specs.Str.{bytes_eq}
-use Rattle.std.specs.Str.Parse.{digits_value}
-use Rattle.std.specs.List.{list_any}
-use Rattle.trlab_lines.specs.Cutting.{without_prefix, cut, front_or_all}
-use Rattle.trlab_texts.specs.declared.fault.Cause.{Cause}
-use Rattle.trlab_texts.specs.declared.fault.Cause.TheVariants.{Line, Number}
 
 -- whether a text contains a space, which has the code 32
 abbrev pub has_space : List ℕ → Bool
@@ -63,3 +67,51 @@ both_words (Some parts) = if is_word parts.0 && is_word parts.1 then Some parts 
 -- the two words of a text with one space between them: `3` and `12` for `3 12`; none for any other text
 abbrev pub two_words : List ℕ → Option (List ℕ × List ℕ)
 two_words text = both_words (cut 32 text)
+
+-- The lines of job and sweep files by their first word.
+
+-- the first word of a line of this name
+abbrev pub name_word : LineName → List ℕ
+name_word Road = codes "road"
+name_word Sweep = codes "sweep"
+name_word Key = codes "key"
+name_word Limit = codes "limit"
+name_word Length = codes "length"
+name_word Lanes = codes "lanes"
+name_word Lane = codes "lane"
+name_word Rule = codes "rule"
+name_word Motion = codes "motion"
+name_word Change = codes "change"
+name_word Steps = codes "steps"
+name_word At = codes "at"
+name_word Warm = codes "warm"
+name_word Measure = codes "measure"
+name_word Cars = codes "cars"
+name_word End = codes "end"
+
+-- the number of a name, from 0 on, in the order of `LineName`
+abbrev pub name_number : LineName → ℕ
+name_number Road = 0
+name_number Sweep = 1
+name_number Key = 2
+name_number Limit = 3
+name_number Length = 4
+name_number Lanes = 5
+name_number Lane = 6
+name_number Rule = 7
+name_number Motion = 8
+name_number Change = 9
+name_number Steps = 10
+name_number At = 11
+name_number Warm = 12
+name_number Measure = 13
+name_number Cars = 14
+name_number End = 15
+
+-- is the name in a set of names?
+abbrev pub has_name : LineNames → LineName → Bool
+has_name names name = slice_index_or names.present (name_number name) false
+
+-- the first word of a line of this name, and the space after it
+abbrev pub name_and_space : LineName → List ℕ
+name_and_space name = name_word name ++ codes " "

@@ -1,11 +1,11 @@
 //! Excerpts of lines, with their positions for explanations of faults.
 
 ghost use Rattle.std.specs.Prelude.{◌≡◌, Err};
-ghost use Rattle.trlab_lines.specs.Cutting.{cut, without_prefix};
+ghost use Rattle.trlab_lines.specs.Lines.{cut, without_prefix};
 ghost use Rattle.trlab_texts.specs.Words.{as_word, is_word, number_of, number_within, two_words, within, word_after};
 ghost use Rattle.trlab_bounds.specs.declared.texts.TheConstants.{LONGEST_NUMBER};
-ghost use Rattle.trlab_texts.specs.LineNames.{name_and_space};
-ghost use Rattle.trlab_texts.specs.Places.{HasBytesAt};
+ghost use Rattle.trlab_texts.specs.Words.{name_and_space};
+ghost use Rattle.trlab_texts.specs.Reading.{HasBytesAt};
 
 use crate::fault::Cause;
 use crate::line_name::LineName;
@@ -24,7 +24,7 @@ pub struct Excerpt<'a> {
 
 impl<'a> Model for Excerpt<'a> {
     ghost use Rattle.std.specs.Prelude.{ℕ, List};
-    ghost use Rattle.trlab_texts.specs.Places.{HasBytesAt};
+    ghost use Rattle.trlab_texts.specs.Reading.{HasBytesAt};
 
     ghost Value = { List ℕ };
 
@@ -163,7 +163,7 @@ impl<'a> Excerpt<'a> {
     {
         match word::number_from(low, high, self.bytes) {
             Ok(n) => Ok(n),
-            Err(_) => Err(self.no_number(u64::from(low), u64::from(high), quantity)),
+            Err(_) => Err(self.not_a_number(u64::from(low), u64::from(high), quantity)),
         }
     }
 
@@ -178,12 +178,12 @@ impl<'a> Excerpt<'a> {
     {
         match word::long_number(self.bytes) {
             Ok(n) => Ok(n),
-            Err(_) => Err(self.no_number(0, LONGEST_NUMBER, Quantity::Other)),
+            Err(_) => Err(self.not_a_number(0, LONGEST_NUMBER, Quantity::Other)),
         }
     }
 
     /// The objection that these bytes are not a key.
-    pub fn no_key(self) -> Objection<'a>
+    pub fn not_a_key(self) -> Objection<'a>
         ensures { result ≡ Cause.Key }
     {
         Objection::new(Cause::Key, Wanted::Digits(self))
@@ -197,7 +197,7 @@ impl<'a> Excerpt<'a> {
     }
 
     /// The objection that these bytes are not a number from `least` to `most`.
-    fn no_number(self, least: u64, most: u64, quantity: Quantity) -> Objection<'a>
+    fn not_a_number(self, least: u64, most: u64, quantity: Quantity) -> Objection<'a>
         requires { within least most (number_of self) ≡ Err Cause.Number }
         ensures { result ≡ Cause.Number }
     {

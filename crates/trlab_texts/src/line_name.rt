@@ -2,7 +2,7 @@
 
 ghost use Rattle.std.specs.Prelude.{◌≡◌, ◌<◌, ◌||◌, IsTrue, ◌↔◌, false, length, nat_eq, true};
 ghost use Rattle.trlab_texts.specs.declared.line_name.LineName.{LineName as AName};
-ghost use Rattle.trlab_texts.specs.LineNames.{has_name, name_and_space, name_number, name_word};
+ghost use Rattle.trlab_texts.specs.Words.{has_name, name_and_space, name_number, name_word};
 
 /// A line of a job, sweep or program file, by its first word.
 #[derive(Clone, Copy, Debug, PartialEq, Eq)]

@@ -1,7 +1,7 @@
 //! Refusals: the first fault of a line or of a text, and the input that the reader wanted instead.
 
 ghost use Rattle.std.specs.Prelude.{◌≡◌};
-ghost use Rattle.trlab_texts.specs.Wanted.{IsWanted, IsWantedFor};
+ghost use Rattle.trlab_texts.specs.Causes.{IsWanted, IsWantedFor};
 ghost use Rattle.trlab_texts.specs.declared.refusal.Wanted.TheVariants.{Nothing};
 
 use crate::excerpt::Excerpt;
@@ -75,7 +75,7 @@ pub struct Objection<'a> {
 
 impl<'a> Model for Objection<'a> {
     ghost use Rattle.trlab_texts.specs.declared.fault.Cause.{Cause as WhatIsWrong};
-    ghost use Rattle.trlab_texts.specs.Wanted.{IsWantedFor};
+    ghost use Rattle.trlab_texts.specs.Causes.{IsWantedFor};
 
     ghost Value = { WhatIsWrong };
 
@@ -145,7 +145,7 @@ impl<'a> Drop for Refusal<'a> {
 
 impl<'a> Model for Refusal<'a> {
     ghost use Rattle.trlab_texts.specs.declared.fault.TextFault.{TextFault as FirstFault};
-    ghost use Rattle.trlab_texts.specs.Wanted.{IsWanted};
+    ghost use Rattle.trlab_texts.specs.Causes.{IsWanted};
 
     ghost Value = { FirstFault };
 

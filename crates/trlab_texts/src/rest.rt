@@ -2,14 +2,12 @@
 
 ghost use Rattle.std.specs.Prelude.{◌≡◌, ◌+◌, ◌-◌, ◌<◌, ◌^◌, [], ◌∷◌, None, length, MatchOption, MatchResult, IsTrue, ◌↔◌, true};
 ghost use Rattle.trlab_lines.specs.Lines.{lines_of};
-ghost use Rattle.trlab_texts.specs.Lines.{IsNextLine, Rest as RestOfLines, all_lines};
+ghost use Rattle.trlab_texts.specs.Reading.{IsNextLine, Rest as RestOfLines, all_lines, Reports, line};
 ghost use Rattle.trlab_texts.specs.Programs.{SplitsAtEnd, split_at_end};
 ghost use Rattle.std.specs.Fn.{FnOnceReturnsAt};
 ghost use Rattle.trlab_texts.specs.declared.fault.Cause.{Cause};
 ghost use Rattle.trlab_texts.specs.declared.fault.TextFault.{TextFault};
-ghost use Rattle.trlab_texts.specs.LineNames.{has_name};
-ghost use Rattle.trlab_texts.specs.Reading.{Reports, line};
-ghost use Rattle.trlab_texts.specs.Words.{next_word_is};
+ghost use Rattle.trlab_texts.specs.Words.{has_name, next_word_is};
 
 use crate::line_name::{LineName, LineNames};
 use crate::refusal::{Objection, Refusal};

@@ -2,7 +2,7 @@
 
 ghost use Rattle.std.specs.Prelude.{◌≡◌, ◌≢◌, ◌≤◌, ℕ, decimal, MatchOption, option_map};
 ghost use Rattle.trlab_bounds.specs.declared.texts.TheConstants.{LONGEST_NUMBER};
-ghost use Rattle.trlab_lines.specs.Cutting.{without_prefix};
+ghost use Rattle.trlab_lines.specs.Lines.{without_prefix};
 ghost use Rattle.trlab_texts.specs.Words.{is_word, number_of, within, head_word};
 
 use crate::fault::Cause;

@@ -1,33 +1,18 @@
 -- Roads in order stay in order: a car that does not lead brakes whenever the same car on the front road does.
-use Rattle.std.proofs.Common.{◌≡◌, ℕ, zero, suc, ◌+◌, ◌-◌, ◌<◌, ◌≤◌, min, length, refl, sym, ◌∙◌, ap, subst, inl, inr, arith}
-use Rattle.std.specs.Prelude.{slice_index}
-use Rattle.std.proofs.lemmas.Bool.{cases_lt}
-use Rattle.trlab_words.specs.Chances.{happens_on}
-use Rattle.trlab_machine.specs.declared.dice.Dice.{Dice}
-use Rattle.trlab_machine.specs.Blocks.{words_of}
-use Rattle.trlab_road.specs.declared.car.Car.{Car}
-use Rattle.trlab_road.specs.Cells.{Cells, IsAt, cars, lane_of}
-use Rattle.trlab_road.specs.Gaps.{ahead, gap}
-use Rattle.trlab_road.specs.Legal.{IsLegal}
-use Rattle.trlab_road.specs.Motion.{Fits, Moves}
-use Rattle.trlab_road.proofs.MotionLaws.{on_lane}
-use Rattle.trlab_road.proofs.Numbers.{all_present}
-use Rattle.trlab_road.proofs.Ring.{car_in}
-use Rattle.trlab_rules.specs.Published.{brake, nasch_speed, safe_speed}
-use Rattle.trlab_rules.specs.Rules.{Programs, IsNasch}
-use Rattle.trlab_step.specs.declared.tally.StepTally.{StepTally}
-use Rattle.trlab_step.specs.Answers.{AnswersSpeeds}
-use Rattle.trlab_step.specs.Laws.{IsLegalLike}
-use Rattle.trlab_step.specs.Next.{IsNext}
-use Rattle.trlab_step.specs.Run.{IsRoadAt, dice_at}
-use Rattle.trlab_step.proofs.RunLaws.{road_at_is_one}
-use Rattle.trlab_traffic.specs.Terms.{seed_from, always}
-use Rattle.trlab_traffic.specs.Following.{IsNextOf}
-use Rattle.trlab_traffic.specs.Comparison.{IsFurther, IsOrdered, LeadsFollowSpeeds, RunKeepsOrder, StepKeepsOrder}
-use Rattle.trlab_traffic.proofs.Lanes.{ahead_more}
-use Rattle.trlab_traffic.proofs.Steps.{answers_fit, next_legal_like, answered, motion_alone}
-use Rattle.trlab_traffic.proofs.FreeFlow.{one_rule}
-use Rattle.trlab_traffic.proofs.Slower.{more_happens}
+use Rattle.std.proofs.Common.{◌≡◌, ℕ, zero, suc, ◌+◌, ◌-◌, ◌<◌, ◌≤◌, min, length, refl, sym, ◌∙◌, ap, subst}
+use Rattle.std.proofs.{Common.{inl, inr, arith, slice_index}, lemmas.Bool.cases_lt}
+use Rattle.trlab_words.specs.Words.{happens_on}
+use Rattle.trlab_machine.specs.{declared.dice.Dice.Dice, Blocks.words_of}
+use Rattle.trlab_road.specs.{declared.car.Car.Car, Cells.{Cells, IsAt, cars, lane_of, IsLegal}}
+use Rattle.trlab_road.{specs.{Gaps.{ahead, gap}, Motion.{Fits, Moves}}, proofs.MotionLaws.on_lane}
+use Rattle.trlab_road.proofs.{Numbers.all_present, Ring.car_in}
+use Rattle.trlab_rules.specs.{Published.{brake, nasch_speed, safe_speed}, Rules.{Programs, IsNasch}}
+use Rattle.trlab_step.specs.{declared.tally.StepTally.StepTally, Answers.AnswersSpeeds, Laws.IsLegalLike}
+use Rattle.trlab_step.{specs.{Next.IsNext, Run.{IsRoadAt, dice_at}}, proofs.RunLaws.road_at_is_one}
+use Rattle.trlab_traffic.specs.{Terms.{seed_from, always}, Following.IsNextOf, Comparison.IsFurther}
+use Rattle.trlab_traffic.specs.Comparison.{IsOrdered, LeadsFollowSpeeds, RunKeepsOrder, StepKeepsOrder}
+use Rattle.trlab_traffic.proofs.{Lanes.ahead_more, Steps.{answers_fit, next_legal_like, answered}}
+use Rattle.trlab_traffic.proofs.{Steps.motion_alone, FreeFlow.one_rule, Slower.more_happens}
 use Rattle.trlab_traffic.proofs.Gaps.{each_car_has_next, next_car_is_one, step_keeps_next_car}
 use Rattle.trlab_traffic.proofs.Courses.{gap_of, moved, moved_gap, moved_stands, one_speed, run_like, choose}
 use Rattle.trlab_traffic.proofs.Fastest.{brakes_more}

@@ -1,38 +1,29 @@
 -- Each random braking costs one cell.
-use Rattle.std.proofs.Common.{◌≡◌, ℕ, zero, suc, ◌+◌, ◌-◌, ◌*◌, ◌≤◌, ◌&&◌, min, Bool, true, false, cond, List, [], ◌∷◌, length, get_or, refl, sym, ◌∙◌, ap, subst, inl, inr, arith, mul_comm, suc-mul, if◌then◌else◌}
-use Rattle.std.specs.Prelude.{All, nat_le, nat_lt, sum_by}
-use Rattle.std.proofs.lemmas.Bool.{cases_lt, le-leb, lt-leb}
-use Rattle.std.proofs.lemmas.List.Sums.{sum_by-cons, sum_by-le}
-use Rattle.trlab_words.specs.Chances.{happens_on}
-use Rattle.trlab_words.specs.Words.{random_word}
-use Rattle.trlab_words.proofs.RandomWords.{slice_index-random_words}
+use Rattle.std.proofs.Common.{◌≡◌, ℕ, zero, suc, ◌+◌, ◌-◌, ◌*◌, ◌≤◌, ◌&&◌, min, Bool, true, false, cond, List}
+use Rattle.std.proofs.Common.{[], ◌∷◌, length, get_or, refl, sym, ◌∙◌, ap, subst, inl, inr, arith, mul_comm}
+use Rattle.std.proofs.Common.{suc-mul, if◌then◌else◌, All, nat_le, nat_lt, sum_by, le-leb}
+use Rattle.std.proofs.lemmas.{Bool.{cases_lt, lt-leb}, List.Sums.{sum_by-cons, sum_by-le}}
+use Rattle.trlab_words.{specs.Words.{happens_on, random_word}, proofs.RandomWords.slice_index-random_words}
 use Rattle.trlab_machine.specs.declared.dice.Dice.{Dice}
-use Rattle.trlab_road.specs.declared.car.Car.{Car}
-use Rattle.trlab_road.specs.Cells.{Cells, IsAt, cars, lane_of}
-use Rattle.trlab_road.specs.Gaps.{gap}
-use Rattle.trlab_road.specs.Legal.{IsLegal}
-use Rattle.trlab_road.specs.Motion.{IsClearAhead}
-use Rattle.trlab_road.specs.Standing.{standing}
-use Rattle.trlab_road.proofs.Ring.{car_in, clear_within_gap}
+use Rattle.trlab_road.specs.{declared.car.Car.Car, Cells.{Cells, IsAt, cars, lane_of, IsLegal, standing}}
+use Rattle.trlab_road.{specs.{Gaps.gap, Motion.IsClearAhead}, proofs.Ring.{car_in, clear_within_gap}}
 use Rattle.trlab_road.proofs.StandingOrder.{length-standing_from_lane, standing_cell}
 use Rattle.trlab_rules.specs.Rules.{ComputesSpeed, Programs, IsRickert}
 use Rattle.trlab_rules.specs.Published.{brake, nasch_speed, safe_speed, vdr_braking_chance}
 use Rattle.trlab_verify.specs.Verified.{CheckedProgram}
-use Rattle.trlab_step.specs.declared.tally.StepTally.{StepTally}
-use Rattle.trlab_step.specs.Next.{IsMotionPhase, IsNext, IsStep, total_speed}
-use Rattle.trlab_step.specs.Laws.{IsLegalLike}
-use Rattle.trlab_step.specs.Published.{happens_to}
-use Rattle.trlab_step.specs.Run.{ComesTo, IsRoadAt, Seed, Sheet, dice_at}
-use Rattle.trlab_step.proofs.RunLaws.{road_at_is_one}
-use Rattle.trlab_traffic.specs.Terms.{StaysInLane, always, all_cells, empty_cells}
-use Rattle.trlab_traffic.specs.Bounds.{AddsUpTo, BrakingCosts, BrakingCostsRuns, BrakingCostsRunsWithLaneChanges, BrakingCostsRunsWithSlowStarts, BrakingCostsSteps, BrakingCostsStepsWithLaneChanges, EachRunHasBraked, HasBraked, braking_cars, braking_cars_with_gap}
-use Rattle.trlab_traffic.proofs.Lanes.{below_not, below_so, total}
-use Rattle.trlab_traffic.proofs.Steps.{answers_fit, middle_like, answered, motion_alone}
-use Rattle.trlab_traffic.proofs.RoomAhead.{lanes_room}
-use Rattle.trlab_traffic.proofs.Capacities.{distance_counted, distance_uncounted, middle_cells, next_cells, same_empty, speeds_total}
-use Rattle.trlab_traffic.proofs.FreeFlow.{one_rule}
-use Rattle.trlab_traffic.proofs.Courses.{run_like, sum_of_standing}
-use Rattle.trlab_traffic.proofs.DetectingRuns.{counted_so, uncounted_so}
+use Rattle.trlab_step.specs.{declared.tally.StepTally.StepTally, Next.{IsMotionPhase, IsNext, IsStep}}
+use Rattle.trlab_step.specs.{Next.total_speed, Laws.IsLegalLike, Published.happens_to, Run.ComesTo}
+use Rattle.trlab_step.{specs.Run.{IsRoadAt, Seed, Sheet, dice_at}, proofs.RunLaws.road_at_is_one}
+use Rattle.trlab_traffic.specs.{Terms.{StaysInLane, always, all_cells, empty_cells}, Bounds.AddsUpTo}
+use Rattle.trlab_traffic.specs.Bounds.{BrakingCosts, BrakingCostsRuns, BrakingCostsRunsWithLaneChanges}
+use Rattle.trlab_traffic.specs.Bounds.{BrakingCostsRunsWithSlowStarts, BrakingCostsSteps}
+use Rattle.trlab_traffic.specs.Bounds.{BrakingCostsStepsWithLaneChanges, EachRunHasBraked, HasBraked}
+use Rattle.trlab_traffic.{specs.Bounds.{braking_cars, braking_cars_with_gap}, proofs.Lanes.below_not}
+use Rattle.trlab_traffic.proofs.{Lanes.{below_so, total}, Steps.{answers_fit, middle_like, answered}}
+use Rattle.trlab_traffic.proofs.{Steps.motion_alone, RoomAhead.lanes_room, Capacities.distance_counted}
+use Rattle.trlab_traffic.proofs.Capacities.{distance_uncounted, middle_cells, next_cells, same_empty}
+use Rattle.trlab_traffic.proofs.{Capacities.speeds_total, FreeFlow.one_rule, Courses.run_like}
+use Rattle.trlab_traffic.proofs.{Courses.sum_of_standing, DetectingRuns.{counted_so, uncounted_so}}
 
 -- a sum of sums
 sum_two : (f g : Car → ℕ) (xs : List Car) → sum_by (λ (c : Car). f c + g c) xs ≡ sum_by f xs + sum_by g xs

@@ -1,29 +1,21 @@
 -- Steps and runs stay under the triangle of their road.
-use Rattle.std.proofs.Common.{◌≡◌, ℕ, zero, suc, ◌+◌, ◌-◌, ◌*◌, ◌<◌, ◌≤◌, Bool, true, false, Option, Some, None, List, [], ◌∷◌, length, get_or, refl, sym, ◌∙◌, ap, subst, inl, inr, arith, mul_comm, suc-mul, true≢false, if◌then◌else◌}
-use Rattle.std.specs.Prelude.{All, nat_le, slice_index, sum_by}
-use Rattle.std.proofs.lemmas.Bool.{cases_lt, le-leb, lt-leb}
-use Rattle.std.proofs.lemmas.List.{length-map}
+use Rattle.std.proofs.Common.{◌≡◌, ℕ, zero, suc, ◌+◌, ◌-◌, ◌*◌, ◌<◌, ◌≤◌, Bool, true, false, Option, Some}
+use Rattle.std.proofs.Common.{None, List, [], ◌∷◌, length, get_or, refl, sym, ◌∙◌, ap, subst, inl, inr, arith}
+use Rattle.std.proofs.Common.{mul_comm, suc-mul, true≢false, if◌then◌else◌, All, nat_le, slice_index, sum_by}
+use Rattle.std.proofs.{Common.le-leb, lemmas.{Bool.{cases_lt, lt-leb}, List.length-map}}
 use Rattle.std.proofs.lemmas.List.Sums.{sum-map, sum_by-cons, sum_by-le}
 use Rattle.trlab_verify.specs.Verified.{CheckedProgram}
 use Rattle.trlab_machine.specs.declared.dice.Dice.{Dice}
-use Rattle.trlab_road.specs.declared.car.Car.{Car}
-use Rattle.trlab_road.specs.Cells.{AgreeAtCars, Cells, Lane, cars, lane_of}
-use Rattle.trlab_road.specs.Gaps.{gap}
-use Rattle.trlab_road.specs.Legal.{IsLegal}
-use Rattle.trlab_road.specs.Motion.{Fits, IsClearAhead, AreSafeSpeeds, Moves, in_order}
-use Rattle.trlab_road.specs.Standing.{standing}
-use Rattle.trlab_road.proofs.MotionInOrder.{answer_at, moves_by}
-use Rattle.trlab_road.proofs.MotionLaws.{on_lane}
-use Rattle.trlab_road.proofs.Numbers.{no_one}
-use Rattle.trlab_road.proofs.Ring.{clear_within_gap}
-use Rattle.trlab_road.proofs.StandingOrder.{get_or-map_in, in_order_at, length-standing_from_lane, standing_cell}
+use Rattle.trlab_road.specs.{declared.car.Car.Car, Cells.{AgreeAtCars, Cells, Lane, cars, lane_of, IsLegal}}
+use Rattle.trlab_road.specs.{Cells.standing, Gaps.gap, Motion.{Fits, IsClearAhead, AreSafeSpeeds, Moves}}
+use Rattle.trlab_road.{specs.Motion.in_order, proofs.MotionInOrder.{answer_at, moves_by}}
+use Rattle.trlab_road.proofs.{MotionLaws.on_lane, Numbers.no_one, Ring.clear_within_gap}
+use Rattle.trlab_road.proofs.StandingOrder.{get_or-map_in, in_order_at, length-standing_from_lane}
+use Rattle.trlab_road.proofs.StandingOrder.{standing_cell}
 use Rattle.trlab_rules.specs.Rules.{Programs}
-use Rattle.trlab_step.specs.declared.tally.StepTally.{StepTally}
-use Rattle.trlab_step.specs.Laws.{IsLegalLike}
-use Rattle.trlab_step.specs.Next.{IsLaneChangePhase, IsNext, total_speed}
-use Rattle.trlab_step.specs.Run.{ComesTo, Seed, Sheet, dice_at, tally_sum}
-use Rattle.trlab_step.proofs.NextLaws.{like_itself, like_next}
-use Rattle.trlab_step.proofs.SumsOverCars.{total_speed-moved}
+use Rattle.trlab_step.specs.{declared.tally.StepTally.StepTally, Laws.IsLegalLike, Next.IsLaneChangePhase}
+use Rattle.trlab_step.specs.{Next.{IsNext, total_speed}, Run.{ComesTo, Seed, Sheet, dice_at, tally_sum}}
+use Rattle.trlab_step.proofs.{NextLaws.{like_itself, like_next}, SumsOverCars.total_speed-moved}
 use Rattle.trlab_traffic.specs.Terms.{all_cells, empty_cells, lane_cells}
 use Rattle.trlab_traffic.specs.Bounds.{IsDistanceUnderTriangle, RunStaysUnderTriangle, StepStaysUnderTriangle}
 use Rattle.trlab_traffic.proofs.Steps.{answers_fit, middle_like, next_legal_like}

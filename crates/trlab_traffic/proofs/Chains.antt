@@ -1,11 +1,9 @@
 -- Sums over all rings and over all sets of cars of a ring, cell by cell along the chain of its cells.
-use Rattle.std.proofs.Common.{◌≡◌, ℕ, zero, suc, ◌+◌, ◌-◌, ◌*◌, ◌^◌, ◌≤◌, Bool, true, false, cond, List, [], ◌∷◌, map, length, refl, ◌∙◌, ap, arith, not, ◌&&◌, ◌||◌, get_or}
-use Rattle.std.specs.Prelude.{sum_by}
-use Rattle.std.proofs.Math.Nat.{pow-succ', pow-zero}
-use Rattle.std.proofs.lemmas.List.Sums.{sum_by-append, sum_by-cons}
+use Rattle.std.proofs.Common.{◌≡◌, ℕ, zero, suc, ◌+◌, ◌-◌, ◌*◌, ◌^◌, ◌≤◌, Bool, true, false, cond, List, []}
+use Rattle.std.proofs.Common.{◌∷◌, map, length, refl, ◌∙◌, ap, arith, not, ◌&&◌, ◌||◌, get_or, sum_by}
+use Rattle.std.proofs.{Math.Nat.{pow-succ', pow-zero}, lemmas.List.Sums.{sum_by-append, sum_by-cons}}
 use Rattle.std.specs.Bool.{beq}
-use Rattle.trlab_traffic.specs.LimitOne.{Ring, size}
-use Rattle.trlab_traffic.specs.Stationary.{all_rings, car_sets}
+use Rattle.trlab_traffic.specs.LimitOne.{Ring, size, all_rings, car_sets}
 
 pub sum_of_map : {X Y : Type 0} (f : Y → ℕ) (g : X → Y) (xs : List X) → sum_by f (map g xs) ≡ sum_by (λ (x : X). f (g x)) xs
 sum_of_map f g [] = refl

@@ -1,16 +1,11 @@
 -- Rule 184 classifies densities: a lane that has leapt for long enough has no two adjacent cars, or no two
 -- adjacent empty cells.
 use Rattle.std.proofs.Common.{◌≡◌, ℕ, ◌+◌, ◌<◌, ◌≤◌, Bool, true, false, length, refl, sym, ap, subst, arith}
-use Rattle.trlab_road.specs.Cells.{Lane, lane_car_count, lane_of}
-use Rattle.trlab_road.specs.Gaps.{ahead}
-use Rattle.trlab_traffic.specs.Terms.{is_taken}
-use Rattle.trlab_traffic.specs.LimitOne.{Rule184ClassifiesDensity, digit}
-use Rattle.trlab_traffic.proofs.Lanes.{ahead_none}
-use Rattle.trlab_traffic.proofs.RoomAhead.{lane_taken_or_empty}
-use Rattle.trlab_traffic.proofs.Regimes.{slow_moves_by}
+use Rattle.trlab_road.specs.{Cells.{Lane, lane_car_count, lane_of}, Gaps.ahead}
+use Rattle.trlab_traffic.specs.{Terms.is_taken, LimitOne.{Rule184ClassifiesDensity, digit}}
+use Rattle.trlab_traffic.proofs.{Lanes.ahead_none, RoomAhead.lane_taken_or_empty, Regimes.slow_moves_by}
 use Rattle.trlab_traffic.proofs.Heights.{digit_at, window, window_last}
-use Rattle.trlab_traffic.proofs.Readiness.{Leaping, Suffices, near_few, near_some}
-use Rattle.trlab_traffic.proofs.Relaxation.{lane_at_once}
+use Rattle.trlab_traffic.proofs.{Readiness.{Leaping, Suffices, near_few, near_some}, Relaxation.lane_at_once}
 
 not_both : (a b : Bool) → digit a + digit b ≤ 1 → a ≡ true → b ≡ false
 not_both a false most is = refl

@@ -1,11 +1,10 @@
 -- The number of rings with a given number of cars in a given number of clusters.
-use Rattle.std.proofs.Common.{◌≡◌, ◌≢◌, ℕ, zero, suc, ◌+◌, ◌*◌, ◌<◌, Bool, true, false, not, ◌&&◌, cond, nat_eq, [], ◌∷◌, length, get_or, refl, sym, ◌∙◌, ap, inl, inr, arith}
-use Rattle.std.specs.Prelude.{count_by}
-use Rattle.std.proofs.lemmas.Bool.{cases_eq, eq-eqb, ne_eqb}
-use Rattle.trlab_traffic.specs.LimitOne.{Ring, size}
-use Rattle.trlab_traffic.specs.Stationary.{RingsAreClustered, choose, clustered_rings, splits, all_rings, free_cars}
-use Rattle.trlab_traffic.proofs.Chains.{bit, rings, rings_same, rings_sum, size_is, trues}
-use Rattle.trlab_traffic.proofs.Stationary.{free, free_is}
+use Rattle.std.proofs.Common.{◌≡◌, ◌≢◌, ℕ, zero, suc, ◌+◌, ◌*◌, ◌<◌, Bool, true, false, not, ◌&&◌, cond}
+use Rattle.std.proofs.Common.{nat_eq, [], ◌∷◌, length, get_or, refl, sym, ◌∙◌, ap, inl, inr, arith, count_by}
+use Rattle.std.proofs.{Common.{eq-eqb, ne_eqb}, lemmas.Bool.cases_eq}
+use Rattle.trlab_traffic.specs.LimitOne.{Ring, size, RingsAreClustered, choose, clustered_rings, splits}
+use Rattle.trlab_traffic.{specs.LimitOne.{all_rings, free_cars}, proofs.Chains.{bit, rings, rings_same}}
+use Rattle.trlab_traffic.proofs.{Chains.{rings_sum, size_is, trues}, Stationary.{free, free_is}}
 
 -- are two numbers equal? By recursion
 abbrev pub same : ℕ → ℕ → ℕ

@@ -1,31 +1,19 @@
 -- The cars of a run by their numbers: sums over them, how far each has gone, and, without lane changes, where each is
 -- and which car is next.
-use Rattle.std.proofs.Common.{◌≡◌, ◌≢◌, ℕ, zero, suc, ◌+◌, ◌<◌, ◌≤◌, List, [], ◌∷◌, length, get_or, refl, sym, ◌∙◌, ap, inl, inr, arith, subst}
-use Rattle.std.specs.Prelude.{sum_by, nat_le}
-use Rattle.std.proofs.lemmas.Bool.{cases_lt, le-leb}
-use Rattle.std.proofs.lemmas.List.Sums.{sum_by-cons}
-use Rattle.std.proofs.lemmas.Option.{some_pair_parts}
-use Rattle.trlab_road.specs.declared.car.Car.{Car}
-use Rattle.trlab_road.specs.Cells.{Cells, IsAt, cars, at, cell, lane_of}
-use Rattle.trlab_road.specs.Legal.{IsLegal}
-use Rattle.trlab_road.specs.Standing.{rank, standing}
-use Rattle.trlab_road.proofs.Numbers.{all_present, no_one}
-use Rattle.trlab_road.proofs.StandingOrder.{car_of, length-standing_from_lane, rank_below_cars, standing_cell, standing_rank}
-use Rattle.trlab_road.specs.Gaps.{ahead, gap, next_place}
-use Rattle.trlab_road.specs.Motion.{Fits, Moves}
-use Rattle.trlab_road.proofs.MotionLaws.{on_lane}
-use Rattle.trlab_road.proofs.Ring.{car_in}
-use Rattle.trlab_step.specs.declared.tally.StepTally.{StepTally}
-use Rattle.trlab_step.specs.Laws.{IsLegalLike}
-use Rattle.trlab_step.specs.Next.{total_speed}
-use Rattle.trlab_step.specs.Run.{ComesTo, IsRoadAt, Seed, Sheet, dice_at}
-use Rattle.trlab_step.proofs.NextLaws.{like_itself, like_next}
-use Rattle.trlab_step.proofs.RunLaws.{road_at_is_one}
-use Rattle.trlab_step.specs.Published.{car_after_motion}
+use Rattle.std.proofs.Common.{◌≡◌, ◌≢◌, ℕ, zero, suc, ◌+◌, ◌<◌, ◌≤◌, List, [], ◌∷◌, length, get_or, refl, sym}
+use Rattle.std.proofs.{Common.{◌∙◌, ap, inl, inr, arith, subst, sum_by, nat_le, le-leb}, lemmas.Bool.cases_lt}
+use Rattle.std.proofs.lemmas.{List.Sums.sum_by-cons, Option.some_pair_parts}
+use Rattle.trlab_road.specs.{declared.car.Car.Car, Cells.{Cells, IsAt, cars, at, cell, lane_of, IsLegal}}
+use Rattle.trlab_road.specs.{Cells.{rank, standing}, Gaps.{ahead, gap, next_place}, Motion.{Fits, Moves}}
+use Rattle.trlab_road.proofs.{Numbers.{all_present, no_one}, StandingOrder.car_of}
+use Rattle.trlab_road.proofs.StandingOrder.{length-standing_from_lane, rank_below_cars, standing_cell}
+use Rattle.trlab_road.proofs.{StandingOrder.standing_rank, MotionLaws.on_lane, Ring.car_in}
+use Rattle.trlab_step.specs.{declared.tally.StepTally.StepTally, Laws.IsLegalLike, Next.total_speed}
+use Rattle.trlab_step.specs.{Run.{ComesTo, IsRoadAt, Seed, Sheet, dice_at}, Published.car_after_motion}
+use Rattle.trlab_step.proofs.{NextLaws.{like_itself, like_next}, RunLaws.road_at_is_one}
 use Rattle.trlab_traffic.specs.Following.{CarsGoDistance, EachCarHasGone, GoneIsUnique, HasGone, IsNextAhead}
 use Rattle.trlab_traffic.proofs.Lanes.{total, total_last, sum_range, total_add, total_none, total_same}
-use Rattle.trlab_traffic.proofs.Steps.{next_legal_like}
-use Rattle.trlab_traffic.proofs.Capacities.{distance_counted}
+use Rattle.trlab_traffic.proofs.{Steps.next_legal_like, Capacities.distance_counted}
 use Rattle.trlab_traffic.proofs.Gaps.{gap_after, next_taken, next_place_after}
 
 -- Sums over the cars of a road, by their numbers.

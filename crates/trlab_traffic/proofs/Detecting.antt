@@ -1,22 +1,19 @@
 -- The counts of detectors in a step.
-use Rattle.std.proofs.Common.{◌≡◌, ◌≢◌, ℕ, zero, suc, ◌+◌, ◌-◌, ◌%◌, ◌<◌, ◌≤◌, cond, is_some, Some, None, List, [], ◌∷◌, length, get_or, refl, sym, ◌∙◌, ap, inl, inr, arith, mod-eq_of_lt}
-use Rattle.std.specs.Prelude.{count_by, sum_by}
-use Rattle.std.specs.List.{range_with_len}
-use Rattle.std.proofs.Math.Nat.{mod_self}
-use Rattle.std.proofs.lemmas.Bool.{cases_eq, cases_lt}
-use Rattle.std.proofs.lemmas.List.Sums.{sum_by-append, sum_by-cons}
-use Rattle.trlab_road.specs.declared.car.Car.{Car}
-use Rattle.trlab_road.specs.Cells.{Cell, Cells, Lane, at, lane_of}
-use Rattle.trlab_road.specs.Gaps.{ahead}
-use Rattle.trlab_road.specs.Motion.{Fits, LaneFits, LaneMoves}
-use Rattle.trlab_road.specs.Standing.{standing_from, standing_from_lane}
-use Rattle.trlab_road.proofs.MotionLaws.{on_lane}
-use Rattle.trlab_road.proofs.Ring.{car_in, inside}
-use Rattle.trlab_traffic.specs.Terms.{is_taken}
-use Rattle.trlab_traffic.specs.LimitOne.{digit}
-use Rattle.trlab_traffic.specs.Detectors.{DetectorsCountDistance, StepSatisfiesContinuity, all_passages, cars_ahead_of, passages, passes, place_before_motion, cells_ahead_to}
-use Rattle.trlab_traffic.proofs.Lanes.{ahead_back, ahead_below, ahead_more, ahead_none, ahead_swap, back_ahead, gap_below, below, below_not, below_so, cell_sum, in_cell, is, is_not, is_so, sum_of_cells, sum_range, total, total_at, total_balance, total_below, total_none, total_same, total_swap, total_turned, weight}
-use Rattle.trlab_traffic.proofs.Steps.{answers_fit, motion_alone}
+use Rattle.std.proofs.Common.{◌≡◌, ◌≢◌, ℕ, zero, suc, ◌+◌, ◌-◌, ◌%◌, ◌<◌, ◌≤◌, cond, is_some, Some, None}
+use Rattle.std.proofs.Common.{List, [], ◌∷◌, length, get_or, refl, sym, ◌∙◌, ap, inl, inr, arith}
+use Rattle.std.proofs.{Common.{mod-eq_of_lt, count_by, sum_by}, lemmas.List.Sums.{sum_by-append, sum_by-cons}}
+use Rattle.std.{proofs.{Math.Nat.mod_self, lemmas.Bool.{cases_eq, cases_lt}}, specs.List.range_with_len}
+use Rattle.trlab_road.specs.{declared.car.Car.Car, Cells.{Cell, Cells, Lane, at, lane_of, standing_from}}
+use Rattle.trlab_road.specs.{Cells.standing_from_lane, Gaps.ahead, Motion.{Fits, LaneFits, LaneMoves}}
+use Rattle.trlab_road.proofs.{MotionLaws.on_lane, Ring.{car_in, inside}}
+use Rattle.trlab_traffic.specs.{Terms.is_taken, LimitOne.digit, Detectors.DetectorsCountDistance}
+use Rattle.trlab_traffic.specs.Detectors.{StepSatisfiesContinuity, all_passages, cars_ahead_of, passages}
+use Rattle.trlab_traffic.specs.Detectors.{has_passed, place_before_motion, cells_ahead_to}
+use Rattle.trlab_traffic.proofs.Lanes.{ahead_back, ahead_below, ahead_more, ahead_none, ahead_swap}
+use Rattle.trlab_traffic.proofs.Lanes.{back_ahead, gap_below, below, below_not, below_so, cell_sum, in_cell}
+use Rattle.trlab_traffic.proofs.Lanes.{is, is_not, is_so, sum_of_cells, sum_range, total, total_at}
+use Rattle.trlab_traffic.proofs.Lanes.{total_balance, total_below, total_none, total_same, total_swap}
+use Rattle.trlab_traffic.proofs.{Lanes.{total_turned, weight}, Steps.{answers_fit, motion_alone}}
 use Rattle.trlab_traffic.proofs.Influence.{any_lane}
 
 -- the distance to the cell that a car goes to
@@ -149,7 +146,7 @@ module _ (answer : ℕ → ℕ) (old new : Lane) (m : LaneMoves answer old new) 
     arrived car = is car.place c
 
     abbrev passed : ℕ → Car → ℕ
-    passed x car = cond (passes n x car) 1 0
+    passed x car = cond (has_passed n x car) 1 0
 
     abbrev started : Car → ℕ
     started car = is (place_before_motion n car) c
@@ -210,7 +207,7 @@ module _ (answer : ℕ → ℕ) (old new : Lane) (m : LaneMoves answer old new) 
     -- the counts of the detectors of a lane, cell by cell
     passages_are : (x : ℕ) → passages new x ≡ total (in_cell (passed x) new) n
     passages_are x =
-        ap (λ k. count_by (passes k x) (standing_from 0 0 new)) m.same_length
+        ap (λ k. count_by (has_passed k x) (standing_from 0 0 new)) m.same_length
         ∙ cell_sum (passed x) new
         ∙ ap (total (in_cell (passed x) new)) m.same_length
 
@@ -284,7 +281,7 @@ speed_of car = car.speed
 pub record IsShort (lane : Lane) : Type 0 where
   pub short : (x number speed : ℕ) → at lane x ≡ Some (number, speed) → speed ≤ length lane
 
-car_passes : (n y number speed : ℕ) → speed ≤ n → total (λ x. cond (passes n x (car_in 0 y number speed)) 1 0) n ≡ speed
+car_passes : (n y number speed : ℕ) → speed ≤ n → total (λ x. cond (has_passed n x (car_in 0 y number speed)) 1 0) n ≡ speed
 car_passes n y number speed short =
     let r = n - place_before_motion n (car_in 0 y number speed) in
     let all = total_turned (λ z. below z speed) n r in
@@ -293,9 +290,9 @@ car_passes n y number speed short =
 
 module _ (lane : Lane) (slow : IsShort lane) where
   abbrev passing : ℕ → ℕ → ℕ
-  passing x y = in_cell (λ (car : Car). cond (passes (length lane) x car) 1 0) lane y
+  passing x y = in_cell (λ (car : Car). cond (has_passed (length lane) x car) 1 0) lane y
 
-  cell_passes : (y : ℕ) (here : Cell) → at lane y ≡ here → total (λ x. weight (λ (car : Car). cond (passes (length lane) x car) 1 0) 0 y here) (length lane) ≡ weight speed_of 0 y here
+  cell_passes : (y : ℕ) (here : Cell) → at lane y ≡ here → total (λ x. weight (λ (car : Car). cond (has_passed (length lane) x car) 1 0) 0 y here) (length lane) ≡ weight speed_of 0 y here
   cell_passes y None there = total_none (λ x. 0) (length lane) (λ x low. refl)
   cell_passes y (Some car) there = car_passes (length lane) y car.0 car.1 (slow.short y car.0 car.1 there)
 
@@ -304,7 +301,7 @@ module _ (lane : Lane) (slow : IsShort lane) where
       let n = length lane in
       sum_range (passages lane) 0 n
       ∙ total_same (λ x. passages lane (0 + x)) (λ x. total (passing x) n) n
-      (λ x low. let e : 0 + x ≡ x = omega arith in ap (passages lane) e ∙ cell_sum (λ (car : Car). cond (passes n x car) 1 0) lane)
+      (λ x low. let e : 0 + x ≡ x = omega arith in ap (passages lane) e ∙ cell_sum (λ (car : Car). cond (has_passed n x car) 1 0) lane)
       ∙ total_swap passing n n
       ∙ total_same (λ y. total (λ x. passing x y) n) (in_cell speed_of lane) n (λ y low. cell_passes y (at lane y) refl)
       ∙ sym (cell_sum speed_of lane)

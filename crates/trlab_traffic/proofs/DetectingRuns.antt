@@ -1,26 +1,23 @@
 -- The counts of detectors in runs.
-use Rattle.std.proofs.Common.{◌≡◌, ℕ, zero, suc, ◌+◌, ◌<◌, ◌≤◌, Bool, true, false, cond, length, min, refl, sym, ◌∙◌, ap, subst, arith, ◌-◌, ◌*◌, ◌%◌, inl, inr, suc-mul, if◌then◌else◌}
-use Rattle.std.specs.Prelude.{nat_le, sum_by}
-use Rattle.std.specs.List.{range_with_len}
-use Rattle.std.proofs.lemmas.Bool.{le-leb, cases_lt, lt-leb}
-use Rattle.std.proofs.lemmas.List.Sums.{sum_by-cons}
-use Rattle.trlab_road.specs.Cells.{Cells, Lane, lane_car_count, lane_of}
-use Rattle.trlab_road.specs.Gaps.{ahead}
+use Rattle.std.proofs.Common.{◌≡◌, ℕ, zero, suc, ◌+◌, ◌<◌, ◌≤◌, Bool, true, false, cond, length, min, refl}
+use Rattle.std.proofs.Common.{sym, ◌∙◌, ap, subst, arith, ◌-◌, ◌*◌, ◌%◌, inl, inr, suc-mul, if◌then◌else◌}
+use Rattle.std.proofs.{Common.{nat_le, sum_by, le-leb}, lemmas.Bool.{cases_lt, lt-leb}}
+use Rattle.std.{proofs.lemmas.List.Sums.sum_by-cons, specs.List.range_with_len}
+use Rattle.trlab_road.specs.{Cells.{Cells, Lane, lane_car_count, lane_of}, Gaps.ahead}
 use Rattle.trlab_rules.specs.Rules.{Programs}
 use Rattle.trlab_machine.specs.declared.dice.Dice.{Dice}
-use Rattle.trlab_step.specs.declared.tally.StepTally.{StepTally}
-use Rattle.trlab_step.specs.Next.{IsNext}
-use Rattle.trlab_step.specs.Run.{ComesTo, Seed, Sheet, dice_at, IsRoadAt}
-use Rattle.trlab_step.proofs.RunLaws.{force_all, road_at_is_one}
+use Rattle.trlab_step.specs.{declared.tally.StepTally.StepTally, Next.IsNext, Run.{ComesTo, Seed, Sheet}}
+use Rattle.trlab_step.{specs.Run.{dice_at, IsRoadAt}, proofs.RunLaws.{force_all, road_at_is_one}}
 use Rattle.trlab_traffic.specs.Terms.{lane_empty_cells, is_taken, EachRule, StaysInLane}
-use Rattle.trlab_traffic.specs.Detectors.{all_passages, cars_ahead_of, passages, DetectorsHaveCounted, DifferByAtMost, DetectorCountExists, DetectorHasCounted, DetectorMeasuresFlow, DetectorsAgree, DetectorsAgreeByCars, DetectorsCountRun, RunSatisfiesContinuity}
-use Rattle.trlab_traffic.proofs.Lanes.{one_sum, run_lanes, below, below_not, below_so, sum_range, total, total_add, total_balance, total_below, total_last, total_none, total_same, total_turned}
-use Rattle.trlab_traffic.proofs.Steps.{motion_alone}
-use Rattle.trlab_traffic.proofs.RoomAhead.{lane_taken_or_empty}
-use Rattle.trlab_traffic.proofs.Capacities.{distance_counted, distance_uncounted}
-use Rattle.trlab_traffic.proofs.Courses.{total_le}
-use Rattle.trlab_traffic.proofs.Influence.{any_lane}
-use Rattle.trlab_traffic.proofs.Detecting.{detectors_count_distance, step_is_continuous}
+use Rattle.trlab_traffic.specs.Detectors.{all_passages, cars_ahead_of, passages, DetectorsHaveCounted}
+use Rattle.trlab_traffic.specs.Detectors.{DifferByAtMost, DetectorCountExists, DetectorHasCounted}
+use Rattle.trlab_traffic.specs.Detectors.{DetectorMeasuresFlow, DetectorsAgree, DetectorsAgreeByCars}
+use Rattle.trlab_traffic.{specs.Detectors.{DetectorsCountRun, RunSatisfiesContinuity}, proofs.Lanes.one_sum}
+use Rattle.trlab_traffic.proofs.Lanes.{run_lanes, below, below_not, below_so, sum_range, total, total_add}
+use Rattle.trlab_traffic.proofs.Lanes.{total_balance, total_below, total_last, total_none, total_same}
+use Rattle.trlab_traffic.proofs.{Lanes.total_turned, Steps.motion_alone, RoomAhead.lane_taken_or_empty}
+use Rattle.trlab_traffic.proofs.{Capacities.{distance_counted, distance_uncounted}, Courses.total_le}
+use Rattle.trlab_traffic.proofs.{Influence.any_lane, Detecting.{detectors_count_distance, step_is_continuous}}
 use Rattle.trlab_traffic.proofs.FewCars.{empty_too, few, run_cars}
 
 pub count_exists : DetectorCountExists

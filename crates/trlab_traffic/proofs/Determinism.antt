@@ -1,42 +1,30 @@
 -- Rules that leave nothing to chance lead to one road for all dice, and their runs become periodic.
-use Rattle.std.proofs.Common.{◌≡◌, ℕ, zero, suc, ◌/◌, ◌^◌, ◌<◌, ◌⊎◌, cond, Option, Some, None, List, [], ◌∷◌, refl, sym, ◌∙◌, ap, subst, inl, inr, arith, ◌+◌, ◌-◌, ◌*◌, length, get_or}
-use Rattle.std.specs.Prelude.{All, IfSome, nat_lt, slice_get, slice_index, sum_by}
-use Rattle.std.proofs.lemmas.Bool.{le-ltb, lt-ltb}
+use Rattle.std.proofs.Common.{◌≡◌, ℕ, zero, suc, ◌/◌, ◌^◌, ◌<◌, ◌⊎◌, cond, Option, Some, None, List, [], ◌∷◌}
+use Rattle.std.proofs.Common.{refl, sym, ◌∙◌, ap, subst, inl, inr, arith, ◌+◌, ◌-◌, ◌*◌, length, get_or, All}
+use Rattle.std.proofs.Common.{IfSome, nat_lt, slice_get, slice_index, sum_by, le-ltb, lt-ltb, ext_get_or}
 use Rattle.std.proofs.lemmas.Option.{get_or_from_slice_get, slice_get_within, some_pair_parts}
-use Rattle.std.proofs.lemmas.List.{ext_get_or}
-use Rattle.std.proofs.lemmas.List.Sums.{sum_by-cons}
-use Rattle.std.proofs.lemmas.Nat.{mul-add-lt, same_from_place}
+use Rattle.std.proofs.lemmas.{List.Sums.sum_by-cons, Nat.{mul-add-lt, same_from_place}}
 use Rattle.trlab_bounds.specs.declared.programs.TheConstants.{CERTAIN}
 use Rattle.trlab_words.proofs.RandomWords.{random_words_small}
-use Rattle.trlab_code.specs.declared.program.Kind.{Kind}
-use Rattle.trlab_code.specs.declared.program.Kind.TheVariants.{Change, Motion}
-use Rattle.trlab_code.specs.declared.instruction.Instr.{Instr}
-use Rattle.trlab_code.specs.declared.instruction.Instr.TheVariants.{Draw}
-use Rattle.trlab_code.specs.declared.view.View.{View}
-use Rattle.trlab_code.specs.Machine.{Answer, At, Done, EndsFrom, EndsWith, Flag, Goes, MachineState, Store, Stuck, Writes, allows, effect, execute, start, state_after, step}
+use Rattle.trlab_code.specs.declared.program.Kind.{Kind, TheVariants.{Change, Motion}}
+use Rattle.trlab_code.specs.declared.{instruction.Instr.{Instr, TheVariants.Draw}, view.View.View}
+use Rattle.trlab_code.specs.Machine.{Answer, At, Done, EndsFrom, EndsWith, Flag, Goes, MachineState, Store}
+use Rattle.trlab_code.specs.Machine.{Stuck, Writes, allows, effect, execute, start, state_after, step}
 use Rattle.trlab_code.specs.Program.{Program}
-use Rattle.trlab_road.specs.Cells.{Cells, Cell, Lane, IsAt, at, cars, lane_of}
-use Rattle.trlab_road.specs.declared.car.Car.{Car}
-use Rattle.trlab_road.specs.Legal.{IsLegal}
-use Rattle.trlab_road.proofs.MotionLaws.{on_lane}
-use Rattle.trlab_road.proofs.Ring.{car_in, inside}
-use Rattle.trlab_rules.specs.Standard.{nasch_program}
-use Rattle.trlab_rules.specs.Rules.{Programs}
-use Rattle.trlab_machine.specs.declared.dice.Dice.{Dice}
-use Rattle.trlab_machine.specs.Blocks.{words_of}
-use Rattle.trlab_machine.specs.Answers.{crossing_answer}
+use Rattle.trlab_road.specs.Cells.{Cells, Cell, Lane, IsAt, at, cars, lane_of, IsLegal}
+use Rattle.trlab_road.{specs.declared.car.Car.Car, proofs.{MotionLaws.on_lane, Ring.{car_in, inside}}}
+use Rattle.trlab_rules.specs.{Standard.nasch_program, Rules.Programs}
+use Rattle.trlab_machine.specs.{declared.dice.Dice.Dice, Blocks.words_of, Answers.crossing_answer}
 use Rattle.trlab_verify.specs.Verified.{CheckedProgram}
-use Rattle.trlab_step.specs.Answers.{change_view_of, motion_view_of}
-use Rattle.trlab_step.specs.Next.{IsLaneChangePhase, IsMotionPhase, IsNext}
-use Rattle.trlab_step.specs.Run.{dice_at, IsRoadAt, Seed, IsRuleFor, IsSheetFor}
-use Rattle.trlab_step.proofs.RunLaws.{force_all, road_at_is_one, run_comes_to_road}
-use Rattle.trlab_step.proofs.NextLaws.{next_road_is_one}
+use Rattle.trlab_step.specs.{Answers.{change_view_of, motion_view_of}, Next.IsLaneChangePhase}
+use Rattle.trlab_step.specs.{Next.{IsMotionPhase, IsNext}, Run.{dice_at, IsRoadAt, Seed, IsRuleFor}}
+use Rattle.trlab_step.{specs.Run.IsSheetFor, proofs.RunLaws.{force_all, road_at_is_one, run_comes_to_road}}
+use Rattle.trlab_step.proofs.NextLaws.{next_road_is_unique}
 use Rattle.trlab_traffic.specs.Terms.{all_cells, lane_cells, always}
-use Rattle.trlab_traffic.specs.Invariance.{HasOneOutcome, IsDeterministic, NaschWithoutRandomizationIsDeterministic, RunIsDeterministic, StepIsDeterministic, DeterministicRunsBecomePeriodic}
-use Rattle.trlab_traffic.proofs.Lanes.{run_lanes}
-use Rattle.trlab_traffic.proofs.FreeFlow.{one_rule}
-use Rattle.trlab_traffic.proofs.Courses.{started}
-use Rattle.trlab_traffic.proofs.Fastest.{always_so}
+use Rattle.trlab_traffic.specs.Invariance.{HasOneOutcome, IsDeterministic}
+use Rattle.trlab_traffic.specs.Invariance.{NaschWithoutRandomizationIsDeterministic, RunIsDeterministic}
+use Rattle.trlab_traffic.specs.Invariance.{StepIsDeterministic, DeterministicRunsBecomePeriodic}
+use Rattle.trlab_traffic.proofs.{Lanes.run_lanes, FreeFlow.one_rule, Courses.started, Fastest.always_so}
 use Rattle.trlab_traffic.proofs.Pigeonhole.{number, number_below, pigeonhole, same_digits}
 
 -- a probability of 0 or 1: the event happens on all words of 32 bits, or on none
@@ -333,7 +321,7 @@ module _ (rule : Programs) (seed : Seed) (certain : IsDeterministic rule) (is : 
         let meet = again k step last before b.1.0 (omega (arith, e)) (omega (arith, f)) (a.1.1, a.1.4) (b.1.1, b.1.4) in
         let from = subst (λ (r : Cells). IsNext rule (dice_at seed last) r later b.1.3) meet yours in
         let other = step_is_deterministic rule (dice_at seed last) (dice_at seed step) before later b.1.3 certain from in
-        (next_road_is_one rule (dice_at seed step) before later road b.1.3 a.1.3 other mine).0
+        (next_road_is_unique rule (dice_at seed step) before later road b.1.3 a.1.3 other mine).0
 
 pub deterministic_runs_become_periodic : DeterministicRunsBecomePeriodic
 deterministic_runs_become_periodic rule seed certain is legal =

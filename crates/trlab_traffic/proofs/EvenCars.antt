@@ -1,25 +1,21 @@
 -- Evenly spaced cars on one lane: their gaps, of which no two differ by more than one cell, and their flow, which is
 -- on the triangle of their road.
-use Rattle.std.proofs.Common.{◌≡◌, ℕ, ◌+◌, ◌-◌, ◌*◌, ◌/◌, ◌%◌, ◌<◌, ◌≤◌, Some, None, length, refl, sym, ◌∙◌, ap, subst, inl, inr, arith, add-mul, div-lt_iff_lt-mul, div-mul-le_self, div-one, le-div_iff_mul-le, mul-le-mul_left, zero, suc, min, mul_comm}
-use Rattle.std.proofs.Math.Nat.{add-mod_right, add-mul-div_left, div-le_self, lt-div-mul-add, mod-eq_of_lt, mod-one}
-use Rattle.std.proofs.lemmas.Bool.{cases_eq, cases_lt}
-use Rattle.std.proofs.lemmas.Option.{some_pair_parts}
-use Rattle.trlab_road.specs.Cells.{Cell, Lane, at, cars, lane_car_count, lane_of}
-use Rattle.trlab_road.specs.Gaps.{ahead, gap, next_place}
-use Rattle.trlab_road.specs.Spreading.{IsEvenlySpacedLane, even_lane, even_place}
-use Rattle.trlab_road.proofs.Ring.{blocked, clear_within_gap, inside, ring_cases}
-use Rattle.trlab_road.specs.declared.car.Car.{Car}
-use Rattle.trlab_road.specs.Motion.{LaneFits, LaneMoves}
-use Rattle.trlab_road.specs.Standing.{standing_from}
-use Rattle.trlab_road.proofs.EvenRoads.{even_count, even_legal}
+use Rattle.std.proofs.Common.{◌≡◌, ℕ, ◌+◌, ◌-◌, ◌*◌, ◌/◌, ◌%◌, ◌<◌, ◌≤◌, Some, None, length, refl, sym, ◌∙◌}
+use Rattle.std.proofs.Common.{ap, subst, inl, inr, arith, add-mul, div-lt_iff_lt-mul, div-mul-le_self}
+use Rattle.std.proofs.Common.{div-one, le-div_iff_mul-le, mul-le-mul_left, zero, suc, min, mul_comm}
+use Rattle.std.proofs.Common.{div-le_self, mod-eq_of_lt}
+use Rattle.std.proofs.Math.Nat.{add-mod_right, add-mul-div_left, lt-div-mul-add, mod-one}
+use Rattle.std.proofs.lemmas.{Bool.{cases_eq, cases_lt}, Option.some_pair_parts}
+use Rattle.trlab_road.specs.{Cells.{Cell, Lane, at, cars, lane_car_count, lane_of, standing_from}, Gaps.ahead}
+use Rattle.trlab_road.specs.{Gaps.{gap, next_place}, Spreading.{IsEvenlySpacedLane, even_lane, even_place}}
+use Rattle.trlab_road.{specs.{declared.car.Car.Car, Motion.{LaneFits, LaneMoves}}, proofs.Ring.blocked}
+use Rattle.trlab_road.proofs.{Ring.{clear_within_gap, inside, ring_cases}, EvenRoads.{even_count, even_legal}}
 use Rattle.trlab_road.proofs.StandingOrder.{length-standing_from}
 use Rattle.trlab_traffic.specs.Terms.{max_distance, empty_cells, lane_empty_cells}
 use Rattle.trlab_traffic.specs.Diagram.{EvenCarsFlowOnTriangle}
 use Rattle.trlab_traffic.proofs.Lanes.{clear_is_gap, gap_below, one_sum, one_total, only_lane, sum_at_cars}
-use Rattle.trlab_traffic.proofs.RoomAhead.{lane_taken_or_empty}
-use Rattle.trlab_traffic.proofs.FreeFlow.{sum_by-same}
-use Rattle.trlab_traffic.proofs.Gaps.{gap_after, next_taken, gaps_total}
-use Rattle.trlab_traffic.proofs.Regimes.{Regime, flows_by, nasch_moves_by, safe_by}
+use Rattle.trlab_traffic.proofs.{RoomAhead.lane_taken_or_empty, Gaps.{gap_after, next_taken, gaps_total}}
+use Rattle.trlab_traffic.proofs.{FreeFlow.sum_by-same, Regimes.{Regime, flows_by, nasch_moves_by, safe_by}}
 
 -- the place of car i of n, on one lane
 abbrev pub place : ℕ → ℕ → ℕ → ℕ

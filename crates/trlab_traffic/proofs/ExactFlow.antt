@@ -1,17 +1,18 @@
 -- The exact flow of the stationary state on a finite ring.
-use Rattle.std.proofs.Common.{◌≡◌, ℕ, zero, suc, ◌+◌, ◌-◌, ◌*◌, ◌^◌, Bool, true, false, not, ◌&&◌, cond, if◌then◌else◌, nat_eq, [], ◌∷◌, length, get_or, refl, sym, ◌∙◌, ap, subst, inl, inr, arith}
-use Rattle.std.specs.Prelude.{sum_by}
+use Rattle.std.proofs.Common.{◌≡◌, ℕ, zero, suc, ◌+◌, ◌-◌, ◌*◌, ◌^◌, Bool, true, false, not, ◌&&◌, cond}
+use Rattle.std.proofs.Common.{if◌then◌else◌, nat_eq, [], ◌∷◌, length, get_or, refl, sym, ◌∙◌, ap, subst, inl}
+use Rattle.std.proofs.{Common.{inr, arith, sum_by}, Math.Nat.{pow-succ'}, lemmas.Bool.cases_eq}
 use Rattle.std.specs.List.{range_with_len}
-use Rattle.std.proofs.Math.Nat.{pow-succ'}
-use Rattle.std.proofs.lemmas.Bool.{cases_eq}
 use Rattle.trlab_bounds.specs.declared.programs.TheConstants.{CERTAIN}
-use Rattle.trlab_traffic.specs.LimitOne.{Ring, moves, size, moving_cars}
-use Rattle.trlab_traffic.specs.Stationary.{FlowIsExact, choose, clustered_rings, distance_weight, splits, all_rings, braking_weight, free_cars, stationary_weight}
-use Rattle.trlab_traffic.proofs.Lanes.{sum_range, total, total_at, total_none, total_same}
-use Rattle.trlab_traffic.proofs.Chains.{bit, leaves, rings, rings_add, rings_same, rings_sum, rings_times, set_weight, sets, sets_add, sets_same, sets_sum, sets_times, size_is, trues}
-use Rattle.trlab_traffic.proofs.RingSteps.{moves_is}
-use Rattle.trlab_traffic.proofs.Stationary.{bit_is, blocked_or_free, braking_is, chosen, free, free_is, sets_weigh}
-use Rattle.trlab_traffic.proofs.Clusters.{falses, no_empty, nothing, picked_ring, ring_count, same, same_is, same_not, same_self}
+use Rattle.trlab_traffic.specs.LimitOne.{Ring, is_moving_car, size, moving_cars, FlowIsExact, choose}
+use Rattle.trlab_traffic.specs.LimitOne.{clustered_rings, distance_weight, splits, all_rings, braking_weight}
+use Rattle.trlab_traffic.{specs.LimitOne.{free_cars, stationary_weight}, proofs.Lanes.{sum_range, total}}
+use Rattle.trlab_traffic.proofs.{Lanes.{total_at, total_none, total_same}, Chains.{bit, leaves, rings}}
+use Rattle.trlab_traffic.proofs.Chains.{rings_add, rings_same, rings_sum, rings_times, set_weight, sets}
+use Rattle.trlab_traffic.proofs.Chains.{sets_add, sets_same, sets_sum, sets_times, size_is, trues}
+use Rattle.trlab_traffic.proofs.{RingSteps.moves_is, Stationary.{bit_is, blocked_or_free, braking_is, chosen}}
+use Rattle.trlab_traffic.proofs.{Stationary.{free, free_is, sets_weigh}, Clusters.{falses, no_empty, nothing}}
+use Rattle.trlab_traffic.proofs.Clusters.{picked_ring, ring_count, same, same_is, same_not, same_self}
 
 -- the cars of a chain that move
 abbrev movers : Bool → Ring → Ring → ℕ
@@ -28,10 +29,10 @@ movers_total first (own ∷ old) (brake ∷ braking) long = let rest = movers_to
 moving_is : (ring braking : Ring) → length braking ≡ length ring → moving_cars ring braking ≡ movers (get_or ring 0 false) ring braking
 moving_is ring braking long =
     let first = get_or ring 0 false in
-    sum_range (λ x. cond (moves ring braking x) 1 0) 0 (length ring)
-    ∙ total_same (λ x. cond (moves ring braking (0 + x)) 1 0) (λ x. bit (leaves (get_or ring x false) (get_or ring (suc x) first) (get_or braking x false))) (length ring)
+    sum_range (λ x. cond (is_moving_car ring braking x) 1 0) 0 (length ring)
+    ∙ total_same (λ x. cond (is_moving_car ring braking (0 + x)) 1 0) (λ x. bit (leaves (get_or ring x false) (get_or ring (suc x) first) (get_or braking x false))) (length ring)
     (λ x low. let e : 0 + x ≡ x = omega arith in
-    ap (λ k. cond (moves ring braking k) 1 0) e ∙ bit_is (moves ring braking x) ∙ ap bit (moves_is ring braking x low))
+    ap (λ k. cond (is_moving_car ring braking k) 1 0) e ∙ bit_is (is_moving_car ring braking x) ∙ ap bit (moves_is ring braking x low))
     ∙ sym (movers_total first ring braking long)
 
 module _ (t q : ℕ) where

@@ -1,35 +1,22 @@
 -- A road whose lanes are exchanged continues as the original road, with the lanes exchanged.
-use Rattle.std.proofs.Common.{◌≡◌, ℕ, zero, suc, ◌<◌, Bool, false, cond, Option, Some, None, List, [], ◌∷◌, length, get_or, refl, sym, ◌∙◌, ap, subst, arith}
-use Rattle.std.specs.Prelude.{All, IfSome, MatchOption, nat_eq, sum_by}
-use Rattle.std.proofs.lemmas.List.Sums.{sum_by-append, sum_by-cons}
-use Rattle.trlab_code.specs.declared.program.Kind.TheVariants.{Change, Motion}
-use Rattle.trlab_code.specs.declared.instruction.Instr.{Instr}
-use Rattle.trlab_code.specs.declared.view.View.{View}
-use Rattle.trlab_code.specs.Machine.{EndsWith, Goes}
-use Rattle.trlab_code.specs.Program.{Program}
+use Rattle.std.proofs.Common.{◌≡◌, ℕ, zero, suc, ◌<◌, Bool, false, cond, Option, Some, None, List, [], ◌∷◌}
+use Rattle.std.proofs.Common.{length, get_or, refl, sym, ◌∙◌, ap, subst, arith, All, IfSome, MatchOption}
+use Rattle.std.proofs.{Common.{nat_eq, sum_by}, lemmas.List.Sums.{sum_by-append, sum_by-cons}}
+use Rattle.trlab_code.specs.declared.{program.Kind.TheVariants.{Change, Motion}, instruction.Instr.Instr}
+use Rattle.trlab_code.specs.{declared.view.View.View, Machine.{EndsWith, Goes}, Program.Program}
 use Rattle.trlab_verify.specs.Verified.{CheckedProgram}
-use Rattle.trlab_machine.specs.declared.dice.Dice.{Dice}
-use Rattle.trlab_machine.specs.Blocks.{words_of}
-use Rattle.trlab_machine.specs.Answers.{crossing_answer}
-use Rattle.trlab_road.specs.declared.car.Car.{Car}
-use Rattle.trlab_road.specs.Cells.{Cells, IsAt, Lane, at, lane_of}
-use Rattle.trlab_road.specs.Gaps.{gap, headspeed, side, sideback, sidegap}
-use Rattle.trlab_road.specs.LaneChange.{car_after_crossing, other_lane}
-use Rattle.trlab_road.specs.Standing.{standing_from, standing_from_lane}
-use Rattle.trlab_road.proofs.MotionLaws.{on_lane}
+use Rattle.trlab_machine.specs.{declared.dice.Dice.Dice, Blocks.words_of, Answers.crossing_answer}
+use Rattle.trlab_road.specs.{declared.car.Car.Car, Cells.{Cells, IsAt, Lane, at, lane_of, standing_from}}
+use Rattle.trlab_road.specs.{Cells.standing_from_lane, Gaps.{gap, headspeed, side, sideback, sidegap}}
+use Rattle.trlab_road.{specs.LaneChange.{car_after_crossing, other_lane}, proofs.MotionLaws.on_lane}
 use Rattle.trlab_road.proofs.Ring.{car_in}
-use Rattle.trlab_rules.specs.Published.{rickert_crosses}
-use Rattle.trlab_rules.specs.Standard.{rickert_program}
-use Rattle.trlab_rules.specs.Rules.{IsChangeComputing}
+use Rattle.trlab_rules.specs.{Published.rickert_crosses, Standard.rickert_program, Rules.IsChangeComputing}
 use Rattle.trlab_step.specs.Answers.{change_view_of, motion_view_of}
 use Rattle.trlab_step.specs.Next.{IsLaneChangePhase, IsMotionPhase, crossing_cars, stopped_cars, total_speed}
-use Rattle.trlab_step.specs.Run.{dice_at}
-use Rattle.trlab_step.proofs.Parts.{same_view}
-use Rattle.trlab_step.proofs.RunLaws.{force_all}
-use Rattle.trlab_traffic.specs.Invariance.{IgnoresLane, RickertIgnoresLane, RunIsSymmetric, StepIsSymmetric, exchange_lanes, reads_lane}
-use Rattle.trlab_traffic.proofs.Lanes.{middle_lanes, next_lanes, run_lanes}
-use Rattle.trlab_traffic.proofs.Homogeneity.{same_seen}
-use Rattle.trlab_traffic.proofs.LaneUnread.{lane_is_not_read}
+use Rattle.trlab_step.{specs.Run.dice_at, proofs.{Parts.same_view, RunLaws.force_all}}
+use Rattle.trlab_traffic.specs.Invariance.{IgnoresLane, RickertIgnoresLane, RunIsSymmetric, StepIsSymmetric}
+use Rattle.trlab_traffic.{specs.Invariance.{exchange_lanes, reads_lane}, proofs.Homogeneity.same_seen}
+use Rattle.trlab_traffic.proofs.{Lanes.{middle_lanes, next_lanes, run_lanes}, LaneUnread.lane_is_not_read}
 
 -- a lane of the exchanged road is the other one of the road
 lane_exchanged : (road : Cells) (l : ℕ) → l < 2 → lane_of (exchange_lanes road) l ≡ lane_of road (other_lane l)

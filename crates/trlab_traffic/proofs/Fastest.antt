@@ -1,34 +1,23 @@
 -- No rule is faster: two runs from the same initial state, compared by the answers of their cars.
-use Rattle.std.proofs.Common.{◌≡◌, ℕ, zero, suc, ◌+◌, ◌≤◌, ◌⊎◌, Bool, true, false, min, refl, sym, ◌∙◌, ap, subst, inl, inr, arith, nat_eq, if◌then◌else◌}
-use Rattle.std.specs.Prelude.{List, slice_index}
+use Rattle.std.proofs.Common.{◌≡◌, ℕ, zero, suc, ◌+◌, ◌≤◌, ◌⊎◌, Bool, true, false, min, refl, sym, ◌∙◌, ap}
+use Rattle.std.proofs.Common.{subst, inl, inr, arith, nat_eq, if◌then◌else◌, List, slice_index}
 use Rattle.std.proofs.lemmas.Bool.{cases_lt}
-use Rattle.trlab_words.specs.Chances.{happens_on}
-use Rattle.trlab_code.specs.declared.instruction.Input.TheVariants.{Limit, Gap}
-use Rattle.trlab_code.specs.declared.instruction.Register.TheVariants.{R0, R1}
-use Rattle.trlab_code.specs.declared.program.Kind.TheVariants.{Motion}
-use Rattle.trlab_code.specs.declared.view.View.{View}
-use Rattle.trlab_code.specs.Machine.{At, Goes, start, update}
-use Rattle.trlab_machine.specs.declared.dice.Dice.{Dice}
-use Rattle.trlab_machine.specs.Blocks.{words_of}
-use Rattle.trlab_machine.proofs.Answers.{one_answer}
-use Rattle.trlab_road.specs.declared.car.Car.{Car}
-use Rattle.trlab_road.specs.Cells.{Cells, IsAt}
-use Rattle.trlab_road.specs.Legal.{IsLegal}
-use Rattle.trlab_rules.specs.Rules.{ComputesSpeed, Programs, IsNasch}
+use Rattle.trlab_words.specs.Words.{happens_on}
+use Rattle.trlab_code.specs.declared.instruction.{Input.TheVariants.{Limit, Gap}, Register.TheVariants.R0}
+use Rattle.trlab_code.specs.declared.{instruction.Register.TheVariants.R1, program.Kind.TheVariants.Motion}
+use Rattle.trlab_code.specs.{declared.view.View.View, Machine.{At, Goes, start, update}}
+use Rattle.trlab_machine.{specs.{declared.dice.Dice.Dice, Blocks.words_of}, proofs.Answers.one_answer}
+use Rattle.trlab_road.specs.{declared.car.Car.Car, Cells.{Cells, IsAt, IsLegal}}
+use Rattle.trlab_rules.{specs.Rules.{ComputesSpeed, Programs, IsNasch}, proofs.Rows.{Run, get, go, smaller}}
 use Rattle.trlab_rules.specs.Published.{brake, nasch_speed, safe_speed, vdr_braking_chance, vdr_speed}
-use Rattle.trlab_step.specs.Answers.{AnswersSpeed, motion_view_of}
-use Rattle.trlab_step.specs.Run.{Seed, dice_at}
-use Rattle.trlab_rules.proofs.Rows.{Run, get, go, smaller}
-use Rattle.trlab_step.proofs.AnswersExist.{motion_view_is_view}
-use Rattle.trlab_step.proofs.PartLaws.{one_answer_each}
-use Rattle.trlab_step.proofs.RunLaws.{force_all}
-use Rattle.trlab_traffic.specs.Terms.{EachRule, StaysInLane, always}
-use Rattle.trlab_traffic.specs.Comparison.{IsNoFaster, GapProgramReachesSpeedAtOnce, NaschAcceleratesByAtMostOne, NobodyBeatsGap, NobodyBeatsNasch, RandomizationSlowsRuns, SlowStartsSlowRuns, AcceleratesByAtMostOne, VdrAcceleratesByAtMostOne, gap_program}
-use Rattle.trlab_traffic.proofs.Steps.{never}
-use Rattle.trlab_traffic.proofs.FreeFlow.{one_rule}
-use Rattle.trlab_traffic.proofs.Slower.{more_happens}
-use Rattle.trlab_traffic.proofs.Courses.{gap_of, started}
-use Rattle.trlab_traffic.proofs.Races.{no_faster}
+use Rattle.trlab_step.specs.{Answers.{AnswersSpeed, motion_view_of}, Run.{Seed, dice_at}}
+use Rattle.trlab_step.proofs.{AnswersExist.motion_view_is_view, PartLaws.one_answer_each, RunLaws.force_all}
+use Rattle.trlab_traffic.{specs.Terms.{EachRule, StaysInLane, always}, proofs.Courses.{gap_of, started}}
+use Rattle.trlab_traffic.{specs.Comparison.{IsNoFaster, GapProgramReachesSpeedAtOnce}, proofs.Races.no_faster}
+use Rattle.trlab_traffic.specs.Comparison.{NaschAcceleratesByAtMostOne, NobodyBeatsGap, NobodyBeatsNasch}
+use Rattle.trlab_traffic.specs.Comparison.{RandomizationSlowsRuns, SlowStartsSlowRuns, AcceleratesByAtMostOne}
+use Rattle.trlab_traffic.{specs.Comparison.{VdrAcceleratesByAtMostOne, gap_program}, proofs.FreeFlow.one_rule}
+use Rattle.trlab_traffic.proofs.{Steps.never, Slower.more_happens}
 
 -- a sheet of one rule has the properties of the rule
 pub always_so : (P : Programs → Type 0) (rule : Programs) → P rule → EachRule P (always rule)

@@ -1,23 +1,16 @@
 -- The number of cars in a part of a lane: at most all its cars, and at least as many as remain if all its
 -- empty cells are there.
-use Rattle.std.proofs.Common.{◌≡◌, ℕ, zero, suc, ◌+◌, ◌%◌, ◌≤◌, Bool, true, false, cond, length, refl, sym, ◌∙◌, ap, subst, inl, inr, arith}
-use Rattle.std.proofs.lemmas.Bool.{cases_lt}
-use Rattle.trlab_road.specs.Cells.{Cells, Lane, lane_car_count, lane_of}
-use Rattle.trlab_road.specs.Gaps.{ahead}
-use Rattle.trlab_road.proofs.MotionLaws.{lane_same_count}
-use Rattle.trlab_road.proofs.Ring.{apart_within_gaps}
-use Rattle.trlab_step.specs.declared.tally.StepTally.{StepTally}
-use Rattle.trlab_step.specs.Run.{ComesTo, Seed, Sheet, dice_at}
+use Rattle.std.proofs.Common.{◌≡◌, ℕ, zero, suc, ◌+◌, ◌%◌, ◌≤◌, Bool, true, false, cond, length, refl, sym}
+use Rattle.std.proofs.{Common.{◌∙◌, ap, subst, inl, inr, arith}, lemmas.Bool.cases_lt}
+use Rattle.trlab_road.specs.{Cells.{Cells, Lane, lane_car_count, lane_of}, Gaps.ahead}
+use Rattle.trlab_road.proofs.{MotionLaws.lane_same_count, Ring.apart_within_gaps}
+use Rattle.trlab_step.specs.{declared.tally.StepTally.StepTally, Run.{ComesTo, Seed, Sheet, dice_at}}
 use Rattle.trlab_step.proofs.RunLaws.{force_all}
-use Rattle.trlab_traffic.specs.Terms.{lane_empty_cells, is_taken, EachRule, StaysInLane}
-use Rattle.trlab_traffic.specs.LimitOne.{digit}
+use Rattle.trlab_traffic.specs.{Terms.{lane_empty_cells, is_taken, EachRule, StaysInLane}, LimitOne.digit}
 use Rattle.trlab_traffic.specs.Detectors.{cars_ahead_of}
 use Rattle.trlab_traffic.proofs.Lanes.{sum_range, total, total_last, total_same, total_turned}
-use Rattle.trlab_traffic.proofs.Steps.{answers_fit, motion_alone}
-use Rattle.trlab_traffic.proofs.RoomAhead.{lane_taken_or_empty}
-use Rattle.trlab_traffic.proofs.Influence.{any_lane}
-use Rattle.trlab_traffic.proofs.Heights.{taken_total}
-use Rattle.trlab_traffic.proofs.Detecting.{any_lane_fits}
+use Rattle.trlab_traffic.proofs.{Steps.{answers_fit, motion_alone}, RoomAhead.lane_taken_or_empty}
+use Rattle.trlab_traffic.proofs.{Influence.any_lane, Heights.taken_total, Detecting.any_lane_fits}
 
 -- a part of a sum of ones and zeros
 record Part (w : ℕ → ℕ) (k n : ℕ) : Type 0 where

@@ -1,38 +1,30 @@
 -- Free flow goes on for ever where no moving car brakes by chance, with slow starts too.
-use Rattle.std.proofs.Common.{◌≡◌, ℕ, zero, suc, ◌+◌, ◌-◌, ◌*◌, ◌<◌, ◌≤◌, min, Some, None, List, [], ◌∷◌, length, get_or, refl, sym, ◌∙◌, ap, subst, inl, inr, arith, mul_comm, mul-suc, mul-zero, ◌/◌, ◌^◌, Bool, true, if◌then◌else◌}
-use Rattle.std.specs.Prelude.{All, nat_le, sum_by, slice_index}
-use Rattle.std.proofs.lemmas.Bool.{cases_lt, le-leb, lt-leb, cases_Bool, lt-ltb, ne_eqb}
-use Rattle.std.proofs.lemmas.List.{ext_get_or, length-map}
-use Rattle.std.proofs.lemmas.List.Sums.{sum_by-cons}
+use Rattle.std.proofs.Common.{◌≡◌, ℕ, zero, suc, ◌+◌, ◌-◌, ◌*◌, ◌<◌, ◌≤◌, min, Some, None, List, [], ◌∷◌}
+use Rattle.std.proofs.Common.{length, get_or, refl, sym, ◌∙◌, ap, subst, inl, inr, arith, mul_comm, mul-suc}
+use Rattle.std.proofs.Common.{mul-zero, ◌/◌, ◌^◌, Bool, true, if◌then◌else◌, All, nat_le, sum_by, slice_index}
+use Rattle.std.proofs.Common.{le-leb, lt-ltb, ne_eqb, ext_get_or}
+use Rattle.std.proofs.lemmas.{Bool.{cases_lt, lt-leb, cases_Bool}, List.{length-map, Sums.sum_by-cons}}
 use Rattle.trlab_bounds.specs.declared.programs.TheConstants.{CERTAIN}
-use Rattle.trlab_words.specs.Chances.{happens_on}
-use Rattle.trlab_words.proofs.RandomWords.{random_words_small}
-use Rattle.trlab_road.specs.declared.car.Car.{Car}
-use Rattle.trlab_road.specs.Cells.{Cell, Cells, IsAt, Lane, at, cars, lane_of}
-use Rattle.trlab_road.specs.Gaps.{ahead, gap}
-use Rattle.trlab_road.specs.Legal.{IsLegal}
-use Rattle.trlab_road.specs.Motion.{LaneMoves, Moves}
-use Rattle.trlab_road.specs.Standing.{standing}
-use Rattle.trlab_road.proofs.MotionLaws.{on_lane, one_road_only}
-use Rattle.trlab_road.proofs.Ring.{car_in, clear_within_gap, inside}
+use Rattle.trlab_words.{specs.Words.happens_on, proofs.RandomWords.random_words_small}
+use Rattle.trlab_road.specs.{declared.car.Car.Car, Cells.{Cell, Cells, IsAt, Lane, at, cars, lane_of}}
+use Rattle.trlab_road.specs.{Cells.{IsLegal, standing}, Gaps.{ahead, gap}, Motion.{LaneMoves, Moves}}
+use Rattle.trlab_road.proofs.{MotionLaws.{on_lane, one_road_only}, Ring.{car_in, clear_within_gap, inside}}
 use Rattle.trlab_road.proofs.StandingOrder.{length-standing_from_lane, standing_cell}
 use Rattle.trlab_road.proofs.MotionInOrder.{moves_by}
 use Rattle.trlab_rules.specs.Rules.{Programs, IsNasch, IsVdr}
 use Rattle.trlab_rules.specs.Published.{safe_speed, brake, vdr_braking_chance, vdr_speed}
-use Rattle.trlab_machine.specs.declared.dice.Dice.{Dice}
-use Rattle.trlab_machine.specs.Blocks.{words_of}
-use Rattle.trlab_step.specs.declared.tally.StepTally.{StepTally}
-use Rattle.trlab_step.specs.Laws.{IsLegalLike}
-use Rattle.trlab_step.specs.Next.{IsNext, total_speed}
+use Rattle.trlab_machine.specs.{declared.dice.Dice.Dice, Blocks.words_of}
+use Rattle.trlab_step.specs.{declared.tally.StepTally.StepTally, Laws.IsLegalLike, Next.{IsNext, total_speed}}
 use Rattle.trlab_step.specs.Published.{AllMoveAhead, car_after_motion}
-use Rattle.trlab_step.specs.Run.{ComesTo, Seed, dice_at, in_force}
-use Rattle.trlab_step.proofs.NextLaws.{like_itself, like_next}
-use Rattle.trlab_traffic.specs.Terms.{rotate_road, rotate_lane}
-use Rattle.trlab_traffic.specs.FreeFlow.{FreeFlowGoesOn, FreeFlowStaysFree, FreeFlowMovesAsOne, IsInFreeFlow, IsStopped, SlowStartsKeepFreeFlow, SlowStartsKeepJams, SlowStartsMoveFreeFlowAsOne}
-use Rattle.trlab_traffic.proofs.Lanes.{ahead_below, ahead_once, ahead_swap, clear_is_gap, gap_below, ahead_none}
+use Rattle.trlab_step.{specs.Run.{ComesTo, Seed, dice_at, in_force}, proofs.NextLaws.{like_itself, like_next}}
+use Rattle.trlab_traffic.specs.{Terms.{rotate_road, rotate_lane}, FlowAndJams.FreeFlowGoesOn}
+use Rattle.trlab_traffic.specs.FlowAndJams.{FreeFlowStaysFree, FreeFlowMovesAsOne, IsInFreeFlow, IsStopped}
+use Rattle.trlab_traffic.specs.FlowAndJams.{SlowStartsKeepFreeFlow, SlowStartsKeepJams}
+use Rattle.trlab_traffic.{specs.FlowAndJams.SlowStartsMoveFreeFlowAsOne, proofs.Lanes.ahead_below}
+use Rattle.trlab_traffic.proofs.Lanes.{ahead_once, ahead_swap, clear_is_gap, gap_below, ahead_none}
 use Rattle.trlab_traffic.proofs.Steps.{next_legal_like, safe_motion, answered, motion_alone, never}
-use Rattle.trlab_traffic.proofs.Capacities.{distance_counted, distance_uncounted}
-use Rattle.trlab_traffic.proofs.Rotation.{lane_turned, length-turned, same_road, turned_at, turned_more, turned_none}
+use Rattle.trlab_traffic.proofs.{Capacities.{distance_counted, distance_uncounted}, Rotation.lane_turned}
+use Rattle.trlab_traffic.proofs.Rotation.{length-turned, same_road, turned_at, turned_more, turned_none}
 
 -- the safe speed of a car at the limit, with room for it
 at_limit_safe : (limit gap : ℕ) → limit ≤ gap → min (min (limit + 1) limit) gap ≡ limit

@@ -1,29 +1,21 @@
 -- Gaps: those of a lane after a motion and all together, a car that has none, and the next car ahead.
-use Rattle.std.proofs.Common.{◌≡◌, ◌≢◌, ℕ, ◌+◌, ◌-◌, ◌%◌, ◌<◌, ◌≤◌, true, cond, eqb, is_some, Some, None, length, refl, sym, ◌∙◌, ap, subst, inl, inr, arith, zero, suc, []}
-use Rattle.std.proofs.Math.Nat.{add-mod_right, mod-eq_of_lt}
-use Rattle.std.proofs.lemmas.Bool.{cases_eq, cases_lt, cond-false, cond-true, eq-eqb, ne_eqb}
-use Rattle.std.proofs.lemmas.Option.{some_pair_parts}
-use Rattle.std.specs.Prelude.{sum_by}
-use Rattle.std.proofs.lemmas.List.{get_or_past}
-use Rattle.std.proofs.lemmas.List.Sums.{sum-map}
-use Rattle.trlab_road.specs.declared.car.Car.{Car}
-use Rattle.trlab_road.specs.Cells.{Cell, Cells, Lane, IsAt, at, lane_of, lane_car_count}
-use Rattle.trlab_road.specs.Gaps.{ahead, gap, next_place}
-use Rattle.trlab_road.specs.Legal.{IsLegal}
-use Rattle.trlab_road.specs.Motion.{LaneFits, LaneMoves, Fits, Moves}
-use Rattle.trlab_road.proofs.ListGaps.{clear_from}
-use Rattle.trlab_road.proofs.MotionLaws.{moved_legal, on_lane, lane_same_count}
-use Rattle.trlab_road.proofs.Ring.{apart_within_gaps, blocked, clear_within_gap, ends_before, inside, car_in}
-use Rattle.trlab_road.specs.Standing.{standing_from}
-use Rattle.trlab_step.specs.Published.{car_after_motion}
-use Rattle.trlab_step.specs.Run.{dice_at}
-use Rattle.trlab_step.proofs.RunLaws.{force_all}
-use Rattle.trlab_traffic.specs.Terms.{lane_empty_cells, StaysInLane}
-use Rattle.trlab_traffic.specs.Jams.{CarWithoutGapStops}
-use Rattle.trlab_traffic.specs.Following.{GapChangesBySpeedDifference, GapsFillLane, RunKeepsLaneCars, IsNextAhead, EachCarHasNext, IsNextOf, NextCarIsUnique, RunKeepsNextCar, StepKeepsNextCar}
+use Rattle.std.proofs.Common.{◌≡◌, ◌≢◌, ℕ, ◌+◌, ◌-◌, ◌%◌, ◌<◌, ◌≤◌, true, cond, eqb, is_some, Some, None}
+use Rattle.std.proofs.Common.{length, refl, sym, ◌∙◌, ap, subst, inl, inr, arith, zero, suc, [], mod-eq_of_lt}
+use Rattle.std.proofs.{Common.{eq-eqb, ne_eqb, sum_by}, Math.Nat.add-mod_right}
+use Rattle.std.proofs.lemmas.{Bool.{cases_eq, cases_lt, cond-false, cond-true}, Option.some_pair_parts}
+use Rattle.std.proofs.lemmas.List.{get_or_past, Sums.sum-map}
+use Rattle.trlab_road.specs.{declared.car.Car.Car, Cells.{Cell, Cells, Lane, IsAt, at, lane_of}}
+use Rattle.trlab_road.specs.{Cells.{lane_car_count, IsLegal, standing_from}, Gaps.{ahead, gap, next_place}}
+use Rattle.trlab_road.{specs.Motion.{LaneFits, LaneMoves, Fits, Moves}, proofs.ListGaps.clear_from}
+use Rattle.trlab_road.proofs.{MotionLaws.{moved_legal, on_lane, lane_same_count}, Ring.apart_within_gaps}
+use Rattle.trlab_road.proofs.Ring.{blocked, clear_within_gap, ends_before, inside, car_in}
+use Rattle.trlab_step.{specs.{Published.car_after_motion, Run.dice_at}, proofs.RunLaws.force_all}
+use Rattle.trlab_traffic.specs.{Terms.{lane_empty_cells, StaysInLane}, FlowAndJams.CarWithoutGapStops}
+use Rattle.trlab_traffic.specs.Following.{GapChangesBySpeedDifference, GapsFillLane, RunKeepsLaneCars}
+use Rattle.trlab_traffic.specs.Following.{IsNextAhead, EachCarHasNext, IsNextOf, NextCarIsUnique}
+use Rattle.trlab_traffic.specs.Following.{RunKeepsNextCar, StepKeepsNextCar}
 use Rattle.trlab_traffic.proofs.Lanes.{ahead_more, ahead_once, clear_is_gap, gap_below, ahead_none}
-use Rattle.trlab_traffic.proofs.Steps.{answers_fit, motion_alone}
-use Rattle.trlab_traffic.proofs.RoomAhead.{lane_filled, lane_room}
+use Rattle.trlab_traffic.proofs.{Steps.{answers_fit, motion_alone}, RoomAhead.{lane_filled, lane_room}}
 
 -- two paths from the same place to the same place are equally long
 pub same_way : (n x i j : ℕ) → i < n → j < n → ahead n x i ≡ ahead n x j → i ≡ j
@@ -157,8 +149,8 @@ goes_so old new speeds car v legal here there =
     let both = sym here ∙ ap (at (lane_of new car.lane)) same ∙ there in
     (some_pair_parts car.number car.number (speeds car.lane car.place) v both).1
 
-pub gaps_follow : GapChangesBySpeedDifference
-gaps_follow rule dice old new tally goes car next none legal is all here there following =
+pub gaps_follow_speeds : GapChangesBySpeedDifference
+gaps_follow_speeds rule dice old new tally goes car next none legal is all here there following =
     let l = car.lane in
     let x = car.place in
     let phase = motion_alone rule dice old new tally none is in

@@ -1,13 +1,10 @@
 -- The cells of a lane as binary digits, 1 where a car is; their sum; and heights, which count them.
-use Rattle.std.proofs.Common.{◌≡◌, ℕ, ◌+◌, ◌%◌, Some, None, [], ◌∷◌, length, refl, ◌∙◌, ap, arith, mod-eq_of_lt, zero, suc, ◌-◌, ◌*◌, ◌<◌, ◌≤◌, max, sym, subst, inl, inr, mul-add, mul-suc, mul-zero, suc-mul}
-use Rattle.std.proofs.Math.Nat.{add-mod_right}
-use Rattle.std.proofs.lemmas.Bool.{cases_lt}
-use Rattle.trlab_road.specs.Cells.{Lane, lane_car_count}
-use Rattle.trlab_road.proofs.StandingOrder.{lane_car_count-some}
-use Rattle.trlab_traffic.specs.Terms.{is_taken}
-use Rattle.trlab_traffic.specs.LimitOne.{digit}
-use Rattle.trlab_traffic.proofs.Lanes.{total, total_same, total_last}
-use Rattle.trlab_traffic.proofs.RoomAhead.{cars-none}
+use Rattle.std.proofs.Common.{◌≡◌, ℕ, ◌+◌, ◌%◌, Some, None, [], ◌∷◌, length, refl, ◌∙◌, ap, arith}
+use Rattle.std.proofs.Common.{mod-eq_of_lt, zero, suc, ◌-◌, ◌*◌, ◌<◌, ◌≤◌, max, sym, subst, inl, inr, mul-add}
+use Rattle.std.proofs.{Common.{mul-suc, mul-zero, suc-mul}, Math.Nat.add-mod_right, lemmas.Bool.cases_lt}
+use Rattle.trlab_road.{specs.Cells.{Lane, lane_car_count}, proofs.StandingOrder.lane_car_count-some}
+use Rattle.trlab_traffic.specs.{Terms.is_taken, LimitOne.digit}
+use Rattle.trlab_traffic.proofs.{Lanes.{total, total_same, total_last}, RoomAhead.cars-none}
 
 -- the digit of a place, which may be some laps ahead
 abbrev pub digit_at : Lane → ℕ → ℕ

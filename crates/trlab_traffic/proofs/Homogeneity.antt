@@ -1,34 +1,22 @@
 -- The ring is homogeneous: a rotated road continues as the road itself does.
-use Rattle.std.proofs.Common.{◌≡◌, ℕ, zero, suc, ◌+◌, ◌<◌, Bool, cond, Option, Some, None, List, length, map, refl, sym, ◌∙◌, ap, subst, arith}
-use Rattle.std.specs.Prelude.{nat_eq}
-use Rattle.std.proofs.lemmas.List.{length-map}
-use Rattle.trlab_code.specs.declared.program.Kind.TheVariants.{Change, Motion}
-use Rattle.trlab_code.specs.declared.view.View.{View}
-use Rattle.trlab_code.specs.Machine.{EndsWith, Goes}
-use Rattle.trlab_code.specs.Views.{change_view}
+use Rattle.std.proofs.Common.{◌≡◌, ℕ, zero, suc, ◌+◌, ◌<◌, Bool, cond, Option, Some, None, List, length, map}
+use Rattle.std.proofs.{Common.{refl, sym, ◌∙◌, ap, subst, arith, nat_eq}, lemmas.List.length-map}
+use Rattle.trlab_code.specs.declared.{program.Kind.TheVariants.{Change, Motion}, view.View.View}
+use Rattle.trlab_code.specs.{Machine.{EndsWith, Goes}, Views.change_view}
 use Rattle.trlab_verify.specs.Verified.{CheckedProgram}
-use Rattle.trlab_machine.specs.declared.dice.Dice.{Dice}
-use Rattle.trlab_machine.specs.Blocks.{words_of}
-use Rattle.trlab_machine.specs.Answers.{crossing_answer}
-use Rattle.trlab_road.specs.declared.car.Car.{Car}
-use Rattle.trlab_road.specs.Cells.{Cells, IsAt, Lane, at, lane_of}
-use Rattle.trlab_road.specs.Gaps.{ahead, gap, headspeed, side, sideback, sidegap}
-use Rattle.trlab_road.specs.LaneChange.{ChangesLanes, other_lane}
-use Rattle.trlab_road.specs.Legal.{IsLegal}
-use Rattle.trlab_road.specs.Motion.{Moves}
-use Rattle.trlab_road.proofs.MotionLaws.{on_lane}
-use Rattle.trlab_road.proofs.Ring.{car_in}
-use Rattle.trlab_step.specs.declared.tally.StepTally.{StepTally}
+use Rattle.trlab_machine.specs.{declared.dice.Dice.Dice, Blocks.words_of, Answers.crossing_answer}
+use Rattle.trlab_road.specs.{declared.car.Car.Car, Cells.{Cells, IsAt, Lane, at, lane_of, IsLegal}}
+use Rattle.trlab_road.specs.{Gaps.{ahead, gap, headspeed, side, sideback, sidegap}, LaneChange.ChangesLanes}
+use Rattle.trlab_road.{specs.{LaneChange.other_lane, Motion.Moves}, proofs.{MotionLaws.on_lane, Ring.car_in}}
+use Rattle.trlab_step.specs.{declared.tally.StepTally.StepTally, Run.{ComesTo, Seed, Sheet, dice_at}}
 use Rattle.trlab_step.specs.Answers.{AnswersCrossings, AnswersSpeeds, change_view_of, motion_view_of}
-use Rattle.trlab_step.specs.Laws.{IsLegalLike}
+use Rattle.trlab_step.{specs.Laws.IsLegalLike, proofs.{NextLaws.{like_itself, like_next}, Parts.same_view}}
 use Rattle.trlab_step.specs.Next.{IsLaneChangePhase, IsMotionPhase, crossing_cars, stopped_cars, total_speed}
-use Rattle.trlab_step.specs.Run.{ComesTo, Seed, Sheet, dice_at}
-use Rattle.trlab_step.proofs.NextLaws.{like_itself, like_next}
-use Rattle.trlab_step.proofs.Parts.{same_view}
-use Rattle.trlab_traffic.specs.Terms.{rotate_road, rotate_lane}
-use Rattle.trlab_traffic.specs.Invariance.{RunIsHomogeneous, StepIsHomogeneous}
-use Rattle.trlab_traffic.proofs.Steps.{next_legal_like}
-use Rattle.trlab_traffic.proofs.Rotation.{gap_turned, headspeed_turned, lane_crosses_turned, lane_moves_turned, lane_turned, side_turned, sideback_turned, sidegap_turned, turned_at, turned_car, sum_turned}
+use Rattle.trlab_traffic.specs.{Terms.{rotate_road, rotate_lane}, Invariance.RunIsHomogeneous}
+use Rattle.trlab_traffic.{specs.Invariance.StepIsHomogeneous, proofs.Steps.next_legal_like}
+use Rattle.trlab_traffic.proofs.Rotation.{gap_turned, headspeed_turned, lane_crosses_turned}
+use Rattle.trlab_traffic.proofs.Rotation.{lane_moves_turned, lane_turned, side_turned, sideback_turned}
+use Rattle.trlab_traffic.proofs.Rotation.{sidegap_turned, turned_at, turned_car, sum_turned}
 
 -- a place of the rotated road, as a place of the road
 abbrev place_before : ℕ → Cells → ℕ → ℕ → ℕ

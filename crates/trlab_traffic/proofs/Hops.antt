@@ -1,11 +1,9 @@
 -- One car of a ring hops into the next cell while all others brake: hops backwards lead from every ring to the one on
 -- which all cars are in the first cells.
-use Rattle.std.proofs.Common.{◌≡◌, ℕ, zero, suc, ◌≤◌, Bool, true, false, [], ◌∷◌, ◌++◌, length, get_or, refl, ◌∙◌, ap, arith}
-use Rattle.trlab_traffic.specs.LimitOne.{Ring, ring_after}
-use Rattle.trlab_traffic.specs.Stationary.{is_same}
-use Rattle.trlab_traffic.proofs.Chains.{kept, leaves, sets, trues}
-use Rattle.trlab_traffic.proofs.RingSteps.{cells, leaving, ring_after_is}
-use Rattle.trlab_traffic.proofs.Clusters.{falses}
+use Rattle.std.proofs.Common.{◌≡◌, ℕ, zero, suc, ◌≤◌, Bool, true, false, [], ◌∷◌, ◌++◌, length, get_or, refl}
+use Rattle.std.proofs.Common.{◌∙◌, ap, arith}
+use Rattle.trlab_traffic.{specs.LimitOne.{Ring, ring_after, is_same}, proofs.Chains.{kept, leaves, sets}}
+use Rattle.trlab_traffic.proofs.{Chains.trues, RingSteps.{cells, leaving, ring_after_is}, Clusters.falses}
 
 -- a car that hops into the next cell, and the set of all other cars
 abbrev pub before_hop : Ring → Ring → Ring

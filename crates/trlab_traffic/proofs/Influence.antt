@@ -1,37 +1,25 @@
 -- Where nobody changes lanes, a lane depends only on its own cars, and a cell only on those near it.
-use Rattle.std.proofs.Common.{◌≡◌, ℕ, zero, suc, Some, [], length, refl, sym, ◌∙◌, ap, subst, inl, inr, arith, ◌⊎◌, ◌+◌, ◌-◌, ◌*◌, ◌<◌, ◌≤◌, Bool, true, false, is_some, None}
-use Rattle.std.proofs.lemmas.Bool.{cases_lt}
-use Rattle.std.proofs.lemmas.List.{get_or_past}
-use Rattle.std.specs.Prelude.{slice_index}
-use Rattle.trlab_words.specs.Chances.{happens_on}
-use Rattle.trlab_code.specs.declared.program.Kind.TheVariants.{Motion}
-use Rattle.trlab_code.specs.declared.view.View.{View}
+use Rattle.std.proofs.Common.{◌≡◌, ℕ, zero, suc, Some, [], length, refl, sym, ◌∙◌, ap, subst, inl, inr, arith}
+use Rattle.std.proofs.Common.{◌⊎◌, ◌+◌, ◌-◌, ◌*◌, ◌<◌, ◌≤◌, Bool, true, false, is_some, None, slice_index}
+use Rattle.std.proofs.lemmas.{Bool.cases_lt, List.get_or_past}
+use Rattle.trlab_words.specs.Words.{happens_on}
+use Rattle.trlab_code.specs.declared.{program.Kind.TheVariants.Motion, view.View.View}
 use Rattle.trlab_code.specs.Machine.{EndsWith, Goes}
-use Rattle.trlab_road.specs.Cells.{Cells, Lane, at, lane_of, Cell}
-use Rattle.trlab_road.specs.Gaps.{ahead, gap, headspeed}
-use Rattle.trlab_road.specs.Motion.{LaneMoves, Moves}
-use Rattle.trlab_road.proofs.MotionLaws.{one_lane_only}
-use Rattle.trlab_road.proofs.Ring.{car_in, clear_within_gap, ends_before, inside}
-use Rattle.trlab_road.specs.Legal.{IsLegal}
-use Rattle.trlab_road.proofs.ListGaps.{clear_from}
+use Rattle.trlab_road.specs.{Cells.{Cells, Lane, at, lane_of, Cell, IsLegal}, Gaps.{ahead, gap, headspeed}}
+use Rattle.trlab_road.{specs.Motion.{LaneMoves, Moves}, proofs.MotionLaws.one_lane_only}
+use Rattle.trlab_road.proofs.{Ring.{car_in, clear_within_gap, ends_before, inside}, ListGaps.clear_from}
 use Rattle.trlab_rules.specs.Rules.{Programs, ComputesSpeed}
 use Rattle.trlab_rules.specs.Published.{brake, nasch_speed, safe_speed, vdr_braking_chance}
-use Rattle.trlab_machine.specs.Blocks.{words_of}
-use Rattle.trlab_machine.specs.declared.dice.Dice.{Dice}
-use Rattle.trlab_step.specs.Answers.{motion_view_of}
-use Rattle.trlab_step.specs.Next.{IsNext}
-use Rattle.trlab_step.specs.Run.{dice_at, IsRoadAt, Seed}
-use Rattle.trlab_step.proofs.Parts.{same_view}
-use Rattle.trlab_step.proofs.PartLaws.{one_answer_each}
-use Rattle.trlab_step.proofs.RunLaws.{force_all}
-use Rattle.trlab_step.specs.declared.tally.StepTally.{StepTally}
+use Rattle.trlab_machine.specs.{Blocks.words_of, declared.dice.Dice.Dice}
+use Rattle.trlab_step.specs.{Answers.motion_view_of, Next.IsNext, Run.{dice_at, IsRoadAt, Seed}}
+use Rattle.trlab_step.{specs.declared.tally.StepTally.StepTally, proofs.Parts.same_view}
+use Rattle.trlab_step.proofs.{PartLaws.one_answer_each, RunLaws.force_all}
 use Rattle.trlab_traffic.specs.Terms.{StaysInLane, seed_from, always}
-use Rattle.trlab_traffic.specs.Invariance.{RunKeepsLanesApart, ShareLane, StepKeepsLanesApart, NaschHasLightCone, ShareCells, StaysInLightCone, VdrHasLightCone}
-use Rattle.trlab_traffic.proofs.Lanes.{ahead_below, ahead_more, ahead_none, ahead_once, clear_is_gap, gap_below}
-use Rattle.trlab_traffic.proofs.Steps.{motion_alone, answers_fit, answered}
-use Rattle.trlab_traffic.proofs.FreeFlow.{one_rule}
-use Rattle.trlab_traffic.proofs.Gaps.{next_taken}
-use Rattle.trlab_traffic.proofs.Courses.{run_like}
+use Rattle.trlab_traffic.specs.Invariance.{RunKeepsLanesApart, ShareLane, StepKeepsLanesApart}
+use Rattle.trlab_traffic.specs.Invariance.{NaschHasLightCone, ShareCells, StaysInLightCone, VdrHasLightCone}
+use Rattle.trlab_traffic.proofs.Lanes.{ahead_below, ahead_more, ahead_none, ahead_once, clear_is_gap}
+use Rattle.trlab_traffic.proofs.{Lanes.gap_below, Steps.{motion_alone, answers_fit, answered}}
+use Rattle.trlab_traffic.proofs.{FreeFlow.one_rule, Gaps.next_taken, Courses.run_like}
 
 -- the motion of a lane depends on the answers only at cars
 pub lane_moves_by : (answer other : ℕ → ℕ) (old new : Lane) → ((x number speed : ℕ) → at old x ≡ Some (number, speed) → answer x ≡ other x) → LaneMoves answer old new → LaneMoves other old new

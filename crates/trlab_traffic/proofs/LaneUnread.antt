@@ -1,16 +1,19 @@
 -- A program that does not read the lane of its car ends the same on both lanes.
-use Rattle.std.proofs.Common.{◌≡◌, ◌&&◌, ◌||◌, ℕ, zero, suc, ◌+◌, ◌*◌, ◌/◌, not, min, max, Bool, true, false, cond, Option, Some, None, List, refl, sym, ◌∙◌, ap, subst}
-use Rattle.std.specs.Prelude.{All, nat_eq, nat_le, nat_lt, slice_get}
-use Rattle.std.proofs.lemmas.Option.{get_or_from_slice_get, slice_get_within}
-use Rattle.trlab_code.specs.declared.program.Kind.{Kind}
-use Rattle.trlab_code.specs.declared.instruction.Input.{Input}
-use Rattle.trlab_code.specs.declared.instruction.Input.TheVariants.{Speed, Limit, Gap, SideGap, SideBack, Lane, Headspeed}
-use Rattle.trlab_code.specs.declared.instruction.Instr.{Instr}
-use Rattle.trlab_code.specs.declared.instruction.Instr.TheVariants.{Num, Get, Side, Draw, Copy, Add, Sub, Mul, Div, Min, Max, Not, And, Or, Jump, JumpLess, JumpAtMost, JumpTrue, JumpFalse, Go, Cross, Stay}
+use Rattle.std.proofs.Common.{◌≡◌, ◌&&◌, ◌||◌, ℕ, zero, suc, ◌+◌, ◌*◌, ◌/◌, not, min, max, Bool, true, false}
+use Rattle.std.proofs.Common.{cond, Option, Some, None, List, refl, sym, ◌∙◌, ap, subst, All, nat_eq, nat_le}
+use Rattle.std.proofs.{Common.{nat_lt, slice_get}, lemmas.Option.{get_or_from_slice_get, slice_get_within}}
+use Rattle.trlab_code.specs.declared.{program.Kind.Kind, view.View.View}
+use Rattle.trlab_code.specs.declared.instruction.{Input.Input, Instr.{Instr, TheVariants.{Go, Cross, Stay}}}
+use Rattle.trlab_code.specs.declared.instruction.Input.TheVariants.{Speed, Limit, Gap, SideGap, SideBack}
+use Rattle.trlab_code.specs.declared.instruction.{Input.TheVariants.{Lane, Headspeed}, Register.Register}
+use Rattle.trlab_code.specs.declared.instruction.Instr.TheVariants.{Num, Get, Side, Draw, Copy, Add, Sub, Mul}
+use Rattle.trlab_code.specs.declared.instruction.Instr.TheVariants.{Div, Min, Max, Not, And, Or, Jump}
+use Rattle.trlab_code.specs.declared.instruction.Instr.TheVariants.{JumpLess, JumpAtMost, JumpTrue, JumpFalse}
+use Rattle.trlab_code.specs.Machine.{Answer, At, Done, Effect, EndsFrom, EndsWith, Ends, Falls, Flag, Goes}
+use Rattle.trlab_code.specs.Machine.{Jumps, MachineState, Sticks, Store, Stuck, Value, Writes, allows, effect}
+use Rattle.trlab_code.specs.Machine.{end_if, execute, jump_if, on_any, on_flag, on_number, variable_number}
+use Rattle.trlab_code.specs.Machine.{start, state_after, step, update, write_difference, write_u32, Number}
 use Rattle.trlab_code.specs.declared.instruction.Variable.TheVariants as variable
-use Rattle.trlab_code.specs.declared.instruction.Register.{Register}
-use Rattle.trlab_code.specs.declared.view.View.{View}
-use Rattle.trlab_code.specs.Machine.{Answer, At, Done, Effect, EndsFrom, EndsWith, Ends, Falls, Flag, Goes, Jumps, MachineState, Sticks, Store, Stuck, Value, Writes, allows, effect, end_if, execute, jump_if, on_any, on_flag, on_number, variable_number, start, state_after, step, update, write_difference, write_u32, Number}
 use Rattle.trlab_traffic.specs.Invariance.{reads_lane}
 
 -- two stores differ only in the lane

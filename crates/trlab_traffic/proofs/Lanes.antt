@@ -1,22 +1,18 @@
 -- Lanes: places on the ring, sums over lanes and over the cars of a lane, and lanes that roads keep.
-use Rattle.std.proofs.Common.{◌≡◌, ℕ, zero, suc, ◌+◌, ◌-◌, ◌*◌, ◌/◌, ◌%◌, ◌<◌, ◌≤◌, Bool, true, Some, length, sym, ◌∙◌, ap, inl, inr, arith, mod-eq_of_lt, mod-lt, ◌≢◌, ◌⊎◌, min, cond, None, List, [], ◌∷◌, get_or, refl, subst, Option}
+use Rattle.std.proofs.Common.{◌≡◌, ℕ, zero, suc, ◌+◌, ◌-◌, ◌*◌, ◌/◌, ◌%◌, ◌<◌, ◌≤◌, Bool, true, Some, length}
+use Rattle.std.proofs.Common.{sym, ◌∙◌, ap, inl, inr, arith, mod-eq_of_lt, mod-lt, ◌≢◌, ◌⊎◌, min, cond, None}
+use Rattle.std.proofs.Common.{List, [], ◌∷◌, get_or, refl, subst, Option, true≢false, eq-eqb, le-ltb, lt-ltb}
+use Rattle.std.proofs.Common.{ne_eqb, nat_eq, nat_lt, sum_by}
 use Rattle.std.proofs.Math.Nat.{add-mod_right, add-mul-mod_self_left, div-add-mod, mod-add-mod, mod_self}
-use Rattle.std.proofs.lemmas.Bool.{cases_Bool, cases_eq, cond-true, cond-false, true≢false, cases_lt, eq-eqb, le-ltb, lt-ltb, ne_eqb}
-use Rattle.std.specs.Prelude.{nat_eq, nat_lt, sum_by}
-use Rattle.std.specs.List.{range_with_len}
-use Rattle.std.proofs.lemmas.List.Sums.{sum_by-append, sum_by-cons}
-use Rattle.trlab_road.specs.Cells.{Lane, at, Cell, Cells, lane_of}
-use Rattle.trlab_road.specs.Gaps.{ahead, behind, gap, largest, is_clear}
-use Rattle.trlab_road.specs.Motion.{IsClearAhead}
-use Rattle.trlab_road.proofs.ListGaps.{clear_from}
-use Rattle.trlab_road.proofs.Ring.{inside, car_in}
-use Rattle.trlab_road.specs.declared.car.Car.{Car}
-use Rattle.trlab_road.specs.Standing.{standing_from, standing_from_lane}
+use Rattle.std.proofs.lemmas.Bool.{cases_Bool, cases_eq, cond-true, cond-false, cases_lt}
+use Rattle.std.{proofs.lemmas.List.Sums.{sum_by-append, sum_by-cons}, specs.List.range_with_len}
+use Rattle.trlab_road.specs.Cells.{Lane, at, Cell, Cells, lane_of, standing_from, standing_from_lane}
+use Rattle.trlab_road.specs.{Gaps.{ahead, behind, gap, largest, is_clear}, Motion.IsClearAhead}
+use Rattle.trlab_road.{specs.declared.car.Car.Car, proofs.{ListGaps.clear_from, Ring.{inside, car_in}}}
 use Rattle.trlab_rules.specs.Rules.{Programs}
 use Rattle.trlab_machine.specs.declared.dice.Dice.{Dice}
 use Rattle.trlab_verify.specs.Verified.{CheckedProgram}
-use Rattle.trlab_step.specs.declared.tally.StepTally.{StepTally}
-use Rattle.trlab_step.specs.Next.{IsLaneChangePhase, IsNext}
+use Rattle.trlab_step.specs.{declared.tally.StepTally.StepTally, Next.{IsLaneChangePhase, IsNext}}
 use Rattle.trlab_step.specs.Run.{ComesTo, Seed, Sheet, dice_at}
 
 -- Places on the ring: distances ahead, one after another, and back.

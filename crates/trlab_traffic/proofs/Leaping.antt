@@ -1,18 +1,16 @@
 -- A lane whose cars move at the limit or by their gaps, whichever is smaller: its cars are the slope of
 -- heights.
-use Rattle.std.proofs.Common.{◌≡◌, ◌≢◌, ℕ, zero, suc, ◌+◌, ◌-◌, ◌*◌, ◌%◌, ◌<◌, ◌≤◌, min, max, Bool, true, false, is_some, Some, None, length, refl, sym, ◌∙◌, ap, subst, inl, inr, arith, mod-eq_of_lt, mul-suc}
-use Rattle.std.proofs.Math.Nat.{add-mod_right, add-mul-mod_self_right, mod-add-mod, mod-lt}
-use Rattle.std.proofs.lemmas.Bool.{cases_lt}
-use Rattle.trlab_road.specs.Cells.{Cell, Lane, at, lane_car_count}
-use Rattle.trlab_road.specs.Gaps.{ahead, gap}
-use Rattle.trlab_road.specs.Motion.{IsClearAhead, LaneFits, LaneMoves}
-use Rattle.trlab_road.proofs.Ring.{blocked, clear_within_gap, inside}
-use Rattle.trlab_traffic.specs.Terms.{is_taken}
-use Rattle.trlab_traffic.specs.LimitOne.{digit}
-use Rattle.trlab_traffic.proofs.Lanes.{ahead_none, ahead_once, clear_is_gap, total_last, total_same}
-use Rattle.trlab_traffic.proofs.Gaps.{left_free}
-use Rattle.trlab_traffic.proofs.Wolfram.{gap_none, gap_some}
-use Rattle.trlab_traffic.proofs.Heights.{digit_at, digits_again, digits_total, height, last_of, rises_fast, rises_slowly, window, window_has, window_last, window_none, window_slides}
+use Rattle.std.proofs.Common.{◌≡◌, ◌≢◌, ℕ, zero, suc, ◌+◌, ◌-◌, ◌*◌, ◌%◌, ◌<◌, ◌≤◌, min, max, Bool, true}
+use Rattle.std.proofs.Common.{false, is_some, Some, None, length, refl, sym, ◌∙◌, ap, subst, inl, inr, arith}
+use Rattle.std.proofs.Common.{mod-eq_of_lt, mul-suc, mod-lt}
+use Rattle.std.proofs.{Math.Nat.{add-mod_right, add-mul-mod_self_right, mod-add-mod}, lemmas.Bool.cases_lt}
+use Rattle.trlab_road.specs.{Cells.{Cell, Lane, at, lane_car_count}, Gaps.{ahead, gap}, Motion.IsClearAhead}
+use Rattle.trlab_road.{specs.Motion.{LaneFits, LaneMoves}, proofs.Ring.{blocked, clear_within_gap, inside}}
+use Rattle.trlab_traffic.{specs.{Terms.is_taken, LimitOne.digit}, proofs.Lanes.{ahead_none, ahead_once}}
+use Rattle.trlab_traffic.proofs.{Lanes.{clear_is_gap, total_last, total_same}, Gaps.left_free}
+use Rattle.trlab_traffic.proofs.{Wolfram.{gap_none, gap_some}, Heights.{digit_at, digits_again, digits_total}}
+use Rattle.trlab_traffic.proofs.Heights.{height, last_of, rises_fast, rises_slowly, window, window_has}
+use Rattle.trlab_traffic.proofs.Heights.{window_last, window_none, window_slides}
 
 -- a digit of 1 is a car, and one of 0 an empty cell
 pub one_is_car : (lane : Lane) (x : ℕ) → 1 ≤ digit (is_taken lane x) → (car : ℕ × ℕ) × (at lane x ≡ Some car)

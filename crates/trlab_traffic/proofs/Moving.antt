@@ -1,29 +1,27 @@
 -- Moving cars go at least one cell and at most as many as the limit, few cars change lanes, and no flow is above the
 -- peak of the triangle.
-use Rattle.std.proofs.Common.{◌≡◌, ℕ, zero, suc, ◌+◌, ◌-◌, ◌*◌, ◌≤◌, Bool, true, false, cond, List, [], ◌∷◌, length, get_or, sym, ◌∙◌, ap, subst, inl, inr, arith, mul-add, mul-suc, mul_assoc, mul_comm, suc-mul, true≢false, if◌then◌else◌, is_none, Option, Some, None, refl}
-use Rattle.std.specs.Prelude.{All, count_by, nat_eq, nat_le, sum_by}
-use Rattle.std.proofs.lemmas.Bool.{cases_eq, cases_lt, eq-eqb, le-leb, lt-leb, ne_eqb, cases_Bool}
+use Rattle.std.proofs.Common.{◌≡◌, ℕ, zero, suc, ◌+◌, ◌-◌, ◌*◌, ◌≤◌, Bool, true, false, cond, List, [], ◌∷◌}
+use Rattle.std.proofs.Common.{length, get_or, sym, ◌∙◌, ap, subst, inl, inr, arith, mul-add, mul-suc}
+use Rattle.std.proofs.Common.{mul_assoc, mul_comm, suc-mul, true≢false, if◌then◌else◌, is_none, Option, Some}
+use Rattle.std.proofs.Common.{None, refl, All, count_by, nat_eq, nat_le, sum_by, eq-eqb, le-leb, ne_eqb}
+use Rattle.std.proofs.lemmas.Bool.{cases_eq, cases_lt, lt-leb, cases_Bool}
 use Rattle.std.proofs.lemmas.List.Sums.{sum_by-cons, sum_by-append, sum_by-le}
-use Rattle.trlab_road.specs.declared.car.Car.{Car}
-use Rattle.trlab_road.specs.Cells.{Cells, cars, Cell, Lane, at, cell, lane_of}
-use Rattle.trlab_road.specs.Legal.{IsLegal}
-use Rattle.trlab_road.specs.Standing.{standing, standing_from, standing_from_lane}
-use Rattle.trlab_road.proofs.StandingOrder.{length-standing_from_lane, standing_cell}
+use Rattle.trlab_road.specs.{declared.car.Car.Car, Cells.{Cells, cars, Cell, Lane, at, cell, lane_of}}
+use Rattle.trlab_road.specs.Cells.{IsLegal, standing, standing_from, standing_from_lane}
 use Rattle.trlab_road.specs.LaneChange.{CrossesToEmpty, other_lane}
-use Rattle.trlab_road.proofs.Ring.{car_in}
+use Rattle.trlab_road.proofs.{StandingOrder.{length-standing_from_lane, standing_cell}, Ring.car_in}
 use Rattle.trlab_rules.specs.Rules.{Programs}
 use Rattle.trlab_machine.specs.declared.dice.Dice.{Dice}
 use Rattle.trlab_verify.specs.Verified.{CheckedProgram}
-use Rattle.trlab_step.specs.declared.tally.StepTally.{StepTally}
-use Rattle.trlab_step.specs.Next.{IsNext, IsLaneChangePhase}
+use Rattle.trlab_step.specs.{declared.tally.StepTally.StepTally, Next.{IsNext, IsLaneChangePhase}}
 use Rattle.trlab_step.specs.Run.{ComesTo, Seed, Sheet, dice_at, tally_sum}
-use Rattle.trlab_traffic.specs.Terms.{all_cells, empty_cells, lane_empty_cells}
-use Rattle.trlab_traffic.specs.Bounds.{RunKeepsBelowPeak, BoundsMovingSpeed, RunBoundsMovingSpeed, StepBoundsMovingSpeed, BoundsLaneChanges, RunBoundsLaneChanges, StepBoundsLaneChanges}
-use Rattle.trlab_traffic.proofs.Lanes.{sum_of_cells, total, total_same, weight}
-use Rattle.trlab_traffic.proofs.Steps.{next_legal_like, crossings_free}
-use Rattle.trlab_traffic.proofs.RoomAhead.{taken_or_empty, empty-none, empty-some}
-use Rattle.trlab_traffic.proofs.Capacities.{run_stays_under_triangle, next_cells}
-use Rattle.trlab_traffic.proofs.Courses.{run_like, total_le}
+use Rattle.trlab_traffic.specs.{Terms.{all_cells, empty_cells, lane_empty_cells}, Bounds.RunKeepsBelowPeak}
+use Rattle.trlab_traffic.specs.Bounds.{BoundsMovingSpeed, RunBoundsMovingSpeed, StepBoundsMovingSpeed}
+use Rattle.trlab_traffic.specs.Bounds.{BoundsLaneChanges, RunBoundsLaneChanges, StepBoundsLaneChanges}
+use Rattle.trlab_traffic.proofs.{Lanes.{sum_of_cells, total, total_same, weight}, Steps.next_legal_like}
+use Rattle.trlab_traffic.proofs.{Steps.crossings_free, RoomAhead.{taken_or_empty, empty-none, empty-some}}
+use Rattle.trlab_traffic.proofs.{Capacities.{run_stays_under_triangle, next_cells}, Courses.run_like}
+use Rattle.trlab_traffic.proofs.Courses.{total_le}
 
 -- the speeds of cars, and how many of them are 0
 record Bounds (v : ℕ) (xs : List Car) : Type 0 where

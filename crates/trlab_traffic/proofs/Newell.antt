@@ -1,31 +1,25 @@
 -- The minimum principle: the distance of each car is the smallest of the bounds that the cars ahead of it
 -- set.
-use Rattle.std.proofs.Common.{◌≡◌, ℕ, zero, suc, ◌+◌, ◌-◌, ◌*◌, ◌<◌, ◌≤◌, min, Some, length, refl, sym, ◌∙◌, ap, subst, inl, inr, arith, mul-suc, mul-zero}
-use Rattle.std.specs.Prelude.{slice_index}
+use Rattle.std.proofs.Common.{◌≡◌, ℕ, zero, suc, ◌+◌, ◌-◌, ◌*◌, ◌<◌, ◌≤◌, min, Some, length, refl, sym, ◌∙◌}
+use Rattle.std.proofs.Common.{ap, subst, inl, inr, arith, mul-suc, mul-zero, slice_index}
 use Rattle.std.proofs.lemmas.Bool.{cases_lt}
-use Rattle.trlab_words.specs.Chances.{happens_on}
+use Rattle.trlab_words.specs.Words.{happens_on}
 use Rattle.trlab_machine.specs.Blocks.{words_of}
-use Rattle.trlab_road.specs.declared.car.Car.{Car}
-use Rattle.trlab_road.specs.Cells.{Cells, IsAt, Lane, cars, lane_of}
-use Rattle.trlab_road.specs.Gaps.{gap, next_place}
-use Rattle.trlab_road.specs.Legal.{IsLegal}
-use Rattle.trlab_road.proofs.MotionLaws.{on_lane}
-use Rattle.trlab_rules.specs.Rules.{ComputesSpeed, Programs, IsNasch}
-use Rattle.trlab_rules.specs.Published.{nasch_speed, safe_speed}
-use Rattle.trlab_step.specs.Answers.{AnswersSpeed}
-use Rattle.trlab_step.specs.declared.tally.StepTally.{StepTally}
-use Rattle.trlab_step.specs.Laws.{IsLegalLike}
+use Rattle.trlab_road.specs.{declared.car.Car.Car, Cells.{Cells, IsAt, Lane, cars, lane_of, IsLegal}}
+use Rattle.trlab_road.{specs.Gaps.{gap, next_place}, proofs.MotionLaws.on_lane}
+use Rattle.trlab_rules.specs.{Rules.{ComputesSpeed, Programs, IsNasch}, Published.{nasch_speed, safe_speed}}
+use Rattle.trlab_step.specs.{Answers.AnswersSpeed, declared.tally.StepTally.StepTally, Laws.IsLegalLike}
 use Rattle.trlab_step.specs.Run.{ComesTo, IsRoadAt, IsSheet, Seed, Sheet, dice_at, in_force, no_tally}
 use Rattle.trlab_step.proofs.RunLaws.{force_all, road_at_is_one}
 use Rattle.trlab_traffic.specs.Terms.{EachRule, StaysInLane, always}
-use Rattle.trlab_traffic.specs.Following.{HasGone}
-use Rattle.trlab_traffic.specs.Comparison.{ReachesSpeedAtOnce}
-use Rattle.trlab_traffic.specs.Waves.{MinimumPrinciple, MinimumPrincipleGivesDistance, MinimumPrincipleLater, NobodyBeatsMinimumPrinciple, Rule184MinimumPrinciple, gaps_ahead, newell_distance, smallest_to, AcceleratesIn}
-use Rattle.trlab_traffic.proofs.Steps.{answers_fit, motion_alone, never}
-use Rattle.trlab_traffic.proofs.FreeFlow.{one_rule}
-use Rattle.trlab_traffic.proofs.Courses.{Course, Start, course_of_start, course_on, gap_of, moved, started, within_gap, each_car_has_gone, go_distance, gone_is_one, run_like, choose, sum_of_standing}
-use Rattle.trlab_traffic.proofs.Fastest.{always_so, answer_is, no_brake}
-use Rattle.trlab_traffic.proofs.Relaxation.{cells_suffice, lane_of_run}
+use Rattle.trlab_traffic.{specs.Following.HasGone, proofs.Fastest.{always_so, answer_is, no_brake}}
+use Rattle.trlab_traffic.{specs.Comparison.ReachesSpeedAtOnce, proofs.Relaxation.{cells_suffice, lane_of_run}}
+use Rattle.trlab_traffic.specs.Waves.{MinimumPrinciple, MinimumPrincipleGivesDistance, MinimumPrincipleLater}
+use Rattle.trlab_traffic.specs.Waves.{NobodyBeatsMinimumPrinciple, Rule184MinimumPrinciple, gaps_ahead}
+use Rattle.trlab_traffic.{specs.Waves.{newell_distance, smallest_to, AcceleratesIn}, proofs.FreeFlow.one_rule}
+use Rattle.trlab_traffic.proofs.{Steps.{answers_fit, motion_alone, never}, Courses.{choose, sum_of_standing}}
+use Rattle.trlab_traffic.proofs.Courses.{Course, Start, course_of_start, course_on, gap_of, moved, started}
+use Rattle.trlab_traffic.proofs.Courses.{within_gap, each_car_has_gone, go_distance, gone_is_one, run_like}
 
 -- the minimum of some numbers is at most each of them
 pub smallest_least : (f : ℕ → ℕ) (n j : ℕ) → j ≤ n → smallest_to n f ≤ f j

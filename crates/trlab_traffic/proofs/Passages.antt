@@ -1,26 +1,20 @@
 -- A detector counts one car in a step at most, and in v + 1 steps in a row, where v is the limit, not one in every
 -- step: there is room between its passages.
-use Rattle.std.proofs.Common.{◌≡◌, ℕ, ◌+◌, ◌-◌, ◌<◌, ◌≤◌, ◌⊎◌, cond, Some, None, length, refl, sym, ◌∙◌, ap, subst, inl, inr, arith, zero, suc, true, is_some, Bool}
-use Rattle.std.specs.Prelude.{count_by, nat_le}
-use Rattle.std.proofs.lemmas.Bool.{cases_lt, le-leb, lt-leb}
-use Rattle.trlab_road.specs.declared.car.Car.{Car}
-use Rattle.trlab_road.specs.Cells.{Cell, Lane, at, lane_of, Cells}
-use Rattle.trlab_road.specs.Gaps.{ahead, gap}
-use Rattle.trlab_road.specs.Motion.{LaneFits, LaneMoves}
-use Rattle.trlab_road.specs.Standing.{standing_from}
+use Rattle.std.proofs.Common.{◌≡◌, ℕ, ◌+◌, ◌-◌, ◌<◌, ◌≤◌, ◌⊎◌, cond, Some, None, length, refl, sym, ◌∙◌, ap}
+use Rattle.std.proofs.Common.{subst, inl, inr, arith, zero, suc, true, is_some, Bool, count_by, nat_le}
+use Rattle.std.proofs.{Common.le-leb, lemmas.Bool.{cases_lt, lt-leb}}
+use Rattle.trlab_road.specs.{declared.car.Car.Car, Cells.{Cell, Lane, at, lane_of, Cells, standing_from}}
+use Rattle.trlab_road.specs.{Cells.IsLegal, Gaps.{ahead, gap}, Motion.{LaneFits, LaneMoves}}
 use Rattle.trlab_road.proofs.Ring.{car_in, clear_within_gap, inside}
-use Rattle.trlab_road.specs.Legal.{IsLegal}
-use Rattle.trlab_step.specs.Run.{IsRoadAt, Seed, Sheet, dice_at}
-use Rattle.trlab_step.proofs.RunLaws.{force_all, road_at_is_one}
-use Rattle.trlab_traffic.specs.Terms.{is_taken, EachRule, StaysInLane}
-use Rattle.trlab_traffic.specs.Detectors.{DetectorCountsAtMostOne, passages, passes, place_before_motion, cells_ahead_to, cars_ahead_of, DetectorHasCounted, DetectorCountsBelowPeak}
-use Rattle.trlab_traffic.proofs.Lanes.{ahead_below, ahead_more, ahead_once, below_cases, below_is, cell_sum, in_cell, single, total, weight, ahead_none, below}
-use Rattle.trlab_traffic.proofs.Steps.{answers_fit, motion_alone}
-use Rattle.trlab_traffic.proofs.Courses.{run_like}
-use Rattle.trlab_traffic.proofs.Influence.{any_lane}
+use Rattle.trlab_step.{specs.Run.{IsRoadAt, Seed, Sheet, dice_at}, proofs.RunLaws.{force_all, road_at_is_one}}
+use Rattle.trlab_traffic.specs.{Terms.{is_taken, EachRule, StaysInLane}, Detectors.DetectorCountsAtMostOne}
+use Rattle.trlab_traffic.specs.Detectors.{passages, has_passed, place_before_motion, cells_ahead_to}
+use Rattle.trlab_traffic.specs.Detectors.{cars_ahead_of, DetectorHasCounted, DetectorCountsBelowPeak}
+use Rattle.trlab_traffic.proofs.Lanes.{ahead_below, ahead_more, ahead_once, below_cases, below_is, cell_sum}
+use Rattle.trlab_traffic.proofs.{Lanes.{in_cell, single, total, weight, ahead_none, below}, Steps.answers_fit}
+use Rattle.trlab_traffic.proofs.{Steps.motion_alone, Courses.run_like, Influence.any_lane}
 use Rattle.trlab_traffic.proofs.Detecting.{any_lane_fits, came_from, way_reaches, step_is_continuous}
-use Rattle.trlab_traffic.proofs.FewCars.{run_cars}
-use Rattle.trlab_traffic.proofs.DetectingRuns.{counted_so, uncounted_so}
+use Rattle.trlab_traffic.proofs.{FewCars.run_cars, DetectingRuns.{counted_so, uncounted_so}}
 
 module _ (answer : ℕ → ℕ) (old new : Lane) (m : LaneMoves answer old new) (fits : LaneFits answer old) (x : ℕ) (x_low : x < length old) where
   -- of two cars that pass a detector, neither is behind the other
@@ -38,9 +32,9 @@ module _ (answer : ℕ → ℕ) (old new : Lane) (m : LaneMoves answer old new) 
       absurd cc
 
   abbrev passing_at : ℕ → ℕ
-  passing_at y = in_cell (λ (car : Car). cond (passes (length old) x car) 1 0) new y
+  passing_at y = in_cell (λ (car : Car). cond (has_passed (length old) x car) 1 0) new y
 
-  passing_cases : (y : ℕ) (here : Cell) → let w = weight (λ (car : Car). cond (passes (length old) x car) 1 0) 0 y here in (w ≡ 0) ⊎ (w ≡ 1)
+  passing_cases : (y : ℕ) (here : Cell) → let w = weight (λ (car : Car). cond (has_passed (length old) x car) 1 0) 0 y here in (w ≡ 0) ⊎ (w ≡ 1)
   passing_cases y None = inl refl
   passing_cases y (Some car) = below_cases (cells_ahead_to (length old) (place_before_motion (length old) (car_in 0 y car.0 car.1)) x) car.1
 
@@ -51,7 +45,7 @@ module _ (answer : ℕ → ℕ) (old new : Lane) (m : LaneMoves answer old new) 
     there : at new y ≡ Some (number, speed)
     far : cells_ahead_to (length old) (place_before_motion (length old) (car_in 0 y number speed)) x < speed
 
-  passing_car : (y : ℕ) (here : Cell) → at new y ≡ here → weight (λ (car : Car). cond (passes (length old) x car) 1 0) 0 y here ≡ 1 → Passing y
+  passing_car : (y : ℕ) (here : Cell) → at new y ≡ here → weight (λ (car : Car). cond (has_passed (length old) x car) 1 0) 0 y here ≡ 1 → Passing y
   passing_car y None there passed = absurd (omega (arith, passed))
   passing_car y (Some car) there passed = record { number = car.0; speed = car.1; there = there; far = below_is (cells_ahead_to (length old) (place_before_motion (length old) (car_in 0 y car.0 car.1)) x) car.1 passed }
 
@@ -83,8 +77,8 @@ module _ (answer : ℕ → ℕ) (old new : Lane) (m : LaneMoves answer old new) 
   pub one_at_most : passages new x ≤ 1
   one_at_most =
       let n = length old in
-      let f : Car → ℕ = λ car. cond (passes n x car) 1 0 in
-      let are = ap (λ k. count_by (passes k x) (standing_from 0 0 new)) m.same_length ∙ cell_sum f new ∙ ap (total (in_cell f new)) m.same_length in
+      let f : Car → ℕ = λ car. cond (has_passed n x car) 1 0 in
+      let are = ap (λ k. count_by (has_passed k x) (standing_from 0 0 new)) m.same_length ∙ cell_sum f new ∙ ap (total (in_cell f new)) m.same_length in
       let all = single passing_at n (λ y low. passing_cases y (at new y)) (λ y z low high a b. one_passes y z (passing_car y (at new y) refl a) (passing_car z (at new z) refl b)) in
       omega (arith, are, all)
 
@@ -120,7 +114,7 @@ module _ (answer : ℕ → ℕ) (old new : Lane) (m : LaneMoves answer old new) 
     was : at old from ≡ Some (number, before)
     far : cells_ahead_to (length old) from x < answer from
 
-  passer_at : (x y : ℕ) (here : Cell) → at new y ≡ here → 1 ≤ weight (λ (car : Car). cond (passes (length old) x car) 1 0) 0 y here → Passer x
+  passer_at : (x y : ℕ) (here : Cell) → at new y ≡ here → 1 ≤ weight (λ (car : Car). cond (has_passed (length old) x car) 1 0) 0 y here → Passer x
   passer_at x y None there some = absurd (omega (arith, some))
   passer_at x y (Some car) there some =
       let came = came_from answer old new m fits y car.0 car.1 there in
@@ -135,8 +129,8 @@ module _ (answer : ℕ → ℕ) (old new : Lane) (m : LaneMoves answer old new) 
 
   passer : (x : ℕ) → 1 ≤ passages new x → Passer x
   passer x some =
-      let f : Car → ℕ = λ car. cond (passes (length old) x car) 1 0 in
-      let are = ap (λ k. count_by (passes k x) (standing_from 0 0 new)) m.same_length ∙ cell_sum f new in
+      let f : Car → ℕ = λ car. cond (has_passed (length old) x car) 1 0 in
+      let are = ap (λ k. count_by (has_passed k x) (standing_from 0 0 new)) m.same_length ∙ cell_sum f new in
       let found = some_value (in_cell f new) (length new) (omega (arith, some, are)) in
       passer_at x found.0 (at new found.0) refl found.1.1
 

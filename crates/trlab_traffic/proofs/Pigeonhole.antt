@@ -1,8 +1,8 @@
 -- The pigeonhole principle: among more numbers than values two have the same value. Also: numbers made of
 -- digits.
-use Rattle.std.proofs.Common.{◌≡◌, ◌≢◌, ℕ, zero, suc, ◌+◌, ◌-◌, ◌*◌, ◌^◌, ◌<◌, ◌≤◌, ◌⊎◌, cond, ltb, sym, ◌∙◌, ap, subst, inl, inr, arith}
-use Rattle.std.proofs.Math.Nat.{pow-succ', pow-zero}
-use Rattle.std.proofs.lemmas.Bool.{cases_eq, cases_lt, cond-false, cond-true, le-ltb, lt-ltb}
+use Rattle.std.proofs.Common.{◌≡◌, ◌≢◌, ℕ, zero, suc, ◌+◌, ◌-◌, ◌*◌, ◌^◌, ◌<◌, ◌≤◌, ◌⊎◌, cond, ltb, sym, ◌∙◌}
+use Rattle.std.proofs.{Common.{ap, subst, inl, inr, arith, le-ltb, lt-ltb}, Math.Nat.{pow-succ', pow-zero}}
+use Rattle.std.proofs.lemmas.Bool.{cases_eq, cases_lt, cond-false, cond-true}
 use Rattle.std.proofs.lemmas.Nat.{mul-add-lt, same_from_place}
 
 -- two numbers up to a bound at which a function has the same value

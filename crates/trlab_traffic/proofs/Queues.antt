@@ -1,32 +1,22 @@
 -- Queues: each car waits for the next car ahead, and then, with slow starts, until it does not brake.
-use Rattle.std.proofs.Common.{◌≡◌, ℕ, zero, suc, ◌+◌, ◌-◌, ◌%◌, ◌<◌, ◌≤◌, true, Some, None, length, refl, sym, ◌∙◌, ap, subst, inl, inr, arith, Bool, false}
-use Rattle.std.specs.Prelude.{is_some}
-use Rattle.std.proofs.Math.Nat.{add-mod-mod, add-mod_right, mod-lt}
-use Rattle.std.proofs.lemmas.Bool.{cases_lt, true≢false}
-use Rattle.trlab_words.specs.Chances.{happens_on}
-use Rattle.trlab_words.proofs.RandomWords.{slice_index-random_words}
-use Rattle.trlab_road.specs.Cells.{Cell, Cells, Lane, at, lane_of, IsAt}
-use Rattle.trlab_road.specs.Gaps.{ahead, behind, gap, next_place}
-use Rattle.trlab_road.specs.Legal.{IsLegal}
-use Rattle.trlab_road.proofs.MotionLaws.{on_lane}
-use Rattle.trlab_road.proofs.Ring.{car_in, clear_within_gap, ends_before, inside}
-use Rattle.trlab_road.specs.declared.car.Car.{Car}
-use Rattle.trlab_road.specs.Motion.{LaneFits, LaneMoves}
+use Rattle.std.proofs.Common.{◌≡◌, ℕ, zero, suc, ◌+◌, ◌-◌, ◌%◌, ◌<◌, ◌≤◌, true, Some, None, length, refl, sym}
+use Rattle.std.proofs.Common.{◌∙◌, ap, subst, inl, inr, arith, Bool, false, is_some, mod-lt, true≢false}
+use Rattle.std.proofs.{Math.Nat.{add-mod-mod, add-mod_right}, lemmas.Bool.cases_lt}
+use Rattle.trlab_words.{specs.Words.happens_on, proofs.RandomWords.slice_index-random_words}
+use Rattle.trlab_road.specs.{Cells.{Cell, Cells, Lane, at, lane_of, IsAt, IsLegal}, Gaps.{ahead, behind, gap}}
+use Rattle.trlab_road.specs.{Gaps.next_place, declared.car.Car.Car, Motion.{LaneFits, LaneMoves}}
+use Rattle.trlab_road.proofs.{MotionLaws.on_lane, Ring.{car_in, clear_within_gap, ends_before, inside}}
 use Rattle.trlab_rules.specs.Rules.{Programs, IsNasch, IsVdr}
 use Rattle.trlab_rules.specs.Published.{safe_speed, brake, nasch_speed, vdr_braking_chance}
-use Rattle.trlab_step.specs.Next.{IsNext}
-use Rattle.trlab_step.specs.Run.{IsRoadAt, Seed, Sheet, dice_at}
-use Rattle.trlab_step.proofs.RunLaws.{force_all}
-use Rattle.trlab_step.specs.Laws.{IsLegalLike}
-use Rattle.trlab_step.specs.Published.{happens_to}
-use Rattle.trlab_traffic.specs.Terms.{is_taken, EachRule, StaysInLane, always}
-use Rattle.trlab_traffic.specs.Jams.{IsQueue, QueueStarts, QueueWaits, IsFirstWithoutBraking, IsRightBehind, LeavesInStep, QueueFlowsOut}
-use Rattle.trlab_traffic.proofs.Lanes.{ahead_more, ahead_none, clear_is_gap, gap_below, run_lanes}
-use Rattle.trlab_traffic.proofs.Steps.{SafeMotion, safe_motion, answers_fit, next_legal_like, answered, motion_alone}
-use Rattle.trlab_traffic.proofs.FreeFlow.{one_rule}
-use Rattle.trlab_traffic.proofs.Gaps.{gap_after, car_without_gap_stops}
-use Rattle.trlab_traffic.proofs.Courses.{run_like, one_speed}
-use Rattle.trlab_traffic.proofs.Fastest.{always_so}
+use Rattle.trlab_step.specs.{Next.IsNext, Run.{IsRoadAt, Seed, Sheet, dice_at}, Laws.IsLegalLike}
+use Rattle.trlab_step.{specs.Published.happens_to, proofs.RunLaws.force_all}
+use Rattle.trlab_traffic.specs.{Terms.{is_taken, EachRule, StaysInLane, always}, FlowAndJams.IsQueue}
+use Rattle.trlab_traffic.specs.FlowAndJams.{QueueStarts, QueueWaits, IsFirstWithoutBraking, IsRightBehind}
+use Rattle.trlab_traffic.{specs.FlowAndJams.{LeavesInStep, QueueFlowsOut}, proofs.Lanes.ahead_more}
+use Rattle.trlab_traffic.proofs.{Lanes.{ahead_none, clear_is_gap, gap_below, run_lanes}, Steps.SafeMotion}
+use Rattle.trlab_traffic.proofs.Steps.{safe_motion, answers_fit, next_legal_like, answered, motion_alone}
+use Rattle.trlab_traffic.proofs.{FreeFlow.one_rule, Gaps.{gap_after, car_without_gap_stops}, Courses.run_like}
+use Rattle.trlab_traffic.proofs.{Courses.one_speed, Fastest.always_so}
 
 -- the car of a taken cell
 taken_car : (c : Cell) → is_some c ≡ true → (car : ℕ × ℕ) × (c ≡ Some car)

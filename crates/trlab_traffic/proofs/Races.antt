@@ -1,19 +1,13 @@
 -- Two runs from the same initial state without lane changes, car by car.
 use Rattle.std.proofs.Common.{◌≡◌, ℕ, zero, suc, ◌+◌, ◌<◌, ◌≤◌, Some, sym, ◌∙◌, subst, arith}
-use Rattle.trlab_road.specs.declared.car.Car.{Car}
-use Rattle.trlab_road.specs.Cells.{Cells, IsAt, cars}
-use Rattle.trlab_road.specs.Legal.{IsLegal}
+use Rattle.trlab_road.specs.{declared.car.Car.Car, Cells.{Cells, IsAt, cars, IsLegal}}
 use Rattle.trlab_rules.specs.Rules.{Programs}
-use Rattle.trlab_step.specs.declared.tally.StepTally.{StepTally}
-use Rattle.trlab_step.specs.Answers.{AnswersSpeed}
-use Rattle.trlab_step.specs.Laws.{IsLegalLike}
-use Rattle.trlab_step.specs.Run.{ComesTo, Seed, Sheet, dice_at, in_force}
-use Rattle.trlab_step.proofs.RunLaws.{force_all}
-use Rattle.trlab_traffic.specs.Terms.{EachRule, StaysInLane}
-use Rattle.trlab_traffic.specs.Following.{HasGone}
-use Rattle.trlab_traffic.specs.Comparison.{IsNoFaster}
+use Rattle.trlab_step.specs.{declared.tally.StepTally.StepTally, Answers.AnswersSpeed, Laws.IsLegalLike}
+use Rattle.trlab_step.{specs.Run.{ComesTo, Seed, Sheet, dice_at, in_force}, proofs.RunLaws.force_all}
+use Rattle.trlab_traffic.specs.{Terms.{EachRule, StaysInLane}, Following.HasGone, Comparison.IsNoFaster}
 use Rattle.trlab_traffic.proofs.Steps.{answers_fit, motion_alone}
-use Rattle.trlab_traffic.proofs.Courses.{Course, course_of_start, course_on, gap_of, gap_on, moved, Start, within_gap, go_distance, gone_is_one, run_like, total_le}
+use Rattle.trlab_traffic.proofs.Courses.{Course, course_of_start, course_on, gap_of, gap_on, moved, Start}
+use Rattle.trlab_traffic.proofs.Courses.{within_gap, go_distance, gone_is_one, run_like, total_le}
 
 -- the answers of two cars with the same number, one in each run, at one step
 pub record Pair (seed : Seed) (slow fast : Sheet) (step : ℕ) (road other : Cells) (a b : Car) (v w : ℕ) : Type 0 where

@@ -1,26 +1,19 @@
 -- Without randomization acceleration holds cars back only in the first steps; from then on each moves by the limit or
 -- its gap, whichever is smaller, so the lane leaps.
-use Rattle.std.proofs.Common.{◌≡◌, ℕ, zero, suc, ◌+◌, ◌-◌, ◌*◌, ◌%◌, ◌<◌, ◌≤◌, ◌⊎◌, min, is_some, Some, length, refl, sym, ◌∙◌, ap, subst, inl, inr, arith, mod-eq_of_lt, mul-add, mul-suc, mul_comm, suc-mul}
-use Rattle.std.specs.Prelude.{sum_by}
-use Rattle.std.proofs.Math.Nat.{mod-lt}
-use Rattle.std.proofs.lemmas.Bool.{cases_lt}
+use Rattle.std.proofs.Common.{◌≡◌, ℕ, zero, suc, ◌+◌, ◌-◌, ◌*◌, ◌%◌, ◌<◌, ◌≤◌, ◌⊎◌, min, is_some, Some}
+use Rattle.std.proofs.Common.{length, refl, sym, ◌∙◌, ap, subst, inl, inr, arith, mod-eq_of_lt, mul-add}
+use Rattle.std.proofs.{Common.{mul-suc, mul_comm, suc-mul, sum_by, mod-lt}, lemmas.Bool.cases_lt}
 use Rattle.std.proofs.lemmas.Option.{some_pair_parts}
-use Rattle.trlab_road.specs.declared.car.Car.{Car}
-use Rattle.trlab_road.specs.Cells.{Cell, Lane, at, cars, lane_car_count}
-use Rattle.trlab_road.specs.Gaps.{ahead, gap, next_place}
-use Rattle.trlab_road.specs.Motion.{LaneFits, LaneMoves}
-use Rattle.trlab_road.specs.Standing.{standing_from}
-use Rattle.trlab_road.proofs.MotionLaws.{lane_same_count}
-use Rattle.trlab_road.proofs.Ring.{apart_within_gaps, blocked, clear_within_gap, inside}
-use Rattle.trlab_road.proofs.StandingOrder.{length-standing_from, rank_below}
-use Rattle.trlab_traffic.specs.Terms.{lane_empty_cells, is_taken}
-use Rattle.trlab_traffic.specs.LimitOne.{digit}
-use Rattle.trlab_traffic.proofs.Lanes.{ahead_more, clear_is_gap, sum_at_cars, total}
-use Rattle.trlab_traffic.proofs.RoomAhead.{lane_taken_or_empty}
-use Rattle.trlab_traffic.proofs.FreeFlow.{sum_by-same}
-use Rattle.trlab_traffic.proofs.Gaps.{gap_after, next_taken, gaps_total}
-use Rattle.trlab_traffic.proofs.Heights.{digit_at, taken_total, last_of, window, window_none, window_has, window_last, window_slides}
-use Rattle.trlab_traffic.proofs.Leaping.{Leaps, few_near, leaps_more, none_is_empty, one_is_car, some_near}
+use Rattle.trlab_road.specs.{declared.car.Car.Car, Cells.{Cell, Lane, at, cars, lane_car_count}}
+use Rattle.trlab_road.specs.{Cells.standing_from, Gaps.{ahead, gap, next_place}, Motion.{LaneFits, LaneMoves}}
+use Rattle.trlab_road.proofs.{MotionLaws.lane_same_count, Ring.{apart_within_gaps, blocked, clear_within_gap}}
+use Rattle.trlab_road.proofs.{Ring.inside, StandingOrder.{length-standing_from, rank_below}}
+use Rattle.trlab_traffic.{specs.{Terms.{lane_empty_cells, is_taken}, LimitOne.digit}, proofs.Lanes.ahead_more}
+use Rattle.trlab_traffic.proofs.{Lanes.{clear_is_gap, sum_at_cars, total}, RoomAhead.lane_taken_or_empty}
+use Rattle.trlab_traffic.proofs.{FreeFlow.sum_by-same, Gaps.{gap_after, next_taken, gaps_total}}
+use Rattle.trlab_traffic.proofs.Heights.{digit_at, taken_total, last_of, window, window_none, window_has}
+use Rattle.trlab_traffic.proofs.{Heights.{window_last, window_slides}, Leaping.{Leaps, few_near, leaps_more}}
+use Rattle.trlab_traffic.proofs.Leaping.{none_is_empty, one_is_car, some_near}
 
 -- no car's gap is below the speed of the next car ahead
 pub record Settled (lane : Lane) : Type 0 where

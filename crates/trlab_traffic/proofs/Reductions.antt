@@ -1,36 +1,28 @@
 -- Rules that act alike: slow starts with the braking probability of all cars, and lane changes with
 -- probability 0.
-use Rattle.std.proofs.Common.{◌≡◌, ℕ, zero, suc, ◌+◌, ◌<◌, ◌&&◌, Bool, true, false, cond, Option, Some, None, List, [], ◌∷◌, length, get_or, refl, sym, ◌∙◌, ap, subst, arith, if◌then◌else◌}
-use Rattle.std.specs.Prelude.{MatchOption, count_by, nat_eq, nat_lt, slice_index}
+use Rattle.std.proofs.Common.{◌≡◌, ℕ, zero, suc, ◌+◌, ◌<◌, ◌&&◌, Bool, true, false, cond, Option, Some, None}
+use Rattle.std.proofs.Common.{List, [], ◌∷◌, length, get_or, refl, sym, ◌∙◌, ap, subst, arith, if◌then◌else◌}
+use Rattle.std.proofs.Common.{MatchOption, count_by, nat_eq, nat_lt, slice_index}
 use Rattle.std.proofs.lemmas.List.Sums.{sum_by-cons}
-use Rattle.trlab_code.specs.declared.program.Kind.TheVariants.{Change}
-use Rattle.trlab_code.specs.declared.view.View.{View}
+use Rattle.trlab_code.specs.declared.{program.Kind.TheVariants.Change, view.View.View}
 use Rattle.trlab_code.specs.Machine.{Crosses as EndsAcross, Stays, EndsWith}
 use Rattle.trlab_verify.specs.Verified.{CheckedProgram}
-use Rattle.trlab_machine.specs.declared.dice.Dice.{Dice}
-use Rattle.trlab_machine.specs.Blocks.{words_of}
-use Rattle.trlab_road.specs.declared.car.Car.{Car}
-use Rattle.trlab_road.specs.Cells.{AgreeAtCars, Cell, Cells, IsAt, cell}
-use Rattle.trlab_road.specs.LaneChange.{ChangesLanes, cell_after_change, other_lane}
-use Rattle.trlab_road.specs.Legal.{IsLegal}
-use Rattle.trlab_road.specs.Standing.{standing}
-use Rattle.trlab_road.proofs.LaneChangeLaws.{crosses_by, one_road_after_change}
-use Rattle.trlab_road.proofs.Numbers.{no_one}
+use Rattle.trlab_machine.specs.{declared.dice.Dice.Dice, Blocks.words_of}
+use Rattle.trlab_road.specs.{declared.car.Car.Car, Cells.{AgreeAtCars, Cell, Cells, IsAt, cell, IsLegal}}
+use Rattle.trlab_road.specs.{Cells.standing, LaneChange.{ChangesLanes, cell_after_change, other_lane}}
+use Rattle.trlab_road.proofs.{LaneChangeLaws.{crosses_by, one_road_after_change}, Numbers.no_one}
 use Rattle.trlab_road.proofs.StandingOrder.{length-standing_from_lane, standing_cell}
 use Rattle.trlab_rules.specs.Rules.{ComputesCrossing, ComputesSpeed, Programs, IsChangeComputing}
-use Rattle.trlab_rules.specs.Published.{nasch_speed, rickert_crosses, vdr_speed}
-use Rattle.trlab_rules.specs.Standard.{rickert_program}
-use Rattle.trlab_step.specs.declared.tally.StepTally.{StepTally}
-use Rattle.trlab_step.specs.Answers.{AnswersCrossing, AnswersCrossings, AnswersSpeed, AnswersSpeeds, change_view_of, motion_view_of}
-use Rattle.trlab_step.specs.Laws.{IsLegalLike}
-use Rattle.trlab_step.specs.Next.{IsLaneChangePhase, IsMotionPhase, IsNext, crossing_cars}
-use Rattle.trlab_step.specs.Run.{ComesTo, Seed, dice_at}
-use Rattle.trlab_step.proofs.AnswersExist.{change_view_is_view, motion_view_is_view}
-use Rattle.trlab_step.proofs.NextLaws.{like_itself, like_next}
+use Rattle.trlab_rules.specs.{Published.{nasch_speed, rickert_crosses, vdr_speed}, Standard.rickert_program}
+use Rattle.trlab_step.specs.{declared.tally.StepTally.StepTally, Answers.{AnswersCrossing, AnswersCrossings}}
+use Rattle.trlab_step.specs.Answers.{AnswersSpeed, AnswersSpeeds, change_view_of, motion_view_of}
+use Rattle.trlab_step.specs.{Laws.IsLegalLike, Next.{IsLaneChangePhase, IsMotionPhase, IsNext, crossing_cars}}
+use Rattle.trlab_step.{specs.Run.{ComesTo, Seed, dice_at}, proofs.AnswersExist.change_view_is_view}
+use Rattle.trlab_step.proofs.{AnswersExist.motion_view_is_view, NextLaws.{like_itself, like_next}}
 use Rattle.trlab_step.proofs.PartLaws.{one_answer_each, one_crossing_each}
-use Rattle.trlab_traffic.specs.Invariance.{HaveSameSteps, RickertReducesToNasch, SameStepsGiveSameRuns, VdrReducesToNasch}
-use Rattle.trlab_traffic.proofs.Steps.{middle_like, next_legal_like, never}
-use Rattle.trlab_traffic.proofs.FreeFlow.{in_force_one, one_rule}
+use Rattle.trlab_traffic.specs.Invariance.{HaveSameSteps, RickertReducesToNasch, SameStepsGiveSameRuns}
+use Rattle.trlab_traffic.{specs.Invariance.VdrReducesToNasch, proofs.Steps.{middle_like, next_legal_like}}
+use Rattle.trlab_traffic.proofs.{Steps.never, FreeFlow.{in_force_one, one_rule}}
 
 -- motion programs with the same speeds move the cars alike
 module _ (f g : View → List ℕ → ℕ) (motion other : CheckedProgram) (by_f : ComputesSpeed f motion.program) (by_g : ComputesSpeed g other.program)

@@ -1,28 +1,19 @@
 -- Runs without lane changes and without randomization, lane by lane: a property of each lane at a step, and
 -- the distance of its cars.
-use Rattle.std.proofs.Common.{◌≡◌, ℕ, zero, suc, ◌+◌, ◌-◌, ◌*◌, ◌<◌, ◌≤◌, min, Some, [], ◌∷◌, length, refl, sym, ◌∙◌, ap, subst, inl, inr, arith}
-use Rattle.std.specs.Prelude.{nat_le, sum_by}
-use Rattle.std.proofs.lemmas.Bool.{cases_lt, le-leb, lt-leb}
+use Rattle.std.proofs.Common.{◌≡◌, ℕ, zero, suc, ◌+◌, ◌-◌, ◌*◌, ◌<◌, ◌≤◌, min, Some, [], ◌∷◌, length, refl}
+use Rattle.std.proofs.Common.{sym, ◌∙◌, ap, subst, inl, inr, arith, nat_le, sum_by, le-leb}
+use Rattle.std.proofs.lemmas.Bool.{cases_lt, lt-leb}
 use Rattle.trlab_road.specs.declared.car.Car.{Car}
-use Rattle.trlab_road.specs.Cells.{Cells, Lane, at, lane_car_count, lane_of}
-use Rattle.trlab_road.specs.Gaps.{gap}
-use Rattle.trlab_road.specs.Legal.{IsLegal}
-use Rattle.trlab_road.specs.Motion.{Fits, LaneFits, LaneMoves, Moves}
-use Rattle.trlab_road.specs.Standing.{standing_from}
-use Rattle.trlab_road.proofs.Ring.{car_in}
+use Rattle.trlab_road.specs.Cells.{Cells, Lane, at, lane_car_count, lane_of, IsLegal, standing_from}
+use Rattle.trlab_road.{specs.{Gaps.gap, Motion.{Fits, LaneFits, LaneMoves, Moves}}, proofs.Ring.car_in}
 use Rattle.trlab_machine.specs.declared.dice.Dice.{Dice}
 use Rattle.trlab_rules.specs.Rules.{Programs, IsNasch}
-use Rattle.trlab_step.specs.declared.tally.StepTally.{StepTally}
-use Rattle.trlab_step.specs.Laws.{IsLegalLike}
-use Rattle.trlab_step.specs.Next.{IsNext}
-use Rattle.trlab_step.specs.Run.{ComesTo, Seed, dice_at}
-use Rattle.trlab_step.proofs.NextLaws.{like_itself, like_next}
-use Rattle.trlab_traffic.specs.Comparison.{ReachesSpeedAtOnce}
-use Rattle.trlab_traffic.proofs.Lanes.{sum_at_cars, sum_of_lanes, total}
+use Rattle.trlab_step.specs.{declared.tally.StepTally.StepTally, Laws.IsLegalLike, Next.IsNext}
+use Rattle.trlab_step.{specs.Run.{ComesTo, Seed, dice_at}, proofs.NextLaws.{like_itself, like_next}}
+use Rattle.trlab_traffic.{specs.Comparison.ReachesSpeedAtOnce, proofs.Gaps.motion_keeps_lane_cars}
+use Rattle.trlab_traffic.proofs.{Lanes.{sum_at_cars, sum_of_lanes, total}, FreeFlow.{one_more, one_rule}}
 use Rattle.trlab_traffic.proofs.Steps.{answers_fit, next_legal_like, answered, motion_alone, safe_motion}
 use Rattle.trlab_traffic.proofs.Capacities.{distance_counted, distance_uncounted, speeds_total}
-use Rattle.trlab_traffic.proofs.FreeFlow.{one_more, one_rule}
-use Rattle.trlab_traffic.proofs.Gaps.{motion_keeps_lane_cars}
 
 -- a regime of a lane of a run in which each car's new speed follows from its speed and its gap: a property
 -- of the lane at a step, and the distance of all its cars from some step on

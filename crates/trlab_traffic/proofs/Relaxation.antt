@@ -1,23 +1,19 @@
 -- Runs without randomization relax: each lane reaches its triangle.
-use Rattle.std.proofs.Common.{◌≡◌, ℕ, zero, suc, ◌+◌, ◌-◌, ◌*◌, ◌<◌, ◌≤◌, min, Some, [], ◌∷◌, length, refl, sym, ◌∙◌, ap, subst, inl, inr, arith, mul-add, mul-zero, suc-mul}
-use Rattle.std.specs.Prelude.{sum_by}
-use Rattle.std.proofs.lemmas.Bool.{cases_lt}
-use Rattle.std.proofs.lemmas.List.{get_or_past}
-use Rattle.trlab_road.specs.Cells.{Cells, Lane, at, cars, lane_car_count, lane_of}
-use Rattle.trlab_road.specs.Gaps.{gap}
-use Rattle.trlab_road.specs.Legal.{IsLegal}
+use Rattle.std.proofs.Common.{◌≡◌, ℕ, zero, suc, ◌+◌, ◌-◌, ◌*◌, ◌<◌, ◌≤◌, min, Some, [], ◌∷◌, length, refl}
+use Rattle.std.proofs.Common.{sym, ◌∙◌, ap, subst, inl, inr, arith, mul-add, mul-zero, suc-mul, sum_by}
+use Rattle.std.proofs.lemmas.{Bool.cases_lt, List.get_or_past}
+use Rattle.trlab_road.specs.{Cells.{Cells, Lane, at, cars, lane_car_count, lane_of, IsLegal}, Gaps.gap}
 use Rattle.trlab_road.specs.Motion.{LaneFits, LaneMoves}
 use Rattle.trlab_rules.specs.Rules.{Programs, IsNasch}
-use Rattle.trlab_step.specs.declared.tally.StepTally.{StepTally}
-use Rattle.trlab_step.specs.Laws.{IsLegalLike}
-use Rattle.trlab_step.specs.Run.{ComesTo, Seed}
+use Rattle.trlab_step.specs.{declared.tally.StepTally.StepTally, Laws.IsLegalLike, Run.{ComesTo, Seed}}
 use Rattle.trlab_traffic.specs.Terms.{empty_cells, max_distance, lane_max_distance, lane_empty_cells}
-use Rattle.trlab_traffic.specs.Diagram.{GapReachesTriangle, HasRelaxed, NaschReachesTriangle, NaschReachesTriangleByLane, Rule184ReachesTriangle}
-use Rattle.trlab_traffic.proofs.Lanes.{one_sum, by_lane, total, total_same}
-use Rattle.trlab_traffic.proofs.RoomAhead.{lane_taken_or_empty}
-use Rattle.trlab_traffic.proofs.Regimes.{MovesBy, Regime, RegimeBy, at_once_by, flows_by, gap_moves_by, nasch_moves_by, safe_by, slow_moves_by}
-use Rattle.trlab_traffic.proofs.Leaping.{Leaps, leaps_itself}
-use Rattle.trlab_traffic.proofs.Readiness.{AreQuick, settles, quickens, Leaping, Suffices, OnWay, ready, leapt_far, leap_on}
+use Rattle.trlab_traffic.specs.Diagram.{GapReachesTriangle, HasRelaxed, NaschReachesTriangle}
+use Rattle.trlab_traffic.specs.Diagram.{NaschReachesTriangleByLane, Rule184ReachesTriangle}
+use Rattle.trlab_traffic.proofs.{Lanes.{one_sum, by_lane, total, total_same}, RoomAhead.lane_taken_or_empty}
+use Rattle.trlab_traffic.proofs.Regimes.{MovesBy, Regime, RegimeBy, at_once_by, flows_by, gap_moves_by}
+use Rattle.trlab_traffic.proofs.{Regimes.{nasch_moves_by, safe_by, slow_moves_by}, Leaping.Leaps}
+use Rattle.trlab_traffic.proofs.{Leaping.leaps_itself, Readiness.{AreQuick, settles, quickens, Leaping}}
+use Rattle.trlab_traffic.proofs.Readiness.{Suffices, OnWay, ready, leapt_far, leap_on}
 
 -- more steps suffice too
 pub more_suffice : (limit cells count a b : ℕ) → Suffices limit cells count a → a ≤ b → Suffices limit cells count b

@@ -1,26 +1,20 @@
 -- With v_max = 1 a step of the rule of 1992 is a step of the ring of each lane, in which a car brakes if it
 -- does so on its words.
-use Rattle.std.proofs.Common.{◌≡◌, ℕ, zero, suc, ◌+◌, ◌-◌, ◌<◌, min, Bool, true, false, not, ◌&&◌, ◌||◌, cond, Some, None, [], ◌∷◌, length, is_some, refl, sym, ◌∙◌, ap, subst, arith}
+use Rattle.std.proofs.Common.{◌≡◌, ℕ, zero, suc, ◌+◌, ◌-◌, ◌<◌, min, Bool, true, false, not, ◌&&◌, ◌||◌, cond}
+use Rattle.std.proofs.Common.{Some, None, [], ◌∷◌, length, is_some, refl, sym, ◌∙◌, ap, subst, arith, sum_by}
 use Rattle.std.proofs.lemmas.List.FromFn.{fill_by_all}
-use Rattle.trlab_words.specs.Chances.{happens_on}
-use Rattle.trlab_words.proofs.RandomWords.{slice_index-random_words}
+use Rattle.trlab_words.{specs.Words.happens_on, proofs.RandomWords.slice_index-random_words}
 use Rattle.trlab_machine.specs.declared.dice.Dice.{Dice}
 use Rattle.trlab_road.specs.declared.car.Car.{Car}
-use Rattle.trlab_road.specs.Cells.{Cell, Cells, Lane, at, cell, lane_of}
-use Rattle.trlab_road.specs.Gaps.{ahead, behind, gap}
-use Rattle.trlab_road.specs.Legal.{IsLegal}
-use Rattle.trlab_road.specs.Motion.{LaneMoves}
-use Rattle.trlab_road.proofs.Ring.{car_in, inside}
-use Rattle.trlab_rules.specs.Published.{brake, nasch_speed, safe_speed}
-use Rattle.trlab_rules.specs.Rules.{Programs, IsNasch}
-use Rattle.trlab_step.specs.declared.tally.StepTally.{StepTally}
-use Rattle.trlab_step.specs.Next.{IsMotionPhase, IsNext}
-use Rattle.std.specs.Prelude.{sum_by}
-use Rattle.trlab_road.specs.Standing.{standing_from}
-use Rattle.trlab_traffic.specs.LimitOne.{NaschGoesByRings, NaschStepsRings, brakes, braking_set, draw, draws_of, is_in, is_taken_after, moves, moving_cars, ring_of}
-use Rattle.trlab_traffic.proofs.Lanes.{by_lane, sum_of_cells, sum_of_lanes, sum_range, total, total_same, weight, ahead_behind, ahead_none, behind_ahead}
-use Rattle.trlab_traffic.proofs.Steps.{answers_fit, answered, motion_alone}
-use Rattle.trlab_traffic.proofs.Capacities.{speeds_total}
+use Rattle.trlab_road.specs.Cells.{Cell, Cells, Lane, at, cell, lane_of, IsLegal, standing_from}
+use Rattle.trlab_road.{specs.{Gaps.{ahead, behind, gap}, Motion.LaneMoves}, proofs.Ring.{car_in, inside}}
+use Rattle.trlab_rules.specs.{Published.{brake, nasch_speed, safe_speed}, Rules.{Programs, IsNasch}}
+use Rattle.trlab_step.specs.{declared.tally.StepTally.StepTally, Next.{IsMotionPhase, IsNext}}
+use Rattle.trlab_traffic.specs.LimitOne.{NaschGoesByRings, NaschStepsRings, is_braking, braking_set, draw}
+use Rattle.trlab_traffic.specs.LimitOne.{draws_of, is_in, is_taken_after, is_moving_car, moving_cars, ring_of}
+use Rattle.trlab_traffic.proofs.Lanes.{by_lane, sum_of_cells, sum_of_lanes, sum_range, total, total_same}
+use Rattle.trlab_traffic.proofs.Lanes.{weight, ahead_behind, ahead_none, behind_ahead}
+use Rattle.trlab_traffic.proofs.{Steps.{answers_fit, answered, motion_alone}, Capacities.speeds_total}
 use Rattle.trlab_traffic.proofs.Wolfram.{gap_none, gap_some}
 
 -- a lane and its ring
@@ -29,7 +23,7 @@ in_ring [] x = refl
 in_ring (c ∷ lane) zero = refl
 in_ring (c ∷ lane) (suc x) = in_ring lane x
 
-in_braking : (p : ℕ) (dice : Dice) (lane : Lane) (x : ℕ) → is_in (braking_set p (draws_of dice lane)) x ≡ brakes p (draw dice (at lane x))
+in_braking : (p : ℕ) (dice : Dice) (lane : Lane) (x : ℕ) → is_in (braking_set p (draws_of dice lane)) x ≡ is_braking p (draw dice (at lane x))
 in_braking p dice [] x = refl
 in_braking p dice (c ∷ lane) zero = refl
 in_braking p dice (c ∷ lane) (suc x) = in_braking p dice lane x
@@ -128,20 +122,20 @@ module _ (braking : ℕ → Bool) (answer : ℕ → ℕ) (old new : Lane) (m : L
   by_ring y low = by_cases y (at old y) (going braking old (behind (length old) y 1)) (going braking old y) low refl refl refl
 
 -- the lane of a ring moves as the ring
-moves_is : (p : ℕ) (dice : Dice) (lane : Lane) (x : ℕ) → moves (ring_of lane) (braking_set p (draws_of dice lane)) x ≡ going (λ y. brakes p (draw dice (at lane y))) lane x
+moves_is : (p : ℕ) (dice : Dice) (lane : Lane) (x : ℕ) → is_moving_car (ring_of lane) (braking_set p (draws_of dice lane)) x ≡ going (λ y. is_braking p (draw dice (at lane y))) lane x
 moves_is p dice lane x =
     let to = ahead (length (ring_of lane)) x 1 in
     ap (λ b. b && not (is_in (ring_of lane) to) && not (is_in (braking_set p (draws_of dice lane)) x)) (in_ring lane x)
     ∙ ap (λ b. is_some (at lane x) && not b && not (is_in (braking_set p (draws_of dice lane)) x)) (in_ring lane to)
     ∙ ap (λ b. is_some (at lane x) && not (is_some (at lane to)) && not b) (in_braking p dice lane x)
-    ∙ ap (λ n. is_some (at lane x) && not (is_some (at lane (ahead n x 1))) && not (brakes p (draw dice (at lane x)))) (ring_long lane)
+    ∙ ap (λ n. is_some (at lane x) && not (is_some (at lane (ahead n x 1))) && not (is_braking p (draw dice (at lane x)))) (ring_long lane)
 
 taken_is : (p : ℕ) (dice : Dice) (lane : Lane) (x : ℕ) → is_taken_after (ring_of lane) (braking_set p (draws_of dice lane)) x
-    ≡ ((is_some (at lane x) && not (going (λ y. brakes p (draw dice (at lane y))) lane x)) || going (λ y. brakes p (draw dice (at lane y))) lane (behind (length lane) x 1))
+    ≡ ((is_some (at lane x) && not (going (λ y. is_braking p (draw dice (at lane y))) lane x)) || going (λ y. is_braking p (draw dice (at lane y))) lane (behind (length lane) x 1))
 taken_is p dice lane x =
-    let braking : ℕ → Bool = λ y. brakes p (draw dice (at lane y)) in
+    let braking : ℕ → Bool = λ y. is_braking p (draw dice (at lane y)) in
     let back = behind (length (ring_of lane)) x 1 in
-    let move = moves (ring_of lane) (braking_set p (draws_of dice lane)) in
+    let move = is_moving_car (ring_of lane) (braking_set p (draws_of dice lane)) in
     ap (λ b. (b && not (move x)) || move back) (in_ring lane x)
     ∙ ap (λ b. (is_some (at lane x) && not b) || move back) (moves_is p dice lane x)
     ∙ ap (λ b. (is_some (at lane x) && not (going braking lane x)) || b) (moves_is p dice lane back)
@@ -156,7 +150,7 @@ module _ (p : ℕ) (rule : Programs) (dice : Dice) (old new : Cells) (tally : St
   phase = motion_alone rule dice old new tally is.change next
 
   abbrev braking_on : ℕ → ℕ → Bool
-  braking_on l x = brakes p (draw dice (cell old l x))
+  braking_on l x = is_braking p (draw dice (cell old l x))
 
   -- the speed of a car
   goes_by : (l x number speed : ℕ) → cell old l x ≡ Some (number, speed) → phase.0 l x ≡ brake (braking_on l x) (min 1 (gap (lane_of old l) x))
@@ -166,7 +160,7 @@ module _ (p : ℕ) (rule : Programs) (dice : Dice) (old new : Cells) (tally : St
       let drawn = slice_index-random_words dice.key dice.road number dice.step 0 (omega arith) in
       answered (nasch_speed p) rule.motion dice old phase.0 is.motion.moves legal phase.1 (car_in l x number speed) here
       ∙ ap (λ (word : ℕ). brake (happens_on p word) safe) drawn
-      ∙ ap (λ (c : Cell). brake (brakes p (draw dice c)) safe) (sym here)
+      ∙ ap (λ (c : Cell). brake (is_braking p (draw dice c)) safe) (sym here)
       ∙ ap (λ (limit : ℕ). brake (braking_on l x) (safe_speed speed limit (gap lane x))) one
       ∙ ap (brake (braking_on l x)) (slow speed (gap lane x))
 
@@ -193,12 +187,12 @@ module _ (p : ℕ) (rule : Programs) (dice : Dice) (old new : Cells) (tally : St
       let z : 0 + l ≡ l = omega arith in
       ap (λ k. sum_by f (standing_from k 0 lane)) z
       ∙ sum_of_cells f l 0 lane
-      ∙ total_same (λ x. weight f l (0 + x) (at lane x)) (λ x. cond (moves ring braking (0 + x)) 1 0) (length lane)
+      ∙ total_same (λ x. weight f l (0 + x) (at lane x)) (λ x. cond (is_moving_car ring braking (0 + x)) 1 0) (length lane)
       (λ x low. let e : 0 + x ≡ x = omega arith in
       ap (λ k. weight f l k (at lane x)) e ∙ in_each_cell l x on (at lane x) refl
-      ∙ ap (λ b. cond b 1 0) (sym (moves_is p dice lane x)) ∙ ap (λ k. cond (moves ring braking k) 1 0) (sym e))
-      ∙ ap (total (λ x. cond (moves ring braking (0 + x)) 1 0)) (sym (ring_long lane))
-      ∙ sym (sum_range (λ x. cond (moves ring braking x) 1 0) 0 (length ring))
+      ∙ ap (λ b. cond b 1 0) (sym (moves_is p dice lane x)) ∙ ap (λ k. cond (is_moving_car ring braking k) 1 0) (sym e))
+      ∙ ap (total (λ x. cond (is_moving_car ring braking (0 + x)) 1 0)) (sym (ring_long lane))
+      ∙ sym (sum_range (λ x. cond (is_moving_car ring braking x) 1 0) 0 (length ring))
 
   goes_by_rings : tally.distance ≡ sum_by (λ (lane : Lane). moving_cars (ring_of lane) (braking_set p (draws_of dice lane))) old.lanes
   goes_by_rings =

@@ -1,11 +1,10 @@
 -- A step of a ring, cell by cell along its chain.
-use Rattle.std.proofs.Common.{◌≡◌, ℕ, zero, suc, ◌+◌, ◌-◌, ◌%◌, ◌<◌, ◌≤◌, Bool, true, false, [], ◌∷◌, length, get_or, refl, sym, ◌∙◌, ap, inl, inr, arith, mod-eq_of_lt}
-use Rattle.std.proofs.Math.Nat.{mod_self, add-mod_right}
-use Rattle.std.proofs.lemmas.Bool.{cases_lt}
-use Rattle.std.proofs.lemmas.List.FromFn.{fill_by_all}
+use Rattle.std.proofs.Common.{◌≡◌, ℕ, zero, suc, ◌+◌, ◌-◌, ◌%◌, ◌<◌, ◌≤◌, Bool, true, false, [], ◌∷◌, length}
+use Rattle.std.proofs.Common.{get_or, refl, sym, ◌∙◌, ap, inl, inr, arith, mod-eq_of_lt}
+use Rattle.std.proofs.{Math.Nat.{mod_self, add-mod_right}, lemmas.{Bool.cases_lt, List.FromFn.fill_by_all}}
 use Rattle.trlab_road.specs.Gaps.{ahead, behind}
-use Rattle.trlab_traffic.specs.LimitOne.{Ring, StepsKeepCars, is_in, moves, is_taken_after, ring_after}
-use Rattle.trlab_traffic.specs.Stationary.{is_same}
+use Rattle.trlab_traffic.specs.LimitOne.{Ring, StepsKeepCars, is_in, is_moving_car, is_taken_after}
+use Rattle.trlab_traffic.specs.LimitOne.{ring_after, is_same}
 use Rattle.trlab_traffic.proofs.Chains.{bit, kept, leaves, size_is, trues}
 
 -- the cells after a step of a chain: `came` is whether a car comes before it, and `first` is the cell ahead
@@ -83,7 +82,7 @@ next_on_ring ring x low =
     ]
 
 -- a car moves on the ring as along the chain
-pub moves_is : (ring braking : Ring) (x : ℕ) → x < length ring → moves ring braking x ≡ going (get_or ring 0 false) ring braking x
+pub moves_is : (ring braking : Ring) (x : ℕ) → x < length ring → is_moving_car ring braking x ≡ going (get_or ring 0 false) ring braking x
 moves_is ring braking x low = ap (λ next. leaves (get_or ring x false) next (get_or braking x false)) (next_on_ring ring x low)
 
 -- the cell behind on the ring
@@ -96,14 +95,14 @@ behind_next n x low =
     ap (λ k. k % n) e ∙ add-mod_right x n ∙ mod-eq_of_lt (let k : x < n = omega (arith, low) in k)
 
 comes_is : (ring braking : Ring) (x : ℕ) → length braking ≡ length ring → x < length ring
-    → moves ring braking (behind (length ring) x 1) ≡ coming (get_or ring 0 false) (leaving (get_or ring 0 false) false ring braking) ring braking x
+    → is_moving_car ring braking (behind (length ring) x 1) ≡ coming (get_or ring 0 false) (leaving (get_or ring 0 false) false ring braking) ring braking x
 comes_is [] braking x long low = absurd (omega (arith, low))
 comes_is (own ∷ old) braking zero long low =
-    ap (moves (own ∷ old) braking) (behind_first (length old))
+    ap (is_moving_car (own ∷ old) braking) (behind_first (length old))
     ∙ moves_is (own ∷ old) braking (length old) (omega arith)
     ∙ sym (leaving_is own false (own ∷ old) braking long)
 comes_is (own ∷ old) braking (suc x) long low =
-    ap (moves (own ∷ old) braking) (behind_next (length (own ∷ old)) x low)
+    ap (is_moving_car (own ∷ old) braking) (behind_next (length (own ∷ old)) x low)
     ∙ moves_is (own ∷ old) braking x (omega (arith, low))
 
 -- so a step of the ring is one of its chain
@@ -115,7 +114,7 @@ ring_after_is ring braking long =
     sym (fill_by_all (is_taken_after ring braking) (cells first came ring braking) (length ring) false (cells_long first came ring braking long)
     (λ x low. cells_at first came ring braking x false long low
     ∙ ap (λ m. kept (get_or ring x false) m (coming first came ring braking x)) (sym (moves_is ring braking x low))
-    ∙ ap (kept (get_or ring x false) (moves ring braking x)) (sym (comes_is ring braking x long low))))
+    ∙ ap (kept (get_or ring x false) (is_moving_car ring braking x)) (sym (comes_is ring braking x long low))))
 
 -- the number of cars is preserved
 bit_first : (b : Bool) (r : Ring) → trues (b ∷ r) ≡ bit b + trues r

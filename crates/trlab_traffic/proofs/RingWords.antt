@@ -1,21 +1,20 @@
 -- The braking of cars, counted over all random words.
-use Rattle.std.proofs.Common.{◌≡◌, ℕ, zero, suc, ◌+◌, ◌-◌, ◌*◌, ◌/◌, ◌^◌, ◌<◌, ◌≤◌, min, Bool, true, false, cond, Some, None, List, [], ◌∷◌, map, length, get_or, refl, sym, ◌∙◌, ap, subst, inl, inr, arith}
-use Rattle.std.specs.Prelude.{Contains, flat_map, sum_by}
-use Rattle.std.specs.List.{range_with_len}
-use Rattle.std.proofs.Math.Nat.{pow-succ'}
-use Rattle.std.proofs.lemmas.Bool.{cases_lt, le-ltb, lt-ltb}
-use Rattle.std.proofs.lemmas.List.Elements.{Contains-append_left, Contains-append_right}
-use Rattle.std.proofs.lemmas.List.FromFn.{get_or-range_with_len, length-range_with_len}
-use Rattle.std.proofs.lemmas.Nat.{mul-pow}
-use Rattle.std.proofs.lemmas.List.Sums.{sum_by-append, sum_by-cons}
+use Rattle.std.proofs.Common.{◌≡◌, ℕ, zero, suc, ◌+◌, ◌-◌, ◌*◌, ◌/◌, ◌^◌, ◌<◌, ◌≤◌, min, Bool, true, false}
+use Rattle.std.proofs.Common.{cond, Some, None, List, [], ◌∷◌, map, length, get_or, refl, sym, ◌∙◌, ap, subst}
+use Rattle.std.proofs.Common.{inl, inr, arith, Contains, flat_map, sum_by, le-ltb, lt-ltb}
+use Rattle.std.proofs.{Math.Nat.{pow-succ'}, lemmas.{Bool.cases_lt, List.Elements.Contains-append_left}}
+use Rattle.std.proofs.lemmas.List.{Elements.Contains-append_right, FromFn.get_or-range_with_len}
+use Rattle.std.proofs.lemmas.List.{FromFn.length-range_with_len, Sums.{sum_by-append, sum_by-cons}}
+use Rattle.std.{proofs.lemmas.Nat.mul-pow, specs.List.range_with_len}
 use Rattle.trlab_bounds.specs.declared.programs.TheConstants.{CERTAIN}
-use Rattle.trlab_words.specs.Chances.{happens_on}
-use Rattle.trlab_words.specs.Words.{random_word}
-use Rattle.trlab_words.proofs.RandomWords.{random_word_small}
+use Rattle.trlab_words.{specs.Words.{happens_on, random_word}, proofs.RandomWords.random_word_small}
 use Rattle.trlab_traffic.specs.LimitOne.{CarWords, Ring, braking_set, draws_of, ring_after, ring_of, size}
-use Rattle.trlab_traffic.specs.Stationary.{DrawsAreCounted, StepWeightsCountWords, WeightsAreStationaryOverWords, all_draws, braking_weight, is_same, stationary_weight, step_weight, word_count}
+use Rattle.trlab_traffic.specs.LimitOne.{DrawsAreCounted, StepWeightsCountWords}
+use Rattle.trlab_traffic.specs.LimitOne.{WeightsAreStationaryOverWords, all_draws, braking_weight, is_same}
+use Rattle.trlab_traffic.specs.LimitOne.{stationary_weight, step_weight, word_count}
 use Rattle.trlab_traffic.proofs.Lanes.{below, sum_range, total, total_below, total_same}
-use Rattle.trlab_traffic.proofs.Chains.{bit, rings_same, rings_sum, rings_times, set_weight, sets, sets_add, sets_same, sets_sum, sets_times, size_is, sum_of_map, trues}
+use Rattle.trlab_traffic.proofs.Chains.{bit, rings_same, rings_sum, rings_times, set_weight, sets, sets_add}
+use Rattle.trlab_traffic.proofs.Chains.{sets_same, sets_sum, sets_times, size_is, sum_of_map, trues}
 use Rattle.trlab_traffic.proofs.RingSteps.{cells, cells_kept, leaving, same_size}
 use Rattle.trlab_traffic.proofs.Stationary.{bit_is, braking_is, chosen, step_is, weights_are_stationary}
 

@@ -1,18 +1,12 @@
 -- Cars that go only over empty cells cover, all together, no more cells than are empty.
-use Rattle.std.proofs.Common.{◌≡◌, ℕ, zero, suc, ◌+◌, ◌-◌, ◌%◌, ◌<◌, ◌≤◌, ◌⊎◌, cond, Some, None, List, [], ◌∷◌, length, get_or, drop, refl, sym, ◌∙◌, ap, subst, inl, inr, arith, length-drop, get_or-drop, mod-eq_of_lt}
-use Rattle.std.specs.Prelude.{is_none, is_some, sum_by}
-use Rattle.std.proofs.Math.Nat.{add-mod_left}
-use Rattle.std.proofs.lemmas.Bool.{cases_lt}
-use Rattle.std.proofs.lemmas.List.Sums.{sum_by-append, sum_by-cons}
-use Rattle.trlab_road.specs.declared.car.Car.{Car}
-use Rattle.trlab_road.specs.Cells.{Cell, Lane, at, lane_car_count}
-use Rattle.trlab_road.specs.Gaps.{ahead}
-use Rattle.trlab_road.specs.Motion.{IsClearAhead}
-use Rattle.trlab_road.specs.Standing.{standing_from, standing_from_lane}
-use Rattle.trlab_road.proofs.Ring.{blocked, car_in, inside}
-use Rattle.trlab_road.proofs.StandingOrder.{lane_car_count-some}
-use Rattle.trlab_traffic.specs.Terms.{lane_cells, lane_empty_cells}
-use Rattle.trlab_traffic.specs.Bounds.{CellsAreTakenOrEmpty}
+use Rattle.std.proofs.Common.{◌≡◌, ℕ, zero, suc, ◌+◌, ◌-◌, ◌%◌, ◌<◌, ◌≤◌, ◌⊎◌, cond, Some, None, List, []}
+use Rattle.std.proofs.Common.{◌∷◌, length, get_or, drop, refl, sym, ◌∙◌, ap, subst, inl, inr, arith}
+use Rattle.std.proofs.Common.{length-drop, get_or-drop, mod-eq_of_lt, is_none, is_some, sum_by}
+use Rattle.std.proofs.{Math.Nat.add-mod_left, lemmas.{Bool.cases_lt, List.Sums.{sum_by-append, sum_by-cons}}}
+use Rattle.trlab_road.specs.{declared.car.Car.Car, Cells.{Cell, Lane, at, lane_car_count, standing_from}}
+use Rattle.trlab_road.{specs.{Cells.standing_from_lane, Gaps.ahead, Motion.IsClearAhead}, proofs.Ring.blocked}
+use Rattle.trlab_road.proofs.{Ring.{car_in, inside}, StandingOrder.lane_car_count-some}
+use Rattle.trlab_traffic.specs.{Terms.{lane_cells, lane_empty_cells}, Bounds.CellsAreTakenOrEmpty}
 
 pub empty-none : (cells : Lane) → lane_empty_cells (None ∷ cells) ≡ suc (lane_empty_cells cells)
 empty-none cells = let e = sum_by-cons (λ (c : Cell). cond (is_none c) 1 0) None cells in omega (arith, e)

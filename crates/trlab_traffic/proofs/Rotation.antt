@@ -1,18 +1,16 @@
 -- Rotated lanes: their gaps, their motion and their lane change, and the sums over their cars.
-use Rattle.std.proofs.Common.{◌≡◌, ℕ, zero, suc, ◌+◌, ◌-◌, ◌%◌, ◌<◌, ◌&&◌, Bool, cond, Some, None, List, [], ◌∷◌, length, get_or, map, refl, sym, ◌∙◌, ap, subst, arith}
-use Rattle.std.specs.Prelude.{is_none, sum_by}
-use Rattle.std.proofs.lemmas.List.{ext_get_or, length-map}
-use Rattle.std.proofs.lemmas.List.FromFn.{get_or-map-range_with_len, length-map-range_with_len}
-use Rattle.std.proofs.lemmas.List.Sums.{sum_by-append}
-use Rattle.trlab_road.specs.Cells.{Cell, Cells, Lane, at, lane_of}
-use Rattle.trlab_road.specs.Gaps.{ahead, behind, clear_cells, gap, largest, headspeed, is_clear, side, sideback, sidegap, speed_in}
-use Rattle.trlab_road.specs.LaneChange.{LaneCrosses, cell_after_change}
-use Rattle.trlab_road.specs.Motion.{ComesFrom, LaneMoves}
+use Rattle.std.proofs.Common.{◌≡◌, ℕ, zero, suc, ◌+◌, ◌-◌, ◌%◌, ◌<◌, ◌&&◌, Bool, cond, Some, None, List, []}
+use Rattle.std.proofs.Common.{◌∷◌, length, get_or, map, refl, sym, ◌∙◌, ap, subst, arith, is_none, sum_by}
+use Rattle.std.proofs.{Common.ext_get_or, lemmas.List.{length-map, FromFn.get_or-map-range_with_len}}
+use Rattle.std.proofs.lemmas.List.{FromFn.length-map-range_with_len, Sums.sum_by-append}
+use Rattle.trlab_road.specs.Cells.{Cell, Cells, Lane, at, lane_of, standing_from, standing_from_lane}
+use Rattle.trlab_road.specs.Gaps.{ahead, behind, clear_cells, gap, largest, headspeed, is_clear, side}
+use Rattle.trlab_road.specs.{Gaps.{sideback, sidegap, speed_in}, LaneChange.{LaneCrosses, cell_after_change}}
+use Rattle.trlab_road.specs.{Motion.{ComesFrom, LaneMoves}, declared.car.Car.Car}
 use Rattle.trlab_road.proofs.Ring.{inside, car_in}
-use Rattle.trlab_road.specs.declared.car.Car.{Car}
-use Rattle.trlab_road.specs.Standing.{standing_from, standing_from_lane}
 use Rattle.trlab_traffic.specs.Terms.{rotate_road, rotate_lane}
-use Rattle.trlab_traffic.proofs.Lanes.{ahead_below, ahead_more, ahead_none, ahead_once, ahead_swap, back_ahead, sum_of_cells, total, total_same, total_turned, weight}
+use Rattle.trlab_traffic.proofs.Lanes.{ahead_below, ahead_more, ahead_none, ahead_once, ahead_swap}
+use Rattle.trlab_traffic.proofs.Lanes.{back_ahead, sum_of_cells, total, total_same, total_turned, weight}
 
 -- tests that agree have the same largest number
 greatest_same : (test other : ℕ → Bool) (n : ℕ) → ((k : ℕ) → test k ≡ other k) → largest test n ≡ largest other n

@@ -1,33 +1,28 @@
 -- Rows of detectors, one on each lane: their counts in runs, even if cars change lanes.
-use Rattle.std.proofs.Common.{◌≡◌, ℕ, zero, suc, ◌+◌, ◌-◌, ◌*◌, ◌<◌, ◌≤◌, Bool, true, false, is_some, Option, Some, None, List, [], ◌∷◌, length, get_or, refl, sym, ◌∙◌, ap, subst, inl, inr, arith, suc-mul, true≢false, if◌then◌else◌, min}
-use Rattle.std.proofs.lemmas.Bool.{cases_lt, le-leb, lt-leb}
-use Rattle.std.proofs.lemmas.List.Sums.{sum_by-cons}
-use Rattle.std.specs.List.{range_with_len}
-use Rattle.std.specs.Prelude.{nat_le, sum_by}
+use Rattle.std.proofs.Common.{◌≡◌, ℕ, zero, suc, ◌+◌, ◌-◌, ◌*◌, ◌<◌, ◌≤◌, Bool, true, false, is_some, Option}
+use Rattle.std.proofs.Common.{Some, None, List, [], ◌∷◌, length, get_or, refl, sym, ◌∙◌, ap, subst, inl, inr}
+use Rattle.std.proofs.Common.{arith, suc-mul, true≢false, if◌then◌else◌, min, le-leb, nat_le, sum_by}
+use Rattle.std.{proofs.lemmas.{Bool.{cases_lt, lt-leb}, List.Sums.sum_by-cons}, specs.List.range_with_len}
 use Rattle.trlab_machine.specs.declared.dice.Dice.{Dice}
 use Rattle.trlab_road.proofs.Ring.{car_in}
-use Rattle.trlab_road.specs.Cells.{Cell, Cells, Lane, cars, cell, lane_of, lane_car_count}
-use Rattle.trlab_road.specs.Gaps.{ahead}
-use Rattle.trlab_road.specs.LaneChange.{CrossesToEmpty, cell_after_change, other_lane}
-use Rattle.trlab_road.specs.Legal.{IsLegal}
-use Rattle.trlab_step.proofs.RunLaws.{road_at_is_one}
-use Rattle.trlab_step.specs.Next.{IsLaneChangePhase}
-use Rattle.trlab_step.specs.Run.{ComesTo, Seed, Sheet, dice_at, IsRoadAt}
-use Rattle.trlab_step.specs.declared.tally.StepTally.{StepTally}
+use Rattle.trlab_road.specs.Cells.{Cell, Cells, Lane, cars, cell, lane_of, lane_car_count, IsLegal}
+use Rattle.trlab_road.specs.{Gaps.ahead, LaneChange.{CrossesToEmpty, cell_after_change, other_lane}}
+use Rattle.trlab_step.{proofs.RunLaws.road_at_is_one, specs.{Next.IsLaneChangePhase, Run.{ComesTo, Seed}}}
+use Rattle.trlab_step.specs.{Run.{Sheet, dice_at, IsRoadAt}, declared.tally.StepTally.StepTally}
 use Rattle.trlab_verify.specs.Verified.{CheckedProgram}
-use Rattle.trlab_traffic.specs.Terms.{empty_cells, lane_empty_cells, is_taken}
-use Rattle.trlab_traffic.specs.LimitOne.{digit}
-use Rattle.trlab_traffic.specs.Detectors.{cars_ahead_of, passages, all_passages, cells_ahead_to, DifferByAtMost, DetectorHasCounted, RowMeasuresFlow, RowsAgree, RunSatisfiesContinuityByRows, StepIsContinuousByRows, cars_ahead_of_row, row_passages}
-use Rattle.trlab_traffic.proofs.Lanes.{ahead_below, run_lanes, middle_lanes, by_lane, sum_range, total, total_add, total_none, total_same, total_swap}
-use Rattle.trlab_traffic.proofs.Steps.{answers_fit, crossings_free}
-use Rattle.trlab_traffic.proofs.RoomAhead.{taken_or_empty}
-use Rattle.trlab_traffic.proofs.Capacities.{distance_counted, distance_uncounted}
-use Rattle.trlab_traffic.proofs.Moving.{run_cells, two_sum}
-use Rattle.trlab_traffic.proofs.Courses.{run_like}
-use Rattle.trlab_traffic.proofs.Influence.{any_lane}
-use Rattle.trlab_traffic.proofs.Detecting.{any_lane_fits, stretch_is_continuous, detectors_count_distance, way_reaches}
-use Rattle.trlab_traffic.proofs.FewCars.{few, stretch}
-use Rattle.trlab_traffic.proofs.DetectingRuns.{counted_so, counts_on, none_counted, count_exists, few_cars, road_before, uncounted_so}
+use Rattle.trlab_traffic.specs.{Terms.{empty_cells, lane_empty_cells, is_taken}, LimitOne.digit}
+use Rattle.trlab_traffic.specs.Detectors.{cars_ahead_of, passages, all_passages, cells_ahead_to}
+use Rattle.trlab_traffic.specs.Detectors.{DifferByAtMost, DetectorHasCounted, RowMeasuresFlow, RowsAgree}
+use Rattle.trlab_traffic.specs.Detectors.{RunSatisfiesContinuityByRows, StepIsContinuousByRows}
+use Rattle.trlab_traffic.{specs.Detectors.{cars_ahead_of_row, row_passages}, proofs.Lanes.ahead_below}
+use Rattle.trlab_traffic.proofs.Lanes.{run_lanes, middle_lanes, by_lane, sum_range, total, total_add}
+use Rattle.trlab_traffic.proofs.{Lanes.{total_none, total_same, total_swap}, Steps.answers_fit}
+use Rattle.trlab_traffic.proofs.{Steps.crossings_free, RoomAhead.taken_or_empty, Capacities.distance_counted}
+use Rattle.trlab_traffic.proofs.{Capacities.distance_uncounted, Moving.{run_cells, two_sum}, Courses.run_like}
+use Rattle.trlab_traffic.proofs.{Influence.any_lane, Detecting.{any_lane_fits, stretch_is_continuous}}
+use Rattle.trlab_traffic.proofs.{Detecting.{detectors_count_distance, way_reaches}, FewCars.{few, stretch}}
+use Rattle.trlab_traffic.proofs.DetectingRuns.{counted_so, counts_on, none_counted, count_exists, few_cars}
+use Rattle.trlab_traffic.proofs.DetectingRuns.{road_before, uncounted_so}
 
 -- together the two cells of a place have as many cars after the lane change as before
 cell_balance : (c d : Bool) (own beside : Cell) → (c ≡ true → is_some own ≡ true → beside ≡ None) → (d ≡ true → is_some beside ≡ true → own ≡ None)

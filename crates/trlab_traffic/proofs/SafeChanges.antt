@@ -1,37 +1,31 @@
 -- Safe lane changes leave each car as much room ahead as it needs.
-use Rattle.std.proofs.Common.{◌≡◌, ℕ, ◌+◌, ◌-◌, ◌<◌, ◌≤◌, ◌&&◌, min, Bool, true, false, cond, Option, Some, None, List, length, if◌then◌else◌, refl, sym, ◌∙◌, ap, subst, arith, mod-eq_of_lt}
-use Rattle.std.specs.Prelude.{IfSome, MatchOption, nat_eq, nat_lt}
-use Rattle.std.proofs.lemmas.Bool.{and_parts, ltb-true}
-use Rattle.trlab_code.specs.declared.program.Kind.TheVariants.{Change}
-use Rattle.trlab_code.specs.declared.view.View.{View}
+use Rattle.std.proofs.Common.{◌≡◌, ℕ, ◌+◌, ◌-◌, ◌<◌, ◌≤◌, ◌&&◌, min, Bool, true, false, cond, Option, Some}
+use Rattle.std.proofs.Common.{None, List, length, if◌then◌else◌, refl, sym, ◌∙◌, ap, subst, arith}
+use Rattle.std.proofs.Common.{mod-eq_of_lt, IfSome, MatchOption, nat_eq, nat_lt, ltb-true}
+use Rattle.std.proofs.lemmas.Bool.{and_parts}
+use Rattle.trlab_code.specs.declared.{program.Kind.TheVariants.Change, view.View.View}
 use Rattle.trlab_code.specs.Machine.{Crosses as EndsAcross, Stays, EndsWith}
 use Rattle.trlab_verify.specs.Verified.{CheckedProgram}
-use Rattle.trlab_machine.specs.declared.dice.Dice.{Dice}
-use Rattle.trlab_machine.specs.Blocks.{words_of}
-use Rattle.trlab_machine.specs.Answers.{crossing_answer}
+use Rattle.trlab_machine.specs.{declared.dice.Dice.Dice, Blocks.words_of, Answers.crossing_answer}
 use Rattle.trlab_machine.proofs.Answers.{one_answer}
-use Rattle.trlab_road.specs.declared.car.Car.{Car}
-use Rattle.trlab_road.specs.Cells.{Cell, Cells, IsAt, Lane, at, cars, cell, lane_of}
-use Rattle.trlab_road.specs.Gaps.{ahead, behind, clear_cells, gap, is_clear, side, sideback, sidegap}
-use Rattle.trlab_road.specs.LaneChange.{ChangesLanes, other_lane}
-use Rattle.trlab_road.specs.LaneChange.StaysOrCrosses.{on_own_lane, on_other_lane}
-use Rattle.trlab_road.specs.Legal.{IsLegal}
-use Rattle.trlab_road.proofs.LaneChangeLaws.{came_from, lane_change_none_lost}
-use Rattle.trlab_road.proofs.MotionLaws.{on_lane}
-use Rattle.trlab_road.proofs.Numbers.{all_present}
+use Rattle.trlab_road.specs.{declared.car.Car.Car, Cells.{Cell, Cells, IsAt, Lane, at, cars, cell, lane_of}}
+use Rattle.trlab_road.specs.{Cells.IsLegal, Gaps.{ahead, behind, clear_cells, gap, is_clear, side, sideback}}
+use Rattle.trlab_road.specs.{Gaps.sidegap, LaneChange.{ChangesLanes, other_lane, StaysOrCrosses.on_own_lane}}
+use Rattle.trlab_road.{specs.LaneChange.StaysOrCrosses.on_other_lane, proofs.LaneChangeLaws.came_from}
+use Rattle.trlab_road.proofs.{LaneChangeLaws.lane_change_none_lost, MotionLaws.on_lane, Numbers.all_present}
 use Rattle.trlab_road.proofs.Ring.{car_in, clear_at, clear_within_gap, greatest_passes, inside}
 use Rattle.trlab_rules.specs.Rules.{ComputesCrossing, ComputesSpeed, Programs, IsChangeComputing}
-use Rattle.trlab_rules.specs.Published.{brake, happens_at, nasch_speed, rickert_crosses, safe_speed, vdr_braking_chance}
-use Rattle.trlab_rules.specs.Standard.{rickert_program}
-use Rattle.trlab_step.specs.declared.tally.StepTally.{StepTally}
-use Rattle.trlab_step.specs.Answers.{AnswersCrossings, change_view_of, motion_view_of}
-use Rattle.trlab_step.specs.Next.{IsLaneChangePhase, IsMotionPhase, IsNext, stopped_cars, total_speed}
-use Rattle.trlab_step.proofs.AnswersExist.{change_view_is_view}
-use Rattle.trlab_traffic.specs.Comparison.{ChangesSafely, HasSafeChanges, IsNoSlowerStep, IsSafeToCross, RickertChangesSafely, SafeChangesCostNobody, SafeChangesCostNobodyInVdr}
+use Rattle.trlab_rules.specs.Published.{brake, happens_at, nasch_speed, rickert_crosses, safe_speed}
+use Rattle.trlab_rules.specs.{Published.vdr_braking_chance, Standard.rickert_program}
+use Rattle.trlab_step.specs.{declared.tally.StepTally.StepTally, Answers.{AnswersCrossings, change_view_of}}
+use Rattle.trlab_step.specs.{Answers.motion_view_of, Next.{IsLaneChangePhase, IsMotionPhase, IsNext}}
+use Rattle.trlab_step.{specs.Next.{stopped_cars, total_speed}, proofs.AnswersExist.change_view_is_view}
+use Rattle.trlab_traffic.specs.Comparison.{ChangesSafely, HasSafeChanges, IsNoSlowerStep, IsSafeToCross}
+use Rattle.trlab_traffic.specs.Comparison.{RickertChangesSafely, SafeChangesCostNobody}
+use Rattle.trlab_traffic.specs.Comparison.{SafeChangesCostNobodyInVdr}
 use Rattle.trlab_traffic.proofs.Lanes.{ahead_back, clear_is_gap, gap_below, total}
 use Rattle.trlab_traffic.proofs.Steps.{crossings_free, middle_like, next_legal_like, answered, motion_alone}
-use Rattle.trlab_traffic.proofs.Slower.{stops_too}
-use Rattle.trlab_traffic.proofs.Courses.{one_speed, choose, sum_of_standing, total_le}
+use Rattle.trlab_traffic.proofs.{Slower.stops_too, Courses.{one_speed, choose, sum_of_standing, total_le}}
 
 -- the first cells of a path are empty
 clear_way : (lane : Lane) (way : ℕ → ℕ) (j : ℕ) → 1 ≤ j → j ≤ clear_cells lane way → at lane (way j) ≡ None

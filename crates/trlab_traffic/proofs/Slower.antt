@@ -1,23 +1,17 @@
 -- Cars that brake with a larger probability go no further.
-use Rattle.trlab_step.proofs.SumsOverCars.{stopped_cars-moved}
-use Rattle.trlab_step.specs.Next.{IsNext, stopped_cars}
-use Rattle.trlab_step.specs.declared.tally.StepTally.{StepTally}
+use Rattle.trlab_step.{proofs.SumsOverCars.stopped_cars-moved, specs.Next.{IsNext, stopped_cars}}
+use Rattle.trlab_step.specs.{declared.tally.StepTally.StepTally, Answers.{motion_view_of, AnswersSpeeds}}
 use Rattle.trlab_rules.specs.Rules.{Programs}
-use Rattle.trlab_road.proofs.MotionInOrder.{answer_at, moves_by}
-use Rattle.trlab_road.specs.Motion.{Fits, Moves, in_order}
-use Rattle.trlab_machine.specs.declared.dice.Dice.{Dice}
-use Rattle.std.proofs.Common.{◌≡◌, ℕ, suc, ◌+◌, ◌/◌, ◌≤◌, Bool, true, false, List, [], ◌∷◌, length, get_or, refl, sym, ◌∙◌, ap, inl, inr, arith, cond, map, None, if◌then◌else◌}
-use Rattle.std.specs.Prelude.{All, sum_by, nat_eq, slice_index}
-use Rattle.std.proofs.lemmas.Bool.{cases_lt, le-ltb, lt-ltb, cases_eq, eq-eqb, ne_eqb}
-use Rattle.std.proofs.lemmas.List.Sums.{sum_by-cons}
-use Rattle.trlab_words.specs.Chances.{happens_on}
-use Rattle.trlab_machine.specs.Blocks.{words_of}
-use Rattle.trlab_road.specs.declared.car.Car.{Car}
-use Rattle.trlab_road.specs.Cells.{IsAt, AgreeAtCars, Cells}
-use Rattle.trlab_road.specs.Standing.{standing}
-use Rattle.trlab_road.proofs.StandingOrder.{length-standing_from_lane, standing_cell, in_order_at}
 use Rattle.trlab_rules.specs.Published.{brake, nasch_speed, safe_speed, vdr_braking_chance, vdr_speed}
-use Rattle.trlab_step.specs.Answers.{motion_view_of, AnswersSpeeds}
+use Rattle.trlab_road.{proofs.MotionInOrder.{answer_at, moves_by}, specs.declared.car.Car.Car}
+use Rattle.trlab_road.proofs.StandingOrder.{length-standing_from_lane, standing_cell, in_order_at}
+use Rattle.trlab_road.specs.{Motion.{Fits, Moves, in_order}, Cells.{IsAt, AgreeAtCars, Cells, standing}}
+use Rattle.trlab_machine.specs.{declared.dice.Dice.Dice, Blocks.words_of}
+use Rattle.std.proofs.Common.{◌≡◌, ℕ, suc, ◌+◌, ◌/◌, ◌≤◌, Bool, true, false, List, [], ◌∷◌, length, get_or}
+use Rattle.std.proofs.Common.{refl, sym, ◌∙◌, ap, inl, inr, arith, cond, map, None, if◌then◌else◌, All}
+use Rattle.std.proofs.Common.{sum_by, nat_eq, slice_index, le-ltb, lt-ltb, eq-eqb, ne_eqb}
+use Rattle.std.proofs.lemmas.{Bool.{cases_lt, cases_eq}, List.Sums.sum_by-cons}
+use Rattle.trlab_words.specs.Words.{happens_on}
 use Rattle.trlab_traffic.specs.Comparison.{RandomizationSlowsSteps, IsNoFasterStep, SlowStartsSlowSteps}
 use Rattle.trlab_traffic.proofs.Steps.{answers_fit, answered, motion_alone}
 use Rattle.trlab_traffic.proofs.Capacities.{speeds_total, may_move}

@@ -1,30 +1,20 @@
 -- A queue of all cars: no rules without lane changes reach the triangle before its last car can start, and
 -- before the gap of its head can be closed in one step.
-use Rattle.std.proofs.Common.{◌≡◌, ℕ, zero, suc, ◌+◌, ◌-◌, ◌*◌, ◌<◌, ◌≤◌, sym, ◌∙◌, ap, subst, inl, inr, arith, mul-add, mul-suc, mul_comm}
-use Rattle.std.specs.Prelude.{nat_le, sum_by}
-use Rattle.std.proofs.lemmas.Bool.{cases_lt, le-leb}
-use Rattle.trlab_road.specs.declared.car.Car.{Car}
-use Rattle.trlab_road.specs.Cells.{Cells, IsAt, cars, lane_of}
-use Rattle.trlab_road.specs.Gaps.{gap}
-use Rattle.trlab_road.specs.Motion.{IsClearAhead}
-use Rattle.trlab_road.specs.Standing.{standing}
-use Rattle.trlab_road.proofs.MotionLaws.{on_lane}
+use Rattle.std.proofs.Common.{◌≡◌, ℕ, zero, suc, ◌+◌, ◌-◌, ◌*◌, ◌<◌, ◌≤◌, sym, ◌∙◌, ap, subst, inl, inr}
+use Rattle.std.proofs.Common.{arith, mul-add, mul-suc, mul_comm, nat_le, sum_by, le-leb}
+use Rattle.std.proofs.lemmas.Bool.{cases_lt}
+use Rattle.trlab_road.specs.{declared.car.Car.Car, Cells.{Cells, IsAt, cars, lane_of, standing}, Gaps.gap}
+use Rattle.trlab_road.{specs.Motion.IsClearAhead, proofs.MotionLaws.on_lane}
 use Rattle.trlab_road.proofs.Ring.{car_in, clear_within_gap}
-use Rattle.trlab_step.specs.Run.{ComesTo, IsRoadAt, dice_at}
-use Rattle.trlab_step.proofs.RunLaws.{force_all}
-use Rattle.trlab_traffic.specs.Terms.{StaysInLane, empty_cells}
-use Rattle.trlab_traffic.specs.Jams.{stopped_car}
-use Rattle.trlab_traffic.specs.Diagram.{QueueReachesTriangleNoSooner}
-use Rattle.trlab_traffic.specs.Waves.{gaps_ahead}
-use Rattle.trlab_traffic.proofs.Lanes.{total}
-use Rattle.trlab_traffic.proofs.Steps.{answers_fit, motion_alone}
-use Rattle.trlab_traffic.proofs.RoomAhead.{lanes_room}
-use Rattle.trlab_traffic.proofs.Capacities.{distance_counted, run_stays_under_triangle, same_empty, speeds_total}
-use Rattle.trlab_traffic.proofs.Queues.{queue_waits}
-use Rattle.trlab_traffic.proofs.Courses.{gap_of, moved, started, within_gap, one_speed, run_like, sum_of_standing, total_le}
+use Rattle.trlab_step.{specs.Run.{ComesTo, IsRoadAt, dice_at}, proofs.RunLaws.force_all}
+use Rattle.trlab_traffic.specs.{Terms.{StaysInLane, empty_cells}, FlowAndJams.stopped_car}
+use Rattle.trlab_traffic.{specs.{Diagram.QueueReachesTriangleNoSooner, Waves.gaps_ahead}, proofs.Lanes.total}
+use Rattle.trlab_traffic.proofs.{Steps.{answers_fit, motion_alone}, RoomAhead.lanes_room}
+use Rattle.trlab_traffic.proofs.Capacities.{distance_counted, run_stays_under_triangle, same_empty}
+use Rattle.trlab_traffic.proofs.{Capacities.speeds_total, Queues.queue_waits, Courses.{gap_of, moved}}
+use Rattle.trlab_traffic.proofs.Courses.{started, within_gap, one_speed, run_like, sum_of_standing, total_le}
 use Rattle.trlab_traffic.proofs.Newell.{cars_at, nobody_beats_minimum, smallest_least}
-use Rattle.trlab_traffic.proofs.DetectingRuns.{same_each}
-use Rattle.trlab_traffic.proofs.Braking.{run_cells}
+use Rattle.trlab_traffic.proofs.{DetectingRuns.same_each, Braking.run_cells}
 
 -- sums of which one value is smaller, and none larger
 total_less : (f g : ℕ → ℕ) (n k : ℕ) → ((i : ℕ) → i < n → f i ≤ g i) → k < n → f k < g k → total f n < total g n

@@ -1,29 +1,20 @@
 -- A road whose cars all have the same speed; and, if there is room to drive at the limit, two flows at one
 -- density.
-use Rattle.std.proofs.Common.{◌≡◌, ℕ, zero, suc, ◌+◌, ◌-◌, ◌*◌, ◌/◌, ◌<◌, ◌≤◌, Some, None, List, [], ◌∷◌, Result, Ok, Err, length, map, get_or, refl, sym, ◌∙◌, ap, subst, arith, mul_comm, le-div_iff_mul-le}
-use Rattle.std.specs.Prelude.{sum_by}
-use Rattle.std.proofs.lemmas.List.{length-map}
-use Rattle.std.proofs.lemmas.List.Sums.{sum_by-cons}
-use Rattle.std.proofs.lemmas.Option.{some_pair_parts}
+use Rattle.std.proofs.Common.{◌≡◌, ℕ, zero, suc, ◌+◌, ◌-◌, ◌*◌, ◌/◌, ◌<◌, ◌≤◌, Some, None, List, [], ◌∷◌}
+use Rattle.std.proofs.Common.{Result, Ok, Err, length, map, get_or, refl, sym, ◌∙◌, ap, subst, arith}
+use Rattle.std.proofs.{Common.{mul_comm, le-div_iff_mul-le, sum_by}, lemmas.List.length-map}
+use Rattle.std.proofs.lemmas.{List.Sums.sum_by-cons, Option.some_pair_parts}
 use Rattle.trlab_bounds.specs.declared.programs.TheConstants.{CERTAIN}
-use Rattle.trlab_road.specs.declared.car.Car.{Car}
-use Rattle.trlab_road.specs.declared.fault.RoadFault.{RoadFault}
+use Rattle.trlab_road.specs.declared.{car.Car.Car, fault.RoadFault.RoadFault}
 use Rattle.trlab_road.specs.Cells.{Cell, Cells, IsAt, Lane, at, cars, cell, lane_car_count, lane_of}
-use Rattle.trlab_road.specs.Gaps.{ahead, gap}
-use Rattle.trlab_road.specs.Laws.{EvenCarsMean}
-use Rattle.trlab_road.specs.Legal.{HasValidShape, IsLegal}
-use Rattle.trlab_road.specs.Spreading.{CanSpread, IsEvenlySpaced}
-use Rattle.trlab_road.proofs.EvenExists.{something}
-use Rattle.trlab_road.proofs.EvenRoads.{even_count, even_legal, no_fault}
-use Rattle.trlab_road.proofs.MotionLaws.{on_lane}
-use Rattle.trlab_road.proofs.Ring.{car_in, clear_within_gap}
-use Rattle.trlab_road.proofs.StandingOrder.{lane_car_count-some}
-use Rattle.trlab_traffic.specs.Terms.{lane_cells}
-use Rattle.trlab_traffic.specs.FreeFlow.{IsInFreeFlow, IsRing, IsStopped, TwoFlowsAtOneDensity}
-use Rattle.trlab_traffic.proofs.Lanes.{one_sum, clear_is_gap, gap_below}
-use Rattle.trlab_traffic.proofs.RoomAhead.{cars-none}
-use Rattle.trlab_traffic.proofs.FreeFlow.{slow_starts_keep_free_flow, slow_starts_keep_jams}
-use Rattle.trlab_traffic.proofs.EvenCars.{gap_low, who}
+use Rattle.trlab_road.specs.{Cells.{HasValidShape, IsLegal}, Gaps.{ahead, gap}, Laws.EvenCarsMean}
+use Rattle.trlab_road.{specs.Spreading.{CanSpread, IsEvenlySpaced}, proofs.EvenExists.something}
+use Rattle.trlab_road.proofs.{EvenRoads.{even_count, even_legal, no_fault}, MotionLaws.on_lane}
+use Rattle.trlab_road.proofs.{Ring.{car_in, clear_within_gap}, StandingOrder.lane_car_count-some}
+use Rattle.trlab_traffic.specs.{Terms.lane_cells, FlowAndJams.{IsInFreeFlow, IsRing, IsStopped}}
+use Rattle.trlab_traffic.{specs.FlowAndJams.TwoFlowsAtOneDensity, proofs.Lanes.{one_sum, clear_is_gap}}
+use Rattle.trlab_traffic.proofs.{Lanes.gap_below, RoomAhead.cars-none, FreeFlow.slow_starts_keep_free_flow}
+use Rattle.trlab_traffic.proofs.{FreeFlow.slow_starts_keep_jams, EvenCars.{gap_low, who}}
 
 -- a cell, with its car at a speed
 abbrev sped : ℕ → Cell → Cell

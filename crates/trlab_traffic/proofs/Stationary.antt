@@ -1,13 +1,17 @@
 -- The stationary state with v_max = 1, counted over all roads and all sets of braking cars.
-use Rattle.std.proofs.Common.{◌≡◌, ℕ, zero, suc, ◌+◌, ◌-◌, ◌*◌, ◌^◌, Bool, true, false, not, ◌&&◌, cond, if◌then◌else◌, [], ◌∷◌, length, get_or, refl, sym, ◌∙◌, ap, arith}
-use Rattle.std.specs.Bool.{beq}
-use Rattle.std.proofs.Math.Nat.{pow-succ', pow-zero}
+use Rattle.std.proofs.Common.{◌≡◌, ℕ, zero, suc, ◌+◌, ◌-◌, ◌*◌, ◌^◌, Bool, true, false, not, ◌&&◌, cond}
+use Rattle.std.proofs.Common.{if◌then◌else◌, [], ◌∷◌, length, get_or, refl, sym, ◌∙◌, ap, arith}
+use Rattle.std.{proofs.Math.Nat.{pow-succ', pow-zero}, specs.Bool.beq}
 use Rattle.trlab_bounds.specs.declared.programs.TheConstants.{CERTAIN}
-use Rattle.trlab_traffic.specs.LimitOne.{Ring, is_free_car, ring_after, size}
-use Rattle.trlab_traffic.specs.Stationary.{StepWeightsAddUp, WeightsAreStationary, braking_weight, free_cars, is_same, stationary_weight, step_weight}
-use Rattle.trlab_traffic.proofs.Lanes.{sum_range, total, total_same}
-use Rattle.trlab_traffic.proofs.Chains.{all_chains, bit, chain, chains_sum, closed, cell_weight, closed_empty, closed_taken, kept, leaves, own_weight, product, IsCarSet, draw_weight, rings, rings_add, rings_same, rings_sets_swap, rings_sum, rings_times, sets, sets_add, sets_same, sets_sum, sets_times, set_weight, size_is, trues}
-use Rattle.trlab_traffic.proofs.RingSteps.{cells, cells_long, leaving, next_on_ring, ring_after_is}
+use Rattle.trlab_traffic.specs.LimitOne.{Ring, is_free_car, ring_after, size, StepWeightsAddUp}
+use Rattle.trlab_traffic.specs.LimitOne.{WeightsAreStationary, braking_weight, free_cars, is_same}
+use Rattle.trlab_traffic.{specs.LimitOne.{stationary_weight, step_weight}, proofs.Lanes.{sum_range, total}}
+use Rattle.trlab_traffic.proofs.{Lanes.total_same, Chains.{all_chains, bit, chain, chains_sum, closed}}
+use Rattle.trlab_traffic.proofs.Chains.{cell_weight, closed_empty, closed_taken, kept, leaves, own_weight}
+use Rattle.trlab_traffic.proofs.Chains.{product, IsCarSet, draw_weight, rings, rings_add, rings_same}
+use Rattle.trlab_traffic.proofs.Chains.{rings_sets_swap, rings_sum, rings_times, sets, sets_add, sets_same}
+use Rattle.trlab_traffic.proofs.{Chains.{sets_sum, sets_times, set_weight, size_is, trues}, RingSteps.cells}
+use Rattle.trlab_traffic.proofs.RingSteps.{cells_long, leaving, next_on_ring, ring_after_is}
 
 -- the blocked and the free cars of a chain, after which `first` is the cell ahead
 abbrev pub blocked : Bool → Ring → ℕ

@@ -1,36 +1,22 @@
 -- Steps under any rule, whether its programs were accepted or not: what its cars answer on a legal road is allowed,
 -- so the road stays legal. And the motion of 1992 without randomization.
-use Rattle.std.proofs.Common.{◌≡◌, ℕ, Bool, Option, Some, None, length, sym, subst, ◌/◌, false, List, ◌∙◌, ap, arith}
-use Rattle.std.proofs.lemmas.Bool.{le-ltb}
-use Rattle.trlab_words.specs.Chances.{happens_on}
-use Rattle.trlab_words.proofs.RandomWords.{slice_index-random_words}
-use Rattle.trlab_code.specs.declared.program.Kind.TheVariants.{Change}
-use Rattle.trlab_code.specs.Machine.{EndsWith}
-use Rattle.trlab_code.specs.declared.view.View.{View}
-use Rattle.trlab_road.specs.declared.car.Car.{Car}
-use Rattle.trlab_road.specs.Cells.{Cells, IsAt, cell, lane_of}
-use Rattle.trlab_road.specs.LaneChange.{CrossesToEmpty, other_lane}
-use Rattle.trlab_road.specs.Legal.{IsLegal}
-use Rattle.trlab_road.specs.Motion.{Fits, Moves}
+use Rattle.std.proofs.Common.{◌≡◌, ℕ, Bool, Option, Some, None, length, sym, subst, ◌/◌, false, List, ◌∙◌, ap}
+use Rattle.std.proofs.Common.{arith, le-ltb}
+use Rattle.trlab_words.{specs.Words.happens_on, proofs.RandomWords.slice_index-random_words}
+use Rattle.trlab_code.specs.{declared.{program.Kind.TheVariants.Change, view.View.View}, Machine.EndsWith}
+use Rattle.trlab_road.specs.{declared.car.Car.Car, Cells.{Cells, IsAt, cell, lane_of, IsLegal}}
+use Rattle.trlab_road.specs.{LaneChange.{CrossesToEmpty, other_lane}, Motion.{Fits, Moves}, Gaps.gap}
 use Rattle.trlab_road.proofs.LaneChangeLaws.{lane_change_legal, lane_change_same_count}
-use Rattle.trlab_road.proofs.MotionLaws.{moved_legal, moves_same_count}
-use Rattle.trlab_road.proofs.Ring.{car_in, none_is}
-use Rattle.trlab_road.specs.Gaps.{gap}
+use Rattle.trlab_road.proofs.{MotionLaws.{moved_legal, moves_same_count}, Ring.{car_in, none_is}}
 use Rattle.trlab_rules.specs.Rules.{Programs, ComputesSpeed, IsNasch}
 use Rattle.trlab_rules.specs.Published.{brake, nasch_speed, safe_speed}
-use Rattle.trlab_machine.specs.declared.dice.Dice.{Dice}
-use Rattle.trlab_machine.specs.Blocks.{words_of, word_of}
-use Rattle.trlab_machine.specs.Answers.{crossing_answer, IsAllowed}
-use Rattle.trlab_machine.proofs.Crossings.{crossing_allowed}
-use Rattle.trlab_machine.proofs.Speeds.{speed_allowed}
+use Rattle.trlab_machine.specs.{declared.dice.Dice.Dice, Blocks.{words_of, word_of}, Answers.crossing_answer}
+use Rattle.trlab_machine.{specs.Answers.IsAllowed, proofs.{Crossings.crossing_allowed, Speeds.speed_allowed}}
 use Rattle.trlab_verify.specs.Verified.{CheckedProgram}
-use Rattle.trlab_step.specs.declared.tally.StepTally.{StepTally}
-use Rattle.trlab_step.specs.Answers.{AnswersSpeeds, AnswersCrossings, change_view_of, motion_view_of}
-use Rattle.trlab_step.specs.Laws.{IsLegalLike}
-use Rattle.trlab_step.specs.Next.{IsLaneChangePhase, IsMotionPhase, IsNext}
-use Rattle.trlab_step.proofs.NextLaws.{like_itself, like_next}
-use Rattle.trlab_step.proofs.AnswersExist.{motion_view_is_view}
-use Rattle.trlab_step.proofs.PartLaws.{one_answer_each}
+use Rattle.trlab_step.specs.{declared.tally.StepTally.StepTally, Answers.{AnswersSpeeds, AnswersCrossings}}
+use Rattle.trlab_step.specs.{Answers.{change_view_of, motion_view_of}, Laws.IsLegalLike}
+use Rattle.trlab_step.{specs.Next.{IsLaneChangePhase, IsMotionPhase, IsNext}, proofs.NextLaws.like_itself}
+use Rattle.trlab_step.proofs.{NextLaws.like_next, AnswersExist.motion_view_is_view, PartLaws.one_answer_each}
 
 -- the speeds of a motion program are within the gaps and the limit
 pub answers_fit : (motion : CheckedProgram) (dice : Dice) (road : Cells) (speeds : ℕ → ℕ → ℕ) → AnswersSpeeds motion dice road speeds → Fits speeds road

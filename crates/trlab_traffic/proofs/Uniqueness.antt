@@ -2,17 +2,16 @@
 -- of other weights to them does not change under a step backwards, nor does the smallest; and steps
 -- backwards lead from every ring to the one with all cars in the first cells, for which both ratios are
 -- equal.
-use Rattle.std.proofs.Common.{◌≡◌, ◌≢◌, ◌⊎◌, ℕ, zero, suc, ◌+◌, ◌-◌, ◌*◌, ◌^◌, ◌<◌, ◌≤◌, Bool, true, false, if◌then◌else◌, [], ◌∷◌, length, refl, sym, ◌∙◌, ap, subst, inl, inr, arith}
-use Rattle.std.proofs.Math.Nat.{pow-succ', pow-zero}
-use Rattle.std.proofs.lemmas.Bool.{cases_eq, cases_lt}
+use Rattle.std.proofs.Common.{◌≡◌, ◌≢◌, ◌⊎◌, ℕ, zero, suc, ◌+◌, ◌-◌, ◌*◌, ◌^◌, ◌<◌, ◌≤◌, Bool, true, false}
+use Rattle.std.proofs.Common.{if◌then◌else◌, [], ◌∷◌, length, refl, sym, ◌∙◌, ap, subst, inl, inr, arith}
+use Rattle.std.proofs.{Math.Nat.{pow-succ', pow-zero}, lemmas.Bool.{cases_eq, cases_lt}}
 use Rattle.trlab_bounds.specs.declared.programs.TheConstants.{CERTAIN}
-use Rattle.trlab_traffic.specs.LimitOne.{Ring, ring_after, size}
-use Rattle.trlab_traffic.specs.Stationary.{IsStationary, StationaryWeightsAreUnique, braking_weight, free_cars, is_same, stationary_weight, step_weight}
+use Rattle.trlab_traffic.specs.LimitOne.{Ring, ring_after, size, IsStationary, StationaryWeightsAreUnique}
+use Rattle.trlab_traffic.specs.LimitOne.{braking_weight, free_cars, is_same, stationary_weight, step_weight}
 use Rattle.trlab_traffic.proofs.Chains.{rings, rings_sum, rings_times, sets_sum, size_is, trues}
-use Rattle.trlab_traffic.proofs.Stationary.{weights_are_stationary}
-use Rattle.trlab_traffic.proofs.RingWords.{by_new}
-use Rattle.trlab_traffic.proofs.Clusters.{each_cell, falses, same, same_not, same_self}
-use Rattle.trlab_traffic.proofs.Hops.{before_hop, after_hop, others, hop_long, hop_cars, leads_on, is_itself, has_others, row, blank, sorted}
+use Rattle.trlab_traffic.proofs.{Stationary.weights_are_stationary, Hops.{has_others, row, blank, sorted}}
+use Rattle.trlab_traffic.proofs.{RingWords.by_new, Clusters.{each_cell, falses, same, same_not, same_self}}
+use Rattle.trlab_traffic.proofs.Hops.{before_hop, after_hop, others, hop_long, hop_cars, leads_on, is_itself}
 
 -- products
 some_product : (a b : ℕ) → 0 < a → 0 < b → 0 < a * b

@@ -1,31 +1,23 @@
 -- Kinematic waves: on a relaxed lane every car moves at the limit, or every car closes its gap.
-use Rattle.std.proofs.Common.{◌≡◌, ℕ, zero, suc, ◌+◌, ◌-◌, ◌*◌, ◌<◌, ◌≤◌, min, Bool, true, false, is_some, Some, None, length, refl, sym, ◌∙◌, ap, subst, inl, inr, arith, mod-eq_of_lt, mul-suc, mul_comm}
-use Rattle.std.proofs.Math.Nat.{add-mod_right, add-mul-mod_self_right}
+use Rattle.std.proofs.Common.{◌≡◌, ℕ, zero, suc, ◌+◌, ◌-◌, ◌*◌, ◌<◌, ◌≤◌, min, Bool, true, false, is_some}
+use Rattle.std.proofs.Common.{Some, None, length, refl, sym, ◌∙◌, ap, subst, inl, inr, arith, mod-eq_of_lt}
+use Rattle.std.proofs.{Common.{mul-suc, mul_comm}, Math.Nat.{add-mod_right, add-mul-mod_self_right}}
 use Rattle.std.proofs.lemmas.Bool.{cases_lt}
-use Rattle.trlab_road.specs.Cells.{Cell, Cells, IsAt, Lane, at, lane_car_count, lane_of}
-use Rattle.trlab_road.specs.Gaps.{ahead, gap, next_place}
-use Rattle.trlab_road.specs.Legal.{IsLegal}
-use Rattle.trlab_road.specs.Motion.{LaneMoves}
-use Rattle.trlab_road.proofs.MotionLaws.{lane_same_count, on_lane}
-use Rattle.trlab_road.proofs.Ring.{apart_within_gaps}
+use Rattle.trlab_road.specs.Cells.{Cell, Cells, IsAt, Lane, at, lane_car_count, lane_of, IsLegal}
+use Rattle.trlab_road.specs.{Gaps.{ahead, gap, next_place}, Motion.LaneMoves}
+use Rattle.trlab_road.proofs.{MotionLaws.{lane_same_count, on_lane}, Ring.apart_within_gaps}
 use Rattle.trlab_rules.specs.Rules.{Programs, IsNasch}
-use Rattle.trlab_step.specs.declared.tally.StepTally.{StepTally}
-use Rattle.trlab_step.specs.Laws.{IsLegalLike}
-use Rattle.trlab_step.specs.Next.{IsNext}
-use Rattle.trlab_step.specs.Published.{car_after_motion}
-use Rattle.trlab_step.specs.Run.{ComesTo, IsRoadAt, Seed, dice_at, in_force}
+use Rattle.trlab_step.specs.{declared.tally.StepTally.StepTally, Laws.IsLegalLike, Next.IsNext}
+use Rattle.trlab_step.specs.{Published.car_after_motion, Run.{ComesTo, IsRoadAt, Seed, dice_at, in_force}}
 use Rattle.trlab_step.proofs.RunLaws.{road_at_is_one}
-use Rattle.trlab_traffic.specs.Terms.{is_taken, always}
-use Rattle.trlab_traffic.specs.Waves.{AcceleratesIn, AccelerationEnds, CongestedCarsCloseGaps, FreeFlowMovesAhead, IsCongested, IsDilute, JamsMoveBack, LaneHasRelaxed, PatternIsPeriodic, PatternMovesAhead, PatternMovesBack}
-use Rattle.trlab_traffic.specs.LimitOne.{digit}
+use Rattle.trlab_traffic.{specs.Terms.{is_taken, always}, proofs.RoomAhead.lane_taken_or_empty}
+use Rattle.trlab_traffic.specs.Waves.{AcceleratesIn, AccelerationEnds, CongestedCarsCloseGaps}
+use Rattle.trlab_traffic.specs.Waves.{FreeFlowMovesAhead, IsCongested, IsDilute, JamsMoveBack, LaneHasRelaxed}
+use Rattle.trlab_traffic.specs.Waves.{PatternIsPeriodic, PatternMovesAhead, PatternMovesBack}
+use Rattle.trlab_traffic.{specs.LimitOne.digit, proofs.{FreeFlow.one_rule, Gaps.next_taken, Courses.total_le}}
 use Rattle.trlab_traffic.proofs.Lanes.{ahead_below, ahead_more, ahead_none, run_lanes, total, total_turned}
-use Rattle.trlab_traffic.proofs.RoomAhead.{lane_taken_or_empty}
-use Rattle.trlab_traffic.proofs.FreeFlow.{one_rule}
-use Rattle.trlab_traffic.proofs.Gaps.{next_taken}
-use Rattle.trlab_traffic.proofs.Courses.{total_le}
 use Rattle.trlab_traffic.proofs.Regimes.{MovesBy, at_once_by, gap_moves_by, nasch_moves_by, slow_moves_by}
-use Rattle.trlab_traffic.proofs.Heights.{taken_total}
-use Rattle.trlab_traffic.proofs.Readiness.{Leaping, Suffices, by_gap, by_limit, ready}
+use Rattle.trlab_traffic.proofs.{Heights.taken_total, Readiness.{Leaping, Suffices, by_gap, by_limit, ready}}
 use Rattle.trlab_traffic.proofs.Relaxation.{cells_suffice, lane_at_once, lane_of_run, more_suffice}
 
 -- numbers, each at most its partner, whose sum is that of their partners, are equal to them

@@ -1,15 +1,13 @@
 -- With v_max = 1 and without randomization the taken cells follow rule 184.
-use Rattle.std.proofs.Common.{◌≡◌, ℕ, zero, suc, ◌+◌, ◌-◌, ◌%◌, ◌<◌, ◌≤◌, not, min, true, false, Some, None, length, is_some, refl, sym, ◌∙◌, ap, subst, inl, inr, arith}
-use Rattle.std.proofs.Math.Nat.{add-mod_right, mod-eq_of_lt, mod_self}
-use Rattle.std.proofs.lemmas.Bool.{cases_lt}
-use Rattle.trlab_road.specs.Cells.{Cell, Cells, Lane, at, cell, lane_of}
-use Rattle.trlab_road.specs.Gaps.{ahead, behind, gap}
-use Rattle.trlab_road.specs.Motion.{LaneMoves}
-use Rattle.trlab_road.proofs.Ring.{car_in, clear_within_gap, inside}
-use Rattle.trlab_traffic.specs.Terms.{is_taken}
-use Rattle.trlab_traffic.specs.LimitOne.{EmptyCellsFollowRule184, Rule184HasParticleHoleSymmetry, IsElementaryStep, NaschIsRule184, elementary_rule}
-use Rattle.trlab_traffic.proofs.Lanes.{ahead_behind, ahead_none, behind_ahead, clear_is_gap}
-use Rattle.trlab_traffic.proofs.Steps.{SafeMotion, safe_motion}
+use Rattle.std.proofs.Common.{◌≡◌, ℕ, zero, suc, ◌+◌, ◌-◌, ◌%◌, ◌<◌, ◌≤◌, not, min, true, false, Some, None}
+use Rattle.std.proofs.Common.{length, is_some, refl, sym, ◌∙◌, ap, subst, inl, inr, arith, mod-eq_of_lt}
+use Rattle.std.proofs.{Math.Nat.{add-mod_right, mod_self}, lemmas.Bool.cases_lt}
+use Rattle.trlab_road.specs.{Cells.{Cell, Cells, Lane, at, cell, lane_of}, Gaps.{ahead, behind, gap}}
+use Rattle.trlab_road.{specs.Motion.LaneMoves, proofs.Ring.{car_in, clear_within_gap, inside}}
+use Rattle.trlab_traffic.specs.{Terms.is_taken, LimitOne.EmptyCellsFollowRule184}
+use Rattle.trlab_traffic.specs.LimitOne.{Rule184HasParticleHoleSymmetry, IsElementaryStep, NaschIsRule184}
+use Rattle.trlab_traffic.{specs.LimitOne.elementary_rule, proofs.Lanes.{ahead_behind, ahead_none}}
+use Rattle.trlab_traffic.proofs.{Lanes.{behind_ahead, clear_is_gap}, Steps.{SafeMotion, safe_motion}}
 
 pub empty_cells_go_back : Rule184HasParticleHoleSymmetry
 empty_cells_go_back true true true = refl

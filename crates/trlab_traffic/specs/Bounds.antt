@@ -1,19 +1,13 @@
 -- Bounds on steps and runs: on the distance of all cars, on the numbers of stopped cars and of lane
 -- changes, and on the cost of random braking. Laws: `step_stays_under_triangle`,
--- `run_stays_under_triangle`, `run_keeps_below_peak`, `moving_cars_go`, `few_cars_change_lanes`,
+-- `run_stays_under_triangle`, `run_keeps_below_peak`, `moving_speed_is_bounded`, `few_cars_change_lanes`,
 -- `braking_costs_distance`.
-use Rattle.std.specs.Prelude.{◌≡◌, ℕ, zero, suc, ◌+◌, ◌*◌, ◌≤◌, Bool, ◌&&◌, count_by, nat_le, nat_lt, if◌then◌else◌}
-use Rattle.trlab_road.specs.declared.car.Car.{Car}
-use Rattle.trlab_road.specs.Cells.{Cells, lane_of, cars}
-use Rattle.trlab_road.specs.Gaps.{gap}
-use Rattle.trlab_road.specs.Legal.{IsLegal}
-use Rattle.trlab_road.specs.Standing.{standing}
-use Rattle.trlab_rules.specs.Published.{vdr_braking_chance}
-use Rattle.trlab_rules.specs.Rules.{Programs, IsNasch, IsVdr, IsRickert}
+use Rattle.std.specs.Prelude.{◌≡◌, ℕ, zero, suc, ◌+◌, ◌*◌, ◌≤◌, Bool, ◌&&◌, count_by, nat_le, nat_lt}
+use Rattle.std.specs.Prelude.{if◌then◌else◌}
+use Rattle.trlab_road.specs.{declared.car.Car.Car, Cells.{Cells, lane_of, cars, IsLegal, standing}, Gaps.gap}
+use Rattle.trlab_rules.specs.{Published.vdr_braking_chance, Rules.{Programs, IsNasch, IsVdr, IsRickert}}
 use Rattle.trlab_machine.specs.declared.dice.Dice.{Dice}
-use Rattle.trlab_step.specs.declared.tally.StepTally.{StepTally}
-use Rattle.trlab_step.specs.Next.{IsStep, IsNext}
-use Rattle.trlab_step.specs.Published.{happens_to}
+use Rattle.trlab_step.specs.{declared.tally.StepTally.StepTally, Next.{IsStep, IsNext}, Published.happens_to}
 use Rattle.trlab_step.specs.Run.{Seed, Sheet, ComesTo, IsRoadAt, dice_at}
 use Rattle.trlab_traffic.specs.Terms.{all_cells, always, counted_steps, distance_at_limit, empty_cells}
 
@@ -107,12 +101,12 @@ RunBoundsLaneChanges =
 
 -- does a car brake at random in a step with these dice, if a car of speed v brakes with probability
 -- `chance v` / 2 ^ 31?
-abbrev pub brakes_at_random : (ℕ → ℕ) → Dice → Car → Bool
-brakes_at_random chance dice car = happens_to dice car 0 (chance car.speed)
+abbrev pub is_braking_at_random : (ℕ → ℕ) → Dice → Car → Bool
+is_braking_at_random chance dice car = happens_to dice car 0 (chance car.speed)
 
 -- the number of cars of a road that brake at random in a step with these dice
 abbrev pub braking_cars : (ℕ → ℕ) → Dice → Cells → ℕ
-braking_cars chance dice road = count_by (brakes_at_random chance dice) (standing road)
+braking_cars chance dice road = count_by (is_braking_at_random chance dice) (standing road)
 
 -- does a car of a road have a gap, at least one empty cell ahead?
 abbrev pub has_gap : Cells → Car → Bool
@@ -121,7 +115,7 @@ has_gap road car = nat_lt 0 (gap (lane_of road car.lane) car.place)
 -- the number of cars with a gap that brake at random in a step of a road with these dice
 abbrev pub braking_cars_with_gap : (ℕ → ℕ) → Dice → Cells → ℕ
 braking_cars_with_gap chance dice road =
-    count_by (λ (car : Car). brakes_at_random chance dice car && has_gap road car) (standing road)
+    count_by (λ (car : Car). is_braking_at_random chance dice car && has_gap road car) (standing road)
 
 -- over the counted steps among the first `step` steps of a run, the numbers of braking cars add up to
 -- `sum`; `braking` gives this number for the dice of a step and the road before it

@@ -2,24 +2,17 @@
 -- cost. Laws: `randomization_slows`, `safe_lane_changes_cost_nobody`, `nobody_beats_nasch`,
 -- `nobody_beats_gap`, `randomization_slows_runs`, `nasch_is_attractive`.
 use Rattle.std.specs.Prelude.{◌≡◌, ℕ, ◌+◌, ◌<◌, ◌≤◌, IfSome, List, [], ◌∷◌, length, min}
-use Rattle.trlab_code.specs.declared.instruction.Input.TheVariants.{Gap, Limit}
-use Rattle.trlab_code.specs.declared.instruction.Instr.TheVariants.{Get, Go, Min}
-use Rattle.trlab_code.specs.declared.instruction.Register.TheVariants.{R0, R1}
-use Rattle.trlab_code.specs.declared.program.Kind.TheVariants.{Change, Motion}
-use Rattle.trlab_code.specs.declared.view.View.{View}
-use Rattle.trlab_code.specs.Machine.{Crosses, Goes, EndsWith}
-use Rattle.trlab_code.specs.Program.{Program}
-use Rattle.trlab_code.specs.Views.{IsViewInRange}
-use Rattle.trlab_road.specs.declared.car.Car.{Car}
-use Rattle.trlab_road.specs.Cells.{Cells, IsAt, lane_of, cars}
+use Rattle.trlab_code.specs.declared.instruction.{Input.TheVariants.{Gap, Limit}, Instr.TheVariants.{Get, Go}}
+use Rattle.trlab_code.specs.declared.instruction.{Instr.TheVariants.Min, Register.TheVariants.{R0, R1}}
+use Rattle.trlab_code.specs.declared.{program.Kind.TheVariants.{Change, Motion}, view.View.View}
+use Rattle.trlab_code.specs.{Machine.{Crosses, Goes, EndsWith}, Program.Program, Views.IsViewInRange}
+use Rattle.trlab_road.specs.{declared.car.Car.Car, Cells.{Cells, IsAt, lane_of, cars, IsLegal}}
 use Rattle.trlab_road.specs.Gaps.{ahead, gap}
-use Rattle.trlab_road.specs.Legal.{IsLegal}
 use Rattle.trlab_rules.specs.Rules.{ComputesSpeed, Programs, IsNasch, IsVdr, IsRickert}
 use Rattle.trlab_rules.specs.Published.{nasch_speed, vdr_speed}
 use Rattle.trlab_machine.specs.declared.dice.Dice.{Dice}
 use Rattle.trlab_verify.specs.Verified.{CheckedProgram}
-use Rattle.trlab_step.specs.declared.tally.StepTally.{StepTally}
-use Rattle.trlab_step.specs.Next.{IsNext}
+use Rattle.trlab_step.specs.{declared.tally.StepTally.StepTally, Next.IsNext}
 use Rattle.trlab_step.specs.Run.{Seed, Sheet, ComesTo, IsRoadAt}
 use Rattle.trlab_traffic.specs.Terms.{EachRule, StaysInLane, always, seed_from}
 use Rattle.trlab_traffic.specs.Following.{HasGone, IsNextOf}

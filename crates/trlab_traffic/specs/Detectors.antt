@@ -1,18 +1,15 @@
 -- Detectors, which count the cars that pass the end of a cell, and the cars between two of them. Laws:
 -- `detectors_count_flow`, `detectors_count_runs`, `detector_counts_below_peak`, `rows_of_detectors_count`.
-use Rattle.std.specs.Prelude.{◌≡◌, ℕ, zero, suc, ◌+◌, ◌-◌, ◌*◌, ◌<◌, ◌≤◌, Bool, length, min, count_by, sum_by, nat_le, nat_lt, if◌then◌else◌}
-use Rattle.std.specs.List.{range_with_len}
-use Rattle.trlab_road.specs.declared.car.Car.{Car}
-use Rattle.trlab_road.specs.Cells.{Lane, Cells, lane_of, lane_car_count, cars}
-use Rattle.trlab_road.specs.Gaps.{ahead, behind}
-use Rattle.trlab_road.specs.Legal.{IsLegal}
-use Rattle.trlab_road.specs.Standing.{standing_from}
+use Rattle.std.specs.Prelude.{◌≡◌, ℕ, zero, suc, ◌+◌, ◌-◌, ◌*◌, ◌<◌, ◌≤◌, Bool, length, min, count_by, sum_by}
+use Rattle.std.specs.{Prelude.{nat_le, nat_lt, if◌then◌else◌}, List.range_with_len}
+use Rattle.trlab_road.specs.{declared.car.Car.Car, Cells.{Lane, Cells, lane_of, lane_car_count, cars}}
+use Rattle.trlab_road.specs.{Cells.{IsLegal, standing_from}, Gaps.{ahead, behind}}
 use Rattle.trlab_rules.specs.Rules.{Programs}
 use Rattle.trlab_machine.specs.declared.dice.Dice.{Dice}
-use Rattle.trlab_step.specs.declared.tally.StepTally.{StepTally}
-use Rattle.trlab_step.specs.Next.{IsNext}
+use Rattle.trlab_step.specs.{declared.tally.StepTally.StepTally, Next.IsNext}
 use Rattle.trlab_step.specs.Run.{Seed, Sheet, ComesTo, IsRoadAt}
-use Rattle.trlab_traffic.specs.Terms.{EachRule, StaysInLane, empty_cells, is_taken, lane_empty_cells, min_of_cars_and_empty_cells}
+use Rattle.trlab_traffic.specs.Terms.{EachRule, StaysInLane, empty_cells, is_taken, lane_empty_cells}
+use Rattle.trlab_traffic.specs.Terms.{min_of_cars_and_empty_cells}
 
 -- The count of a detector in a step, and the cars between two detectors.
 
@@ -29,13 +26,13 @@ place_before_motion n car = behind n car.place car.speed
 -- did a car pass the end of cell x in the last motion, on a ring of n cells? Then cell x is less than its
 -- speed ahead of its old place. For example, on a ring of 10 cells a car that moved from cell 8 to cell 1
 -- passed the ends of cells 8, 9 and 0
-abbrev pub passes : ℕ → ℕ → Car → Bool
-passes n x car = nat_lt (cells_ahead_to n (place_before_motion n car) x) car.speed
+abbrev pub has_passed : ℕ → ℕ → Car → Bool
+has_passed n x car = nat_lt (cells_ahead_to n (place_before_motion n car) x) car.speed
 
 -- the count of the detector at the end of cell x of a lane: the number of cars that passed it in the step
 -- that led to this lane
 abbrev pub passages : Lane → ℕ → ℕ
-passages lane x = count_by (passes (length lane) x) (standing_from 0 0 lane)
+passages lane x = count_by (has_passed (length lane) x) (standing_from 0 0 lane)
 
 -- the counts of all detectors of a lane, one at the end of each cell, added up
 abbrev pub all_passages : Lane → ℕ

@@ -2,16 +2,12 @@
 -- one lane reaches min(v_max * density, 1 - density), and keeps this value. Laws: `nasch_reaches_triangle`,
 -- `rule_184_reaches_triangle`, `gap_reaches_triangle`, `even_cars_flow_on_triangle`.
 use Rattle.std.specs.Prelude.{◌≡◌, ℕ, ◌+◌, ◌-◌, ◌*◌, ◌<◌, ◌≤◌, length, min, sum_by}
-use Rattle.trlab_road.specs.declared.car.Car.{Car}
-use Rattle.trlab_road.specs.Cells.{Cells, IsAt, lane_of, cars}
-use Rattle.trlab_road.specs.Gaps.{gap}
-use Rattle.trlab_road.specs.Legal.{IsLegal}
+use Rattle.trlab_road.specs.{declared.car.Car.Car, Cells.{Cells, IsAt, lane_of, cars, IsLegal}, Gaps.gap}
 use Rattle.trlab_road.specs.Spreading.{IsEvenlySpaced, CanSpread}
 use Rattle.trlab_rules.specs.Rules.{Programs, IsNasch}
-use Rattle.trlab_step.specs.declared.tally.StepTally.{StepTally}
-use Rattle.trlab_step.specs.Run.{Seed, Sheet, ComesTo}
-use Rattle.trlab_traffic.specs.Terms.{EachRule, StaysInLane, always, counted_steps, empty_cells, lane_max_distance, max_distance}
-use Rattle.trlab_traffic.specs.Jams.{IsQueued}
+use Rattle.trlab_step.specs.{declared.tally.StepTally.StepTally, Run.{Seed, Sheet, ComesTo}}
+use Rattle.trlab_traffic.specs.Terms.{EachRule, StaysInLane, always, counted_steps, empty_cells}
+use Rattle.trlab_traffic.specs.{Terms.{lane_max_distance, max_distance}, FlowAndJams.IsQueued}
 use Rattle.trlab_traffic.specs.Comparison.{ReachesSpeedAtOnce}
 
 -- the flow of a run is on the triangle, min(v_max * density, 1 - density): per counted step its distance

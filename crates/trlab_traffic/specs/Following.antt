@@ -1,18 +1,12 @@
 -- Cars that follow one another on a lane: their gaps, their order, and how far each goes. Laws:
--- `gaps_follow`, `gaps_fill_lanes`, `nobody_overtakes`, `cars_go_distance`.
-use Rattle.std.specs.Prelude.{◌≡◌, ℕ, zero, suc, ◌+◌, ◌<◌, ◌≤◌, List, map, sum, sum_by}
-use Rattle.std.specs.List.{range_with_len}
-use Rattle.trlab_road.specs.declared.car.Car.{Car}
-use Rattle.trlab_road.specs.Cells.{Lane, Cells, IsAt, lane_of, lane_car_count, cars}
-use Rattle.trlab_road.specs.Gaps.{gap, next_place}
-use Rattle.trlab_road.specs.Legal.{IsLegal}
-use Rattle.trlab_road.specs.Standing.{standing_from}
+-- `gaps_follow_speeds`, `gaps_fill_lanes`, `nobody_overtakes`, `cars_go_distance`.
+use Rattle.std.specs.{Prelude.{◌≡◌, ℕ, zero, suc, ◌+◌, ◌<◌, ◌≤◌, List, map, sum, sum_by}, List.range_with_len}
+use Rattle.trlab_road.specs.{declared.car.Car.Car, Cells.{Lane, Cells, IsAt, lane_of, lane_car_count, cars}}
+use Rattle.trlab_road.specs.{Cells.{IsLegal, standing_from}, Gaps.{gap, next_place}}
 use Rattle.trlab_rules.specs.Rules.{Programs}
 use Rattle.trlab_machine.specs.declared.dice.Dice.{Dice}
-use Rattle.trlab_step.specs.declared.tally.StepTally.{StepTally}
-use Rattle.trlab_step.specs.Next.{IsNext}
-use Rattle.trlab_step.specs.Published.{AllMoveAhead, car_after_motion}
-use Rattle.trlab_step.specs.Run.{Seed, Sheet, ComesTo, IsRoadAt}
+use Rattle.trlab_step.specs.{declared.tally.StepTally.StepTally, Next.IsNext}
+use Rattle.trlab_step.specs.{Published.{AllMoveAhead, car_after_motion}, Run.{Seed, Sheet, ComesTo, IsRoadAt}}
 use Rattle.trlab_traffic.specs.Terms.{EachRule, StaysInLane, lane_empty_cells}
 
 -- Gaps: how they change in a step.

@@ -2,19 +2,16 @@
 -- its steps and runs stay as they are, or change in the same way. Laws: `ring_is_homogeneous`,
 -- `lanes_are_symmetric`, `lanes_are_apart`, `influence_stays_in_light_cone`,
 -- `deterministic_rules_ignore_key`, `deterministic_runs_become_periodic`, `rules_reduce_to_nasch`.
-use Rattle.std.specs.Prelude.{◌≡◌, ◌↔◌, ◌⊎◌, ℕ, ◌+◌, ◌*◌, ◌^◌, ◌<◌, ◌≤◌, Bool, true, false, IfSome, List, [], ◌∷◌, All, length}
+use Rattle.std.specs.Prelude.{◌≡◌, ◌↔◌, ◌⊎◌, ℕ, ◌+◌, ◌*◌, ◌^◌, ◌<◌, ◌≤◌, Bool, true, false, IfSome, List, []}
+use Rattle.std.specs.Prelude.{◌∷◌, All, length}
 use Rattle.trlab_bounds.specs.declared.programs.TheConstants.{CERTAIN}
-use Rattle.trlab_code.specs.declared.instruction.Input.TheVariants.{Lane}
-use Rattle.trlab_code.specs.declared.instruction.Instr.{Instr}
+use Rattle.trlab_code.specs.declared.instruction.{Input.TheVariants.Lane, Instr.Instr}
 use Rattle.trlab_code.specs.declared.instruction.Instr.TheVariants.{Draw, Get}
-use Rattle.trlab_road.specs.Cells.{Cells, at, lane_of, cars}
-use Rattle.trlab_road.specs.Gaps.{ahead}
-use Rattle.trlab_road.specs.Legal.{IsLegal}
+use Rattle.trlab_road.specs.{Cells.{Cells, at, lane_of, cars, IsLegal}, Gaps.ahead}
 use Rattle.trlab_rules.specs.Rules.{Programs, IsNasch, IsVdr, IsRickert}
 use Rattle.trlab_machine.specs.declared.dice.Dice.{Dice}
 use Rattle.trlab_step.specs.declared.tally.StepTally.{StepTally}
-use Rattle.trlab_step.specs.Run.{IsRuleFor, Seed, Sheet, ComesTo, IsRoadAt}
-use Rattle.trlab_step.specs.Next.{IsNext}
+use Rattle.trlab_step.specs.{Run.{IsRuleFor, Seed, Sheet, ComesTo, IsRoadAt}, Next.IsNext}
 use Rattle.trlab_traffic.specs.Terms.{EachRule, StaysInLane, all_cells, always, rotate_road, seed_from}
 
 -- Homogeneity: all places of a ring are alike. The future of a road does not depend on where cell 0 is.

@@ -6,8 +6,7 @@ pub mod Following
 pub mod Detectors
 pub mod Invariance
 -- free flow and jams
-pub mod FreeFlow
-pub mod Jams
+pub mod FlowAndJams
 -- rules compared
 pub mod Comparison
 -- without randomization
@@ -15,4 +14,3 @@ pub mod Diagram
 pub mod Waves
 -- v_max = 1
 pub mod LimitOne
-pub mod Stationary

@@ -1,9 +1,8 @@
 -- The terms in which the laws of traffic are stated: rules and runs, the cells of a road, how far its cars
 -- can go in a step, and rotated roads.
-use Rattle.std.specs.Prelude.{◌≡◌, ℕ, ◌-◌, ◌*◌, Bool, None, is_some, is_none, [], ◌∷◌, map, All, length, min, count_by, sum_by}
-use Rattle.std.specs.List.{range_with_len}
-use Rattle.trlab_road.specs.Cells.{Lane, Cells, at, lane_car_count, cars}
-use Rattle.trlab_road.specs.Gaps.{ahead}
+use Rattle.std.specs.Prelude.{◌≡◌, ℕ, ◌-◌, ◌*◌, Bool, None, is_some, is_none, [], ◌∷◌, map, All, length, min}
+use Rattle.std.specs.{Prelude.{count_by, sum_by}, List.range_with_len}
+use Rattle.trlab_road.specs.{Cells.{Lane, Cells, at, lane_car_count, cars}, Gaps.ahead}
 use Rattle.trlab_rules.specs.Rules.{Programs}
 use Rattle.trlab_step.specs.Run.{Seed, Sheet}
 

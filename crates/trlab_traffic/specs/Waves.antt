@@ -1,19 +1,13 @@
 -- Kinematic waves (Lighthill and Whitham 1955) without randomization, and the minimum principle (Newell
 -- 1993, Daganzo 2006), which is their Hopf-Lax formula. Laws: `kinematic_waves`, `minimum_principle`.
 use Rattle.std.specs.Prelude.{◌≡◌, ◌⊎◌, ℕ, zero, suc, ◌+◌, ◌-◌, ◌*◌, ◌<◌, ◌≤◌, length, min, sum_by}
-use Rattle.trlab_road.specs.declared.car.Car.{Car}
-use Rattle.trlab_road.specs.Cells.{Lane, Cells, IsAt, lane_of, lane_car_count}
-use Rattle.trlab_road.specs.Gaps.{ahead, gap, next_place}
-use Rattle.trlab_road.specs.Legal.{IsLegal}
-use Rattle.trlab_road.specs.Standing.{standing}
+use Rattle.trlab_road.specs.{declared.car.Car.Car, Cells.{Lane, Cells, IsAt, lane_of, lane_car_count}}
+use Rattle.trlab_road.specs.{Cells.{IsLegal, standing}, Gaps.{ahead, gap, next_place}}
 use Rattle.trlab_rules.specs.Rules.{Programs, IsNasch}
-use Rattle.trlab_step.specs.declared.tally.StepTally.{StepTally}
-use Rattle.trlab_step.specs.Published.{AllMoveAhead, car_after_motion}
+use Rattle.trlab_step.specs.{declared.tally.StepTally.StepTally, Published.{AllMoveAhead, car_after_motion}}
 use Rattle.trlab_step.specs.Run.{Seed, Sheet, ComesTo, IsRoadAt}
 use Rattle.trlab_traffic.specs.Terms.{EachRule, StaysInLane, always, is_taken, lane_max_distance}
-use Rattle.trlab_traffic.specs.Following.{HasGone}
-use Rattle.trlab_traffic.specs.Comparison.{ReachesSpeedAtOnce}
-use Rattle.trlab_traffic.specs.Diagram.{HasRelaxed}
+use Rattle.trlab_traffic.specs.{Following.HasGone, Comparison.ReachesSpeedAtOnce, Diagram.HasRelaxed}
 
 -- Kinematic waves: once a lane has relaxed, its pattern of taken and empty cells keeps its form and moves,
 -- ahead at v_max if the lane is dilute, and back by one cell per step if it is congested, for every v_max.

@@ -2,16 +2,15 @@
 //!
 //! Each law is the contract of a function with an empty body.
 
-ghost use Rattle.trlab_traffic.specs.Bounds.{BrakingCostsRuns, BrakingCostsRunsWithLaneChanges};
+ghost use Rattle.trlab_traffic.specs.Bounds.{BrakingCostsRuns, BrakingCostsRunsWithLaneChanges, StepStaysUnderTriangle};
 ghost use Rattle.trlab_traffic.specs.Bounds.{BrakingCostsRunsWithSlowStarts, BrakingCostsSteps};
 ghost use Rattle.trlab_traffic.specs.Bounds.{BrakingCostsStepsWithLaneChanges, CellsAreTakenOrEmpty, EachRunHasBraked};
 ghost use Rattle.trlab_traffic.specs.Bounds.{RunBoundsLaneChanges, RunBoundsMovingSpeed, RunKeepsBelowPeak};
 ghost use Rattle.trlab_traffic.specs.Bounds.{RunStaysUnderTriangle, StepBoundsLaneChanges, StepBoundsMovingSpeed};
-ghost use Rattle.trlab_traffic.specs.Bounds.{StepStaysUnderTriangle};
-ghost use Rattle.trlab_traffic.specs.FreeFlow.{FreeFlowGoesOn, FreeFlowMovesAsOne, FreeFlowStaysFree};
-ghost use Rattle.trlab_traffic.specs.FreeFlow.{SlowStartsKeepFreeFlow, SlowStartsKeepJams, SlowStartsMoveFreeFlowAsOne};
-ghost use Rattle.trlab_traffic.specs.FreeFlow.{TwoFlowsAtOneDensity};
-ghost use Rattle.trlab_traffic.specs.Jams.{CarWithoutGapStops, QueueFlowsOut, QueueStarts, QueueWaits};
+ghost use Rattle.trlab_traffic.specs.FlowAndJams.{FreeFlowGoesOn, FreeFlowMovesAsOne, FreeFlowStaysFree};
+ghost use Rattle.trlab_traffic.specs.FlowAndJams.{SlowStartsKeepFreeFlow, SlowStartsKeepJams, SlowStartsMoveFreeFlowAsOne};
+ghost use Rattle.trlab_traffic.specs.FlowAndJams.{TwoFlowsAtOneDensity};
+ghost use Rattle.trlab_traffic.specs.FlowAndJams.{CarWithoutGapStops, QueueFlowsOut, QueueStarts, QueueWaits};
 ghost use Rattle.trlab_traffic.specs.Following.{CarsGoDistance, EachCarHasGone, EachCarHasNext};
 ghost use Rattle.trlab_traffic.specs.Following.{GapChangesBySpeedDifference, GapsFillLane, GoneIsUnique};
 ghost use Rattle.trlab_traffic.specs.Following.{NextCarIsUnique, RunKeepsLaneCars, RunKeepsNextCar, StepKeepsNextCar};
@@ -35,9 +34,9 @@ ghost use Rattle.trlab_traffic.specs.Waves.{NobodyBeatsMinimumPrinciple, Pattern
 ghost use Rattle.trlab_traffic.specs.LimitOne.{EmptyCellsFollowRule184, NaschGoesByRings, NaschIsRule184};
 ghost use Rattle.trlab_traffic.specs.LimitOne.{NaschStepsRings, Rule184ClassifiesDensity};
 ghost use Rattle.trlab_traffic.specs.LimitOne.{Rule184HasParticleHoleSymmetry, StepsKeepCars};
-ghost use Rattle.trlab_traffic.specs.Stationary.{DrawsAreCounted, FlowIsExact, RingsAreClustered};
-ghost use Rattle.trlab_traffic.specs.Stationary.{StationaryWeightsAreUnique, StepWeightsAddUp, StepWeightsCountWords};
-ghost use Rattle.trlab_traffic.specs.Stationary.{WeightsAreStationary, WeightsAreStationaryOverWords};
+ghost use Rattle.trlab_traffic.specs.LimitOne.{DrawsAreCounted, FlowIsExact, RingsAreClustered};
+ghost use Rattle.trlab_traffic.specs.LimitOne.{StationaryWeightsAreUnique, StepWeightsAddUp, StepWeightsCountWords};
+ghost use Rattle.trlab_traffic.specs.LimitOne.{WeightsAreStationary, WeightsAreStationaryOverWords};
 ghost use Rattle.trlab_traffic.specs.Detectors.{DetectorCountExists, DetectorCountsAtMostOne, DetectorCountsBelowPeak};
 ghost use Rattle.trlab_traffic.specs.Detectors.{DetectorMeasuresFlow, DetectorsAgree, DetectorsAgreeByCars};
 ghost use Rattle.trlab_traffic.specs.Detectors.{DetectorsCountDistance, DetectorsCountRun, RowMeasuresFlow, RowsAgree};
@@ -52,7 +51,7 @@ pub fn step_stays_under_triangle()
 {}
 
 /// The mean distance of the counted steps of a run is at most the number of empty cells, and at most v_max times the
-/// number of cars, under any schedule of rules. The cars and the empty cells of a road add up to all its cells.
+/// number of cars, under any sheet of rules. The cars and the empty cells of a road add up to all its cells.
 pub fn run_stays_under_triangle()
     ensures cells { CellsAreTakenOrEmpty }
     ensures run { RunStaysUnderTriangle }
@@ -64,8 +63,8 @@ pub fn run_keeps_below_peak()
 {}
 
 /// A car that is not stopped moves at least one cell per step, and at most v_max cells. So the distance and the number
-/// of stopped cars bound each other, in steps and in runs.
-pub fn moving_cars_go()
+/// of stopped cars bound each other in steps, and so do the sums of both in runs.
+pub fn moving_speed_is_bounded()
     ensures step { StepBoundsMovingSpeed }
     ensures run { RunBoundsMovingSpeed }
 {}
@@ -109,7 +108,7 @@ pub fn randomization_slows()
 {}
 
 /// In a step without lane changes a car's gap changes by the new speed of the next car ahead minus its own new speed.
-pub fn gaps_follow()
+pub fn gaps_follow_speeds()
     ensures { GapChangesBySpeedDifference }
 {}
 

@@ -1,20 +1,13 @@
 -- An accepted program is of its kind, and its control only goes forward.
-use Rattle.std.proofs.Common.{◌≡◌, ℕ, zero, suc, ◌<◌, ◌&&◌, refl, arith, inl, inr, List, length, Bool, true, false, IsTrue, Option, Some, None, nat_eq, nat_le, slice_get, eqb-true, leb-false}
-use Rattle.std.proofs.lemmas.Option.{slice_get_within}
-use Rattle.trlab_code.specs.declared.program.Kind.{Kind}
-use Rattle.trlab_code.specs.declared.program.Kind.TheVariants.{Motion, Change}
-use Rattle.trlab_code.specs.declared.instruction.Instr.{Instr}
-use Rattle.trlab_code.specs.declared.instruction.Instr.TheVariants.{Go, Cross, Stay}
-use Rattle.trlab_code.specs.Program.{Program, IsValidProgram}
-use Rattle.trlab_code.specs.Flow.{target, falls, is_end, on_target}
-use Rattle.trlab_notes.specs.Reasons.{is_of_kind}
-use Rattle.trlab_notes.specs.Notes.{Note}
-use Rattle.trlab_verify.specs.Verified.{IsChecked}
-use Rattle.trlab_verify.specs.Verdict.{HasPath, IsLongest, IsForward, IsAccepted}
-use Rattle.trlab_notes.proofs.Steps.{IsClear, clear, not_false}
-use Rattle.trlab_verify.proofs.Reasons.{noted}
-use Rattle.trlab_verify.proofs.Runs.{sound}
-use Rattle.trlab_verify.proofs.Ways.{either_of, both_of}
+use Rattle.std.proofs.Common.{◌≡◌, ℕ, zero, suc, ◌<◌, ◌&&◌, refl, arith, inl, inr, List, length, Bool, true}
+use Rattle.std.proofs.Common.{false, IsTrue, Option, Some, None, nat_eq, nat_le, slice_get, eqb-true}
+use Rattle.std.proofs.{Common.leb-false, lemmas.Option.slice_get_within}
+use Rattle.trlab_code.specs.declared.program.Kind.{Kind, TheVariants.{Motion, Change}}
+use Rattle.trlab_code.specs.declared.instruction.Instr.{Instr, TheVariants.{Go, Cross, Stay}}
+use Rattle.trlab_code.specs.{Program.{Program, IsValidProgram}, Flow.{target, falls, is_end, on_target}}
+use Rattle.trlab_notes.{specs.{Reasons.is_of_kind, Notes.Note}, proofs.Steps.{IsClear, clear, not_false}}
+use Rattle.trlab_verify.specs.{Verified.IsChecked, Verdict.{HasPath, IsLongest, IsForward, IsAccepted}}
+use Rattle.trlab_verify.proofs.{Reasons.noted, Runs.sound, Ways.{either_of, both_of}}
 
 -- an instruction with no fault has a note with no reason against it
 pub all_clear : (kind : Kind) (program : Program) → IsAccepted kind program → (pc : ℕ) (i : Instr) →

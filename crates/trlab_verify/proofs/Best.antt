@@ -1,27 +1,20 @@
 -- If some table of notes checks, the notes of the verdict are at least as strong, and the program is
 -- accepted.
-use Rattle.std.proofs.Common.{◌≡◌, ℕ, zero, suc, ◌<◌, ◌≤◌, ◌&&◌, refl, sym, subst, arith, inl, inr, List, length, Bool, true, false, Option, Some, None, nat_eq, slice_get, IfSome}
-use Rattle.std.proofs.lemmas.Bool.{eqb-true, cases_lt}
-use Rattle.trlab_code.specs.declared.program.Kind.{Kind}
-use Rattle.trlab_code.specs.declared.instruction.Instr.{Instr}
-use Rattle.trlab_code.specs.declared.instruction.Variable.{Variable}
-use Rattle.trlab_code.specs.declared.instruction.Instr.TheVariants.{Jump, Go, Cross, Stay}
-use Rattle.trlab_code.specs.Program.{Program}
-use Rattle.trlab_code.specs.Flow.{target, falls, on_target}
+use Rattle.std.proofs.Common.{◌≡◌, ℕ, zero, suc, ◌<◌, ◌≤◌, ◌&&◌, refl, sym, subst, arith, inl, inr, List}
+use Rattle.std.proofs.Common.{length, Bool, true, false, Option, Some, None, nat_eq, slice_get, IfSome}
+use Rattle.std.proofs.{Common.eqb-true, lemmas.Bool.cases_lt}
+use Rattle.trlab_code.specs.declared.{program.Kind.Kind, instruction.Instr.{Instr, TheVariants.{Jump, Go}}}
+use Rattle.trlab_code.specs.declared.instruction.{Instr.TheVariants.{Cross, Stay}, Variable.Variable}
+use Rattle.trlab_code.specs.{Program.Program, Flow.{target, falls, on_target}}
 use Rattle.trlab_notes.specs.Reasons.{some_unset, some_of_wrong_type}
-use Rattle.trlab_notes.specs.Notes.{Note, entry}
-use Rattle.trlab_notes.specs.Transfer.{next_note, jump_note}
-use Rattle.trlab_notes.specs.Order.{join, IsNoStronger}
-use Rattle.trlab_verify.specs.Verdict.{Follows, add_note, add_notes, if_here, next_note_to, jump_note_to, is_target, incoming, note_at, IsAccepted}
-use Rattle.trlab_verify.specs.Tables.{IsNoStrongerThanVerdictNote}
-use Rattle.trlab_verify.proofs.Checking.{ChecksBy}
+use Rattle.trlab_notes.specs.{Notes.{Note, entry, join, IsNoStronger}, Transfer.{next_note, jump_note}}
 use Rattle.trlab_notes.proofs.Order.{Closed, On, through_on, join_most_on}
-use Rattle.trlab_notes.proofs.Monotone.{Reaches, BothOn, fall_up, jump_up, clear_up, passes, All_variables, all_closed, on_all, all_on, reaches_all}
-use Rattle.trlab_notes.proofs.Steps.{IsClear, clear}
-use Rattle.trlab_verify.proofs.Runs.{fetch}
-use Rattle.trlab_verify.proofs.Accepted.{target_ahead, next_ahead}
-use Rattle.trlab_verify.proofs.Verdicts.{tested}
-use Rattle.trlab_verify.proofs.Ways.{either_of, both_of}
+use Rattle.trlab_notes.proofs.Monotone.{Reaches, BothOn, fall_up, jump_up, clear_up, passes, All_variables}
+use Rattle.trlab_notes.proofs.{Monotone.{all_closed, on_all, all_on, reaches_all}, Steps.{IsClear, clear}}
+use Rattle.trlab_verify.specs.Verdict.{Follows, add_note, add_notes, if_here, next_note_to, jump_note_to}
+use Rattle.trlab_verify.{specs.Verdict.{is_target, incoming, note_at, IsAccepted}, proofs.Checking.ChecksBy}
+use Rattle.trlab_verify.{specs.Tables.IsNoStrongerThanVerdictNote, proofs.Accepted.{target_ahead, next_ahead}}
+use Rattle.trlab_verify.proofs.{Runs.fetch, Verdicts.tested, Ways.{either_of, both_of}}
 
 module _ (V : Variable → Type 0) (closed : Closed V) where
   -- the incoming note is no weaker than t

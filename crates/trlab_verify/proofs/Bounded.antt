@@ -1,40 +1,37 @@
 -- No level above 2 is ever known.
-use Rattle.std.proofs.Common.{ℕ, zero, suc, ◌<◌, ◌≤◌, max, subst, arith, List, length, Bool, true, false, Option, Some, None, nat_eq, cond, slice_get, IfSome}
-use Rattle.trlab_code.specs.declared.program.Kind.{Kind}
-use Rattle.trlab_code.specs.declared.instruction.Input.TheVariants.{Speed, Limit, Headspeed}
-use Rattle.trlab_code.specs.declared.instruction.Instr.{Instr}
-use Rattle.trlab_code.specs.declared.instruction.Instr.TheVariants.{Get, Copy, Add, Sub, Div, Min, Max, JumpLess, JumpAtMost, JumpTrue, JumpFalse}
-use Rattle.trlab_code.specs.declared.instruction.Variable.{Variable}
+use Rattle.std.proofs.Common.{ℕ, zero, suc, ◌<◌, ◌≤◌, max, subst, arith, List, length, Bool, true, false}
+use Rattle.std.proofs.Common.{Option, Some, None, nat_eq, cond, slice_get, IfSome}
+use Rattle.trlab_code.specs.declared.{program.Kind.Kind, instruction.{Variable.Variable, Register.Register}}
+use Rattle.trlab_code.specs.declared.instruction.{Input.TheVariants.{Speed, Limit, Headspeed}, Instr.Instr}
+use Rattle.trlab_code.specs.declared.instruction.Instr.TheVariants.{Get, Copy, Add, Sub, Div, Min, Max}
+use Rattle.trlab_code.specs.declared.instruction.Instr.TheVariants.{JumpLess, JumpAtMost, JumpTrue, JumpFalse}
+use Rattle.trlab_code.specs.{Machine.update, Program.Program, Flow.{target, destination}}
 use Rattle.trlab_code.specs.declared.instruction.Variable.TheVariants as variable
-use Rattle.trlab_code.specs.declared.instruction.Register.{Register}
-use Rattle.trlab_code.specs.Machine.{update}
-use Rattle.trlab_code.specs.Program.{Program}
-use Rattle.trlab_code.specs.Flow.{target, destination}
-use Rattle.trlab_notes.specs.declared.note.AbstractValue.{AbstractValue}
-use Rattle.trlab_notes.specs.declared.note.AbstractValue.TheVariants.{Nothing, Between, Implies}
-use Rattle.trlab_notes.specs.Notes.{Note, known_level, level_between, same_variable, entry, entry_level, entry_values}
-use Rattle.trlab_notes.specs.Order.{join}
-use Rattle.trlab_notes.specs.Transfer.{sharpen, slacken, chain, least, most, result_value, result_to, to_result, register_to, assign, assign_destination, refine_order, refine_flag, next_note, jump_note}
-use Rattle.trlab_verify.specs.Verdict.{add_note, add_notes, if_here, next_note_to, jump_note_to, is_target, incoming}
-use Rattle.trlab_verify.specs.Tables.{HasValidLevels}
-use Rattle.trlab_verify.proofs.Checking.{ChecksBy}
+use Rattle.trlab_notes.specs.declared.note.AbstractValue.{AbstractValue, TheVariants.{Unknown, Between}}
+use Rattle.trlab_notes.specs.{declared.note.AbstractValue.TheVariants.Implies, Notes.{Note, known_level}}
+use Rattle.trlab_notes.specs.Notes.{level_between, same_variable, entry, entry_level, entry_values, join}
+use Rattle.trlab_notes.specs.Transfer.{sharpen, slacken, chain, least, most, result_value, result_to}
+use Rattle.trlab_notes.specs.Transfer.{to_result, register_to, assign, assign_destination, refine_order}
+use Rattle.trlab_notes.specs.Transfer.{refine_flag, next_note, jump_note}
+use Rattle.trlab_verify.specs.Verdict.{add_note, add_notes, if_here, next_note_to, jump_note_to, is_target}
+use Rattle.trlab_verify.{specs.{Verdict.incoming, Tables.HasValidLevels}, proofs.Checking.ChecksBy}
 use Rattle.trlab_verify.proofs.Best.{best}
 
 known_two : (s t : AbstractValue) (same : Bool) (k : ℕ) → k ≤ 2 → level_between s t same k ≤ 2
 known_two (Between a b) (Between c d) true k h = omega arith
 known_two (Between a b) (Between c d) false k h = grind arith
-known_two (Between a b) Nothing same k h = omega arith
+known_two (Between a b) Unknown same k h = omega arith
 known_two (Between a b) (Implies i) same k h = omega arith
-known_two Nothing t same k h = omega arith
+known_two Unknown t same k h = omega arith
 known_two (Implies i) t same k h = omega arith
 
 -- the larger of two levels, one of which is known
 known_max : (s t : AbstractValue) (same : Bool) (j k : ℕ) → level_between s t same j ≤ 2 → k ≤ 2 → level_between s t same (max j k) ≤ 2
 known_max (Between a b) (Between c d) true j k h l = omega arith
 known_max (Between a b) (Between c d) false j k h l = grind arith
-known_max (Between a b) Nothing same j k h l = omega arith
+known_max (Between a b) Unknown same j k h l = omega arith
 known_max (Between a b) (Implies i) same j k h l = omega arith
-known_max Nothing t same j k h l = omega arith
+known_max Unknown t same j k h l = omega arith
 known_max (Implies i) t same j k h l = omega arith
 
 sharpen_two : (k lo : ℕ) → k ≤ 2 → sharpen k lo ≤ 2

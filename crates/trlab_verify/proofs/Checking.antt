@@ -1,12 +1,8 @@
 -- Tables that check, as functions from a pc to its note.
 use Rattle.std.proofs.Common.{◌≡◌, ℕ, suc, ◌<◌, subst, List, length, Some, None, slice_get, IfSome}
 use Rattle.std.proofs.lemmas.Option.{slice_get_within}
-use Rattle.trlab_code.specs.declared.program.Kind.{Kind}
-use Rattle.trlab_code.specs.declared.instruction.Instr.{Instr}
-use Rattle.trlab_code.specs.Program.{Program}
-use Rattle.trlab_notes.specs.Notes.{Note, entry}
-use Rattle.trlab_notes.specs.Transfer.{next_note, jump_note}
-use Rattle.trlab_notes.specs.Order.{IsNoStronger}
+use Rattle.trlab_code.specs.{declared.{program.Kind.Kind, instruction.Instr.Instr}, Program.Program}
+use Rattle.trlab_notes.specs.{Notes.{Note, entry, IsNoStronger}, Transfer.{next_note, jump_note}}
 use Rattle.trlab_notes.specs.Reasons.{reason_against}
 use Rattle.trlab_verify.specs.Tables.{Checks, ChecksAt, note_in}
 

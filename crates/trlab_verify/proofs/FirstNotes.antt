@@ -1,17 +1,14 @@
 -- The notes of a rejected program, up to the instruction at which the verdict rejects it.
-use Rattle.std.proofs.Common.{◌≡◌, ◌≢◌, ◌∙◌, ℕ, zero, suc, ◌<◌, ◌≤◌, ◌+◌, ap, arith, sym, subst, refl, length, true, false, Bool, List, Option, Some, None, nat_eq, inl, inr, IfSome}
-use Rattle.std.proofs.lemmas.Bool.{eqb-false, cases_lt}
-use Rattle.std.proofs.lemmas.List.{get_or-map, length-map}
-use Rattle.trlab_code.specs.declared.program.Kind.{Kind}
-use Rattle.trlab_code.specs.Program.{Program}
+use Rattle.std.proofs.Common.{◌≡◌, ◌≢◌, ◌∙◌, ℕ, zero, suc, ◌<◌, ◌≤◌, ◌+◌, ap, arith, sym, subst, refl, length}
+use Rattle.std.proofs.Common.{true, false, Bool, List, Option, Some, None, nat_eq, inl, inr, IfSome}
+use Rattle.std.proofs.lemmas.{Bool.{eqb-false, cases_lt}, List.{get_or-map, length-map}}
+use Rattle.trlab_code.specs.{declared.program.Kind.Kind, Program.Program}
 use Rattle.trlab_notes.specs.Notes.{Note, entry, closure, maybe_closure}
-use Rattle.trlab_verify.specs.declared.note.Note.{Note as Form}
-use Rattle.trlab_verify.specs.Verdict.{note_at, IsRefused, reason_number_at}
-use Rattle.trlab_verify.specs.Tables.{HasInputRanges, meaning, meaning_at, table_of, form_without_marks, AreFirstNotes, empty_note, note_in, noted_count}
-use Rattle.trlab_verify.proofs.Inputs.{incoming_shows, closure_shows}
-use Rattle.trlab_verify.proofs.Reasons.{noted}
-use Rattle.trlab_verify.proofs.Runs.{fetch}
-use Rattle.trlab_verify.proofs.Verdicts.{incoming_settled, unreached}
+use Rattle.trlab_verify.specs.{declared.note.Note.Note as Form, Verdict.{note_at, IsRefused}}
+use Rattle.trlab_verify.specs.{Verdict.reason_number_at, Tables.{HasInputRanges, meaning, meaning_at}}
+use Rattle.trlab_verify.specs.Tables.{table_of, form_without_marks, AreFirstNotes, empty_note, note_in}
+use Rattle.trlab_verify.{specs.Tables.noted_count, proofs.Inputs.{incoming_shows, closure_shows}}
+use Rattle.trlab_verify.proofs.{Reasons.noted, Runs.fetch, Verdicts.{incoming_settled, unreached}}
 
 -- an instruction that is rejected for a reason other than the first has a note
 module _ (kind : Kind) (program : Program) (at reason : ℕ) (refused : IsRefused kind program at reason) where

@@ -1,27 +1,20 @@
 -- The tests of a table in its form, and their consequences.
-use Rattle.std.proofs.Common.{◌≡◌, ℕ, suc, ◌<◌, ◌≤◌, ap, refl, sym, subst, List, length, Option, Some, None, ◌∙◌, get_or, slice_get, IfSome}
-use Rattle.trlab_code.specs.declared.program.Kind.{Kind}
-use Rattle.trlab_code.specs.declared.instruction.Instr.{Instr}
-use Rattle.trlab_code.specs.Flow.{target}
-use Rattle.trlab_notes.specs.Notes.{Note, level_between, known_level, same_variable, entry, entry_values, entry_level, closure, maybe_closure}
-use Rattle.trlab_notes.specs.Transfer.{next_note, jump_note}
-use Rattle.trlab_notes.specs.Reasons.{reason_against}
-use Rattle.trlab_notes.specs.Order.{IsNoStronger}
-use mathlib.Core.Path.{fun_ext}
-use Rattle.trlab_code.specs.declared.instruction.Input.{Input}
-use Rattle.trlab_code.specs.declared.instruction.Variable.{Variable}
-use Rattle.trlab_code.specs.declared.instruction.Variable.TheVariants as variable
+use Rattle.std.proofs.Common.{◌≡◌, ℕ, suc, ◌<◌, ◌≤◌, ap, refl, sym, subst, List, length, Option, Some, None}
+use Rattle.std.proofs.Common.{◌∙◌, get_or, slice_get, IfSome}
+use Rattle.trlab_code.specs.declared.{program.Kind.Kind, instruction.{Instr.Instr, Input.Input}}
+use Rattle.trlab_code.specs.{declared.instruction.Variable.Variable, Flow.target}
 use Rattle.trlab_code.specs.Machine.{variable_number, register_number}
+use Rattle.trlab_code.specs.declared.instruction.Variable.TheVariants as variable
+use Rattle.trlab_notes.specs.Notes.{Note, level_between, known_level, same_variable, entry, entry_values}
+use Rattle.trlab_notes.specs.Notes.{entry_level, closure, maybe_closure, IsNoStronger}
+use Rattle.trlab_notes.specs.{Transfer.{next_note, jump_note}, Reasons.reason_against}
 use Rattle.trlab_notes.specs.Rows.{AreValidLevels, known_level_from, level_at, levels_in, value_in}
-use Rattle.trlab_notes.proofs.Variables.{below, register_below, at_numbers}
-use Rattle.trlab_verify.specs.Verdict.{Follows}
-use Rattle.trlab_notes.specs.declared.note.AbstractValue.{AbstractValue}
-use Rattle.trlab_notes.specs.declared.note.AbstractValue.TheVariants.{Nothing}
-use Rattle.trlab_notes.proofs.Order.{through}
-use Rattle.trlab_notes.proofs.Closure.{settled_less, settled_more, said_same, side_same, fall_settled, jump_settled}
-use Rattle.trlab_notes.proofs.Tables.{note_same, level_same, known_unfolds}
-use Rattle.trlab_verify.specs.declared.note.Note.{Note as Form}
-use Rattle.trlab_verify.specs.declared.note.Mark.TheVariants.{Unset}
+use Rattle.trlab_notes.specs.declared.note.AbstractValue.{AbstractValue, TheVariants.Unknown}
+use Rattle.trlab_notes.proofs.{Variables.{below, register_below, at_numbers}, Order.through}
+use Rattle.trlab_notes.proofs.Closure.{settled_less, settled_more, said_same, side_same, fall_settled}
+use Rattle.trlab_notes.proofs.{Closure.jump_settled, Tables.{note_same, level_same, known_unfolds}}
+use mathlib.Core.Path.{fun_ext}
+use Rattle.trlab_verify.specs.{Verdict.Follows, declared.note.{Note.Note as Form, Mark.TheVariants.Unset}}
 use Rattle.trlab_verify.specs.Tables.{mark_value, form_value, meaning, HasValidLevels, ChecksAt}
 use Rattle.trlab_verify.proofs.Verdicts.{reason_same}
 
@@ -52,7 +45,7 @@ module _ (kind : Kind) (form : Form) (values : List AbstractValue) (h : (x : Var
   read_is = ap closure (note_same (record { values = value_in values; level = levels_in form.levels; side = form.side }) (meaning kind form) (fun_ext h) refl refl)
 
 -- the abstract values of a form, by the numbers of the variables
-pub form_says : (kind : Kind) (form : Form) (values : List AbstractValue) → ((x : ℕ) → x < 8 → mark_value (get_or form.regs x Unset) ≡ get_or values x Nothing) →
+pub form_says : (kind : Kind) (form : Form) (values : List AbstractValue) → ((x : ℕ) → x < 8 → mark_value (get_or form.regs x Unset) ≡ get_or values x Unknown) →
     ((k : Input) → value_in values (variable.Input k) ≡ entry_values kind (variable.Input k)) → (x : Variable) → form_value kind form x ≡ value_in values x
 form_says kind form values h k (variable.Register r) = h (register_number r) (register_below r)
 form_says kind form values h k (variable.Input i) = sym (k i)

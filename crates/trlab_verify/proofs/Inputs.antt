@@ -1,26 +1,22 @@
 -- The notes have the same ranges of the inputs as the entry note.
-use Rattle.std.proofs.Common.{◌≡◌, ℕ, zero, suc, ◌+◌, ◌<◌, min, max, refl, sym, subst, arith, List, Bool, true, false, Option, Some, None, nat_eq, slice_get, IfSome}
-use Rattle.trlab_code.specs.declared.program.Kind.{Kind}
-use Rattle.trlab_code.specs.declared.instruction.Input.{Input}
-use Rattle.trlab_code.specs.declared.instruction.Input.TheVariants.{Speed, Limit, Gap, SideGap, SideBack, Lane, Headspeed}
-use Rattle.trlab_code.specs.declared.instruction.Instr.{Instr}
+use Rattle.std.proofs.Common.{◌≡◌, ℕ, zero, suc, ◌+◌, ◌<◌, min, max, refl, sym, subst, arith, List, Bool}
+use Rattle.std.proofs.Common.{true, false, Option, Some, None, nat_eq, slice_get, IfSome}
+use Rattle.trlab_code.specs.{declared.program.Kind.Kind, Flow.{target, destination}}
+use Rattle.trlab_code.specs.declared.instruction.{Input.Input, Instr.Instr, Register.Register}
+use Rattle.trlab_code.specs.declared.instruction.Input.TheVariants.{Speed, Limit, Gap, SideGap, SideBack}
+use Rattle.trlab_code.specs.declared.instruction.{Input.TheVariants.{Lane, Headspeed}, Variable.Variable}
 use Rattle.trlab_code.specs.declared.instruction.Instr.TheVariants.{JumpLess, JumpAtMost, JumpTrue, JumpFalse}
-use Rattle.trlab_code.specs.declared.instruction.Variable.{Variable}
-use Rattle.trlab_code.specs.declared.instruction.Variable.TheVariants as variable
-use Rattle.trlab_code.specs.declared.instruction.Register.{Register}
 use Rattle.trlab_code.specs.Machine.{update, register_number, input_number, allows_input}
-use Rattle.trlab_code.specs.Flow.{target, destination}
-use Rattle.trlab_notes.specs.declared.note.AbstractValue.{AbstractValue}
-use Rattle.trlab_notes.specs.declared.note.AbstractValue.TheVariants.{Nothing, Between, Implies}
-use Rattle.trlab_notes.specs.declared.rows.StoredNote.{StoredNote}
-use Rattle.trlab_notes.specs.Notes.{Note, with_side, value_with_side, entry, entry_values, input_range, closure}
-use Rattle.trlab_notes.specs.Order.{join, join_values}
-use Rattle.trlab_notes.specs.Reasons.{is_flag}
-use Rattle.trlab_notes.specs.Stored.{note_of, maybe_note}
-use Rattle.trlab_notes.specs.Transfer.{assign, assign_destination, assign_result, refine_order, refine_flag, next_note, jump_note}
+use Rattle.trlab_code.specs.declared.instruction.Variable.TheVariants as variable
+use Rattle.trlab_notes.specs.declared.note.AbstractValue.{AbstractValue, TheVariants.{Unknown, Between}}
+use Rattle.trlab_notes.specs.declared.{note.AbstractValue.TheVariants.Implies, rows.StoredNote.StoredNote}
+use Rattle.trlab_notes.specs.Notes.{Note, with_side, value_with_side, entry, entry_values, input_range}
+use Rattle.trlab_notes.specs.{Notes.{closure, join, join_values}, Reasons.is_flag, Stored.note_of}
+use Rattle.trlab_notes.specs.{Stored.maybe_note, Transfer.{assign, assign_destination, assign_result}}
+use Rattle.trlab_notes.specs.Transfer.{refine_order, refine_flag, next_note, jump_note}
 use Rattle.trlab_notes.proofs.Variables.{register_below}
-use Rattle.trlab_verify.specs.Verdict.{add_note, add_notes, if_here, next_note_to, jump_note_to, is_target, incoming}
-use Rattle.trlab_verify.specs.Tables.{HasInputRanges}
+use Rattle.trlab_verify.specs.Verdict.{add_note, add_notes, if_here, next_note_to, jump_note_to, is_target}
+use Rattle.trlab_verify.specs.{Verdict.incoming, Tables.HasInputRanges}
 
 -- no input is a flag
 range_plain : (k : Input) → is_flag (input_range k) ≡ false
@@ -43,7 +39,7 @@ both_same : (p q : Bool) (r s t : AbstractValue) → is_flag r ≡ false → s �
 both_same p q r s t f es et = rw (es, et) (at r f)
   where
     at : (r : AbstractValue) → is_flag r ≡ false → join_values (with_side p r) (with_side q r) ≡ r
-    at Nothing f = refl
+    at Unknown f = refl
     at (Between a b) f = same_range (min a a) a (max b b) b (omega arith) (omega arith)
     at (Implies i) f = absurd (cc f)
 

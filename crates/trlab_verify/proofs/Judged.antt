@@ -1,16 +1,12 @@
 -- Each program is rejected, or it is accepted and has a longest path, and with it is a checked program.
-use Rattle.std.proofs.Common.{◌≡◌, ℕ, zero, suc, ◌+◌, ◌<◌, ◌≤◌, ◌⊎◌, inl, inr, refl, arith, max, cond, length, List, Option, Some, None, subst, slice_get}
-use Rattle.std.proofs.lemmas.Bool.{cases_lt}
+use Rattle.std.proofs.Common.{◌≡◌, ℕ, zero, suc, ◌+◌, ◌<◌, ◌≤◌, ◌⊎◌, inl, inr, refl, arith, max, cond, length}
+use Rattle.std.proofs.{Common.{List, Option, Some, None, subst, slice_get}, lemmas.Bool.cases_lt}
 use Rattle.std.proofs.lemmas.Option.{slice_get-get_or}
-use Rattle.trlab_code.specs.declared.program.Kind.{Kind}
-use Rattle.trlab_code.specs.declared.instruction.Instr.{Instr}
-use Rattle.trlab_code.specs.declared.instruction.Instr.TheVariants.{Stay}
-use Rattle.trlab_code.specs.Flow.{falls, target}
-use Rattle.trlab_code.specs.Program.{Program, IsValidProgram}
+use Rattle.trlab_code.specs.declared.{program.Kind.Kind, instruction.Instr.{Instr, TheVariants.Stay}}
+use Rattle.trlab_code.specs.{Flow.{falls, target}, Program.{Program, IsValidProgram}}
 use Rattle.trlab_verify.specs.Verified.{IsChecked}
 use Rattle.trlab_verify.specs.Verdict.{Follows, IsLongest, IsForward, IsAccepted, IsRefused, reason_number_at}
-use Rattle.trlab_verify.proofs.Accepted.{checked, forward}
-use Rattle.trlab_verify.proofs.Ways.{of_target, longest_is}
+use Rattle.trlab_verify.proofs.{Accepted.{checked, forward}, Ways.{of_target, longest_is}}
 
 module _ (kind : Kind) (program : Program) where
   abbrev Refused : Type 0

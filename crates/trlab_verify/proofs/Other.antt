@@ -1,30 +1,20 @@
 -- A program with a table that checks is rejected as a program of the other kind only because of its kind.
-use Rattle.std.proofs.Common.{◌≡◌, ℕ, suc, ◌<◌, ◌≤◌, refl, cond, ◌∙◌, ap, sym, subst, arith, List, length, Bool, true, false, Option, Some, None, slice_get, IfSome}
-use Rattle.trlab_code.specs.declared.program.Kind.{Kind}
-use Rattle.trlab_code.specs.declared.program.Kind.TheVariants.{Motion, Change}
-use Rattle.trlab_code.specs.declared.instruction.Input.TheVariants.{Speed, Limit, Gap, SideGap, SideBack, Lane, Headspeed}
-use Rattle.trlab_code.specs.declared.instruction.Instr.{Instr}
-use Rattle.trlab_code.specs.declared.instruction.Instr.TheVariants.{Get}
-use Rattle.trlab_code.specs.Machine.{allows_input}
-use Rattle.trlab_code.specs.Program.{Program}
-use Rattle.trlab_notes.specs.declared.note.AbstractValue.{AbstractValue}
-use Rattle.trlab_notes.specs.Notes.{Note, with_side, value_with_side, level_between, known_level, same_variable, entry, entry_values, entry_level}
-use Rattle.trlab_notes.specs.Transfer.{next_note}
-use Rattle.trlab_notes.specs.Reasons.{reason_against, reason_number, is_of_kind}
-use Rattle.trlab_notes.specs.declared.reasons.Reason.{Reason}
-use Rattle.trlab_notes.specs.declared.reasons.Reason.TheVariants.{WrongProgram}
-use Rattle.std.specs.Option.{option_map}
-use Rattle.trlab_code.specs.declared.instruction.Input.{Input}
-use Rattle.trlab_code.specs.declared.instruction.Variable.{Variable}
+use Rattle.std.proofs.Common.{◌≡◌, ℕ, suc, ◌<◌, ◌≤◌, refl, cond, ◌∙◌, ap, sym, subst, arith, List, length}
+use Rattle.std.proofs.Common.{Bool, true, false, Option, Some, None, slice_get, IfSome, option_map}
+use Rattle.trlab_code.specs.declared.program.Kind.{Kind, TheVariants.{Motion, Change}}
+use Rattle.trlab_code.specs.declared.instruction.Input.{Input, TheVariants.{Speed, Limit, Gap, SideGap}}
+use Rattle.trlab_code.specs.declared.instruction.{Input.TheVariants.{SideBack, Lane, Headspeed}, Instr.Instr}
+use Rattle.trlab_code.specs.declared.instruction.{Instr.TheVariants.Get, Variable.Variable}
+use Rattle.trlab_code.specs.{Machine.allows_input, Program.Program}
 use Rattle.trlab_code.specs.declared.instruction.Variable.TheVariants as variable
-use Rattle.trlab_notes.specs.Order.{IsNoMorePrecise, IsNoStronger}
+use Rattle.trlab_notes.{specs.declared.note.AbstractValue.AbstractValue, proofs.Order.{Closed, On}}
+use Rattle.trlab_notes.specs.{declared.reasons.Reason.{Reason, TheVariants.WrongProgram}, Transfer.next_note}
+use Rattle.trlab_notes.specs.Notes.{Note, with_side, value_with_side, level_between, known_level}
+use Rattle.trlab_notes.specs.Notes.{same_variable, entry, entry_values, entry_level, IsNoMorePrecise}
+use Rattle.trlab_notes.specs.{Notes.IsNoStronger, Reasons.{reason_against, reason_number, is_of_kind}}
+use Rattle.trlab_notes.proofs.{Monotone.{Reaches, clear_up, passes}, Steps.{IsClear, clear, not_false}}
 use Rattle.trlab_verify.specs.Verdict.{note_at, first_reason_at, reason_number_at, IsRefused}
-use Rattle.trlab_verify.proofs.Checking.{ChecksBy}
-use Rattle.trlab_notes.proofs.Order.{Closed, On}
-use Rattle.trlab_notes.proofs.Monotone.{Reaches, clear_up, passes}
-use Rattle.trlab_notes.proofs.Steps.{IsClear, clear, not_false}
-use Rattle.trlab_verify.proofs.Reasons.{noted}
-use Rattle.trlab_verify.proofs.Runs.{fetch}
+use Rattle.trlab_verify.proofs.{Checking.ChecksBy, Reasons.noted, Runs.fetch}
 use Rattle.trlab_verify.proofs.Best.{Below, all_best, no_fault, ahead}
 
 -- the variables that programs of both kinds may read

@@ -1,11 +1,8 @@
 -- The reasons to reject a program are numbered from 1 on.
-use Rattle.std.proofs.Common.{◌≡◌, ℕ, ◌≤◌, subst, arith, Option, None, Some}
-use Rattle.std.specs.Option.{option_map}
-use Rattle.trlab_code.specs.declared.program.Kind.{Kind}
-use Rattle.trlab_code.specs.Program.{Program}
-use Rattle.trlab_notes.specs.declared.reasons.Reason.{Reason}
+use Rattle.std.proofs.Common.{◌≡◌, ℕ, ◌≤◌, subst, arith, Option, None, Some, option_map}
+use Rattle.trlab_code.specs.{declared.program.Kind.Kind, Program.Program}
+use Rattle.trlab_notes.specs.{declared.reasons.Reason.Reason, Reasons.reason_number}
 use Rattle.trlab_notes.specs.declared.reasons.Reason.TheVariants as why
-use Rattle.trlab_notes.specs.Reasons.{reason_number}
 use Rattle.trlab_verify.specs.Verdict.{IsRefused, reason_number_at}
 
 positive : (reason : Reason) → 1 ≤ reason_number reason

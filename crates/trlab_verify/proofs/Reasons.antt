@@ -1,11 +1,7 @@
 -- No reason holds against the note of an instruction without a fault.
-use Rattle.std.proofs.Common.{◌≡◌, ℕ, refl, subst, length, Option, Some, None, slice_get}
-use Rattle.std.specs.Option.{option_map}
-use Rattle.trlab_code.specs.declared.program.Kind.{Kind}
-use Rattle.trlab_code.specs.declared.instruction.Instr.{Instr}
-use Rattle.trlab_code.specs.Program.{Program}
-use Rattle.trlab_notes.specs.declared.reasons.Reason.{Reason}
-use Rattle.trlab_notes.specs.Notes.{Note}
+use Rattle.std.proofs.Common.{◌≡◌, ℕ, refl, subst, length, Option, Some, None, slice_get, option_map}
+use Rattle.trlab_code.specs.{declared.{program.Kind.Kind, instruction.Instr.Instr}, Program.Program}
+use Rattle.trlab_notes.specs.{declared.reasons.Reason.Reason, Notes.Note}
 use Rattle.trlab_notes.specs.Reasons.{reason_against, reason_number}
 use Rattle.trlab_verify.specs.Verdict.{note_at, first_reason_at, reason_number_at}
 

@@ -1,13 +1,8 @@
 -- No table of notes checks for a rejected program.
 use Rattle.std.proofs.Common.{◌≡◌, ◌≢◌, ◌∙◌, ◌⊎◌, ℕ, refl, sym, subst, inl, inr, Option, Some, None}
-use Rattle.trlab_code.specs.declared.program.Kind.{Kind}
-use Rattle.trlab_code.specs.declared.program.Kind.TheVariants.{Motion, Change}
-use Rattle.trlab_code.specs.Program.{Program}
-use Rattle.trlab_verify.specs.Tables.{HasCertificate, note_in}
-use Rattle.trlab_verify.specs.Verdict.{IsRefused}
-use Rattle.trlab_verify.proofs.Checking.{by_notes}
-use Rattle.trlab_verify.proofs.Best.{accepted}
-use Rattle.trlab_verify.proofs.Other.{other_kind}
+use Rattle.trlab_code.specs.{declared.program.Kind.{Kind, TheVariants.{Motion, Change}}, Program.Program}
+use Rattle.trlab_verify.specs.{Tables.{HasCertificate, note_in}, Verdict.IsRefused}
+use Rattle.trlab_verify.proofs.{Checking.by_notes, Best.accepted, Other.other_kind}
 
 none_and_some : (o : Option ℕ) (r : ℕ) → o ≡ None → o ≡ Some r → ⊥
 none_and_some o r e f = cc (sym e ∙ f)

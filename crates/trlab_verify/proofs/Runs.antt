@@ -1,32 +1,27 @@
 -- A program without a fault ends for each view and all random words, within its longest path.
-use Rattle.std.proofs.Common.{◌≡◌, ℕ, zero, suc, ◌+◌, ◌<◌, ◌≤◌, ◌&&◌, refl, sym, subst, arith, ◌∙◌, inl, inr, List, [], ◌∷◌, length, Bool, true, false, Option, Some, None, nat_eq, nat_le, cond, slice_get}
-use Rattle.std.proofs.lemmas.Bool.{eq-eqb, leb-false, cases_lt}
-use Rattle.trlab_code.specs.declared.program.Kind.{Kind}
-use Rattle.trlab_code.specs.declared.program.Kind.TheVariants.{Motion, Change}
-use Rattle.trlab_code.specs.declared.instruction.Instr.{Instr}
-use Rattle.trlab_code.specs.declared.instruction.Instr.TheVariants.{Jump, Go, Cross, Stay}
-use Rattle.trlab_code.specs.declared.view.View.{View}
-use Rattle.trlab_notes.specs.declared.note.AbstractValue.{AbstractValue}
-use Rattle.trlab_code.specs.Program.{Program}
-use Rattle.trlab_code.specs.Views.{IsViewInRange}
-use Rattle.trlab_code.specs.Machine.{Value, Number, update, Effect, Writes, Falls, Jumps, Ends, Sticks, effect, allows, start, Store, seen, register_number, input_number, Answer, At, state_after, execute, step, EndsFrom, IsSafe, Unset, allows_input}
-use Rattle.trlab_code.specs.Flow.{target, falls, on_target}
-use Rattle.trlab_notes.specs.Reasons.{reason_against}
-use Rattle.trlab_notes.specs.Notes.{Note, entry, entry_values, entry_level, input_range}
-use Rattle.trlab_notes.specs.Transfer.{next_note, jump_note}
-use Rattle.trlab_notes.specs.Order.{join}
-use Rattle.trlab_verify.specs.Verdict.{Follows, HasPath, IsLongest, add_note, add_notes, if_here, next_note_to, jump_note_to, is_target, incoming, note_at, IsAccepted}
-use Rattle.trlab_code.specs.declared.instruction.Register.{Register}
-use Rattle.trlab_code.specs.declared.instruction.Input.{Input}
-use Rattle.trlab_code.specs.declared.instruction.Input.TheVariants.{Speed, Limit, Gap, SideGap, SideBack, Lane, Headspeed}
-use Rattle.trlab_code.specs.declared.instruction.Variable.{Variable}
+use Rattle.std.proofs.Common.{◌≡◌, ℕ, zero, suc, ◌+◌, ◌<◌, ◌≤◌, ◌&&◌, refl, sym, subst, arith, ◌∙◌, inl, inr}
+use Rattle.std.proofs.Common.{List, [], ◌∷◌, length, Bool, true, false, Option, Some, None, nat_eq, nat_le}
+use Rattle.std.proofs.{Common.{cond, slice_get, eq-eqb, leb-false}, lemmas.Bool.cases_lt}
+use Rattle.trlab_code.specs.declared.program.Kind.{Kind, TheVariants.{Motion, Change}}
+use Rattle.trlab_code.specs.declared.instruction.Instr.{Instr, TheVariants.{Jump, Go, Cross, Stay}}
+use Rattle.trlab_code.specs.declared.instruction.{Register.Register, Input.Input}
+use Rattle.trlab_code.specs.declared.instruction.Input.TheVariants.{Speed, Limit, Gap, SideGap, SideBack}
+use Rattle.trlab_code.specs.declared.instruction.{Input.TheVariants.{Lane, Headspeed}, Variable.Variable}
+use Rattle.trlab_code.specs.{declared.view.View.View, Program.Program, Views.IsViewInRange}
+use Rattle.trlab_code.specs.Machine.{Value, Number, update, Effect, Writes, Falls, Jumps, Ends, Sticks}
+use Rattle.trlab_code.specs.Machine.{effect, allows, start, Store, seen, register_number, input_number}
+use Rattle.trlab_code.specs.Machine.{Answer, At, state_after, execute, step, EndsFrom, IsSafe, Unset}
+use Rattle.trlab_code.specs.{Machine.allows_input, Flow.{target, falls, on_target}}
 use Rattle.trlab_code.specs.declared.instruction.Variable.TheVariants as variable
-use Rattle.trlab_notes.specs.declared.note.AbstractValue.TheVariants.{Nothing}
-use Rattle.trlab_notes.proofs.Variables.{register_below}
-use Rattle.trlab_verify.proofs.Reasons.{noted}
+use Rattle.trlab_notes.specs.declared.note.AbstractValue.{AbstractValue, TheVariants.Unknown}
+use Rattle.trlab_notes.specs.Reasons.{reason_against}
+use Rattle.trlab_notes.specs.Notes.{Note, entry, entry_values, entry_level, input_range, join}
+use Rattle.trlab_notes.{specs.Transfer.{next_note, jump_note}, proofs.Variables.register_below}
 use Rattle.trlab_notes.proofs.Fits.{number_is, Fits, FitsSaid, Ahead, joined_left, joined_right, fits_from}
 use Rattle.trlab_notes.proofs.Steps.{Leads, IsClear, clear, leads, not_false, kind_allows}
-use Rattle.trlab_verify.proofs.Ways.{either_left, either_right}
+use Rattle.trlab_verify.specs.Verdict.{Follows, HasPath, IsLongest, add_note, add_notes, if_here}
+use Rattle.trlab_verify.specs.Verdict.{next_note_to, jump_note_to, is_target, incoming, note_at, IsAccepted}
+use Rattle.trlab_verify.proofs.{Reasons.noted, Ways.{either_left, either_right}}
 
 -- there is an incoming note that fits the values
 abbrev pub Covers : Bool → Store → Option Note → Type 0
@@ -161,7 +156,7 @@ input_fits view h SideBack = (omega arith, h.sideback)
 input_fits view h Lane = (omega arith, h.lane)
 input_fits view h Headspeed = (omega arith, omega (arith, h.headspeed, h.limit))
 
-allowed_fits : (side b : Bool) (values : AbstractValue) (n : ℕ) → FitsSaid side values (Number n) → FitsSaid side (cond b values Nothing) (cond b (Number n) Unset)
+allowed_fits : (side b : Bool) (values : AbstractValue) (n : ℕ) → FitsSaid side values (Number n) → FitsSaid side (cond b values Unknown) (cond b (Number n) Unset)
 allowed_fits side true values n f = f
 allowed_fits side false values n f = tt
 

@@ -1,12 +1,11 @@
 -- The note of an instruction is the strongest one that is no stronger than each note that is sent to it.
-use Rattle.std.proofs.Common.{◌≡◌, ◌⊎◌, ℕ, zero, suc, ◌<◌, ◌≤◌, inl, inr, refl, sym, subst, arith, List, Bool, true, false, Option, Some, None, nat_eq, slice_get, IfSome}
-use Rattle.std.proofs.lemmas.Bool.{cases_lt, eqb-true, eq-eqb}
-use Rattle.trlab_code.specs.declared.program.Kind.{Kind}
-use Rattle.trlab_code.specs.declared.instruction.Instr.{Instr}
-use Rattle.trlab_notes.proofs.Order.{same_note, join_most}
-use Rattle.trlab_notes.specs.Notes.{Note, entry}
-use Rattle.trlab_notes.specs.Order.{IsNoStronger}
-use Rattle.trlab_verify.specs.Verdict.{add_note, add_notes, if_here, next_note_to, jump_note_to, incoming, note_at, IsSent, Sends}
+use Rattle.std.proofs.Common.{◌≡◌, ◌⊎◌, ℕ, zero, suc, ◌<◌, ◌≤◌, inl, inr, refl, sym, subst, arith, List, Bool}
+use Rattle.std.proofs.Common.{true, false, Option, Some, None, nat_eq, slice_get, IfSome, eqb-true, eq-eqb}
+use Rattle.std.proofs.lemmas.Bool.{cases_lt}
+use Rattle.trlab_code.specs.declared.{program.Kind.Kind, instruction.Instr.Instr}
+use Rattle.trlab_notes.{proofs.Order.{same_note, join_most}, specs.Notes.{Note, entry, IsNoStronger}}
+use Rattle.trlab_verify.specs.Verdict.{add_note, add_notes, if_here, next_note_to, jump_note_to, incoming}
+use Rattle.trlab_verify.specs.Verdict.{note_at, IsSent, Sends}
 use Rattle.trlab_verify.proofs.VerdictChecks.{Under, under_old, under_new, under_edges}
 
 module _ (kind : Kind) (code : List Instr) (q : ℕ) where

@@ -1,26 +1,19 @@
 -- The notes of an accepted program check.
-use Rattle.std.proofs.Common.{◌≡◌, ◌∙◌, ℕ, zero, suc, ◌<◌, ◌≤◌, refl, sym, ap, subst, arith, inl, inr, List, length, Bool, true, false, Option, Some, None, nat_eq, nat_le, slice_get, IfSome, map}
-use Rattle.std.specs.List.{range_with_len}
-use Rattle.std.proofs.lemmas.List.{get_or_past}
+use Rattle.std.proofs.Common.{◌≡◌, ◌∙◌, ℕ, zero, suc, ◌<◌, ◌≤◌, refl, sym, ap, subst, arith, inl, inr, List}
+use Rattle.std.proofs.Common.{length, Bool, true, false, Option, Some, None, nat_eq, nat_le, slice_get}
+use Rattle.std.proofs.{Common.{IfSome, map, eq-eqb, eqb-true, leb-false}, lemmas.List.get_or_past}
 use Rattle.std.proofs.lemmas.List.FromFn.{get_or-map-range_with_len, length-map-range_with_len}
-use Rattle.std.proofs.lemmas.Bool.{eq-eqb, eqb-true, leb-false, cases_lt}
-use Rattle.std.proofs.lemmas.Option.{slice_get_within}
-use Rattle.trlab_code.specs.declared.program.Kind.{Kind}
-use Rattle.trlab_code.specs.declared.instruction.Instr.{Instr}
-use Rattle.trlab_code.specs.Program.{Program}
+use Rattle.std.{proofs.lemmas.{Bool.cases_lt, Option.slice_get_within}, specs.List.range_with_len}
+use Rattle.trlab_code.specs.{declared.{program.Kind.Kind, instruction.Instr.Instr}, Program.Program}
 use Rattle.trlab_code.specs.Flow.{target, on_target}
-use Rattle.trlab_notes.specs.Reasons.{reason_against}
-use Rattle.trlab_notes.specs.Notes.{Note, entry}
-use Rattle.trlab_notes.specs.Transfer.{next_note, jump_note}
-use Rattle.trlab_notes.specs.Order.{join, IsNoStronger}
-use Rattle.trlab_verify.specs.Verdict.{Follows, add_note, add_notes, if_here, next_note_to, jump_note_to, is_target, incoming, note_at, IsAccepted}
+use Rattle.trlab_notes.specs.{Reasons.reason_against, Notes.{Note, entry, join, IsNoStronger}}
+use Rattle.trlab_notes.{specs.Transfer.{next_note, jump_note}, proofs.Order.{same_note, through, join_first}}
+use Rattle.trlab_notes.proofs.{Order.{join_second, blank_least}, Steps.{IsClear, both_true, clear}}
+use Rattle.trlab_verify.specs.Verdict.{Follows, add_note, add_notes, if_here, next_note_to, jump_note_to}
+use Rattle.trlab_verify.specs.Verdict.{is_target, incoming, note_at, IsAccepted}
 use Rattle.trlab_verify.specs.Tables.{Checks, ChecksAt, AreVerdictNotes, empty_note, note_in}
-use Rattle.trlab_verify.proofs.Checking.{ChecksBy, as_table}
-use Rattle.trlab_notes.proofs.Order.{same_note, through, join_first, join_second, blank_least}
-use Rattle.trlab_notes.proofs.Steps.{IsClear, both_true, clear}
-use Rattle.trlab_verify.proofs.Reasons.{noted as noted_at}
-use Rattle.trlab_verify.proofs.Runs.{falls_where, fetch}
-use Rattle.trlab_verify.proofs.Ways.{either_left, either_right}
+use Rattle.trlab_verify.proofs.{Checking.{ChecksBy, as_table}, Reasons.noted as noted_at}
+use Rattle.trlab_verify.proofs.{Runs.{falls_where, fetch}, Ways.{either_left, either_right}}
 
 -- a note that may be missing, or another one in that case
 abbrev note_or : Note → Option Note → Note

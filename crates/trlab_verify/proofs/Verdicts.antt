@@ -1,19 +1,16 @@
 -- The facts that one pass of the verdict's loop establishes.
-use Rattle.std.proofs.Common.{◌≡◌, ℕ, zero, suc, ◌<◌, ◌≤◌, refl, sym, ap, subst, arith, nat_le, List, length, Bool, true, false, Option, Some, None, nat_eq, cond, get_or, ◌∙◌, get_or-set_other, get_or-set_same, slice_get, slice_set}
-use Rattle.std.proofs.lemmas.Bool.{eqb-true, eqb-false, leb-false}
-use Rattle.trlab_code.specs.Flow.{target, on_target}
-use Rattle.trlab_code.specs.declared.program.Kind.{Kind}
-use Rattle.trlab_code.specs.declared.instruction.Instr.{Instr}
-use Rattle.trlab_notes.specs.declared.rows.StoredNote.{StoredNote}
-use Rattle.trlab_notes.proofs.Closure.{joined_settled, settled_joins, join_is_settled, fall_settled, jump_settled, reason_settled}
-use Rattle.trlab_notes.specs.Reasons.{reason_against, reason_number}
-use Rattle.trlab_notes.specs.Notes.{Note, entry, closure, maybe_closure}
-use Rattle.trlab_notes.specs.Order.{join}
-use Rattle.trlab_notes.specs.Transfer.{next_note, jump_note}
-use Rattle.trlab_notes.specs.Stored.{note_of, stored_note_at, maybe_note}
-use Rattle.std.specs.Option.{option_map}
-use Rattle.trlab_notes.specs.declared.reasons.Reason.{Reason}
-use Rattle.trlab_verify.specs.Verdict.{incoming, note_at, add_note, add_notes, next_note_to, jump_note_to, if_here, is_target, first_reason_at, reason_number_at}
+use Rattle.std.proofs.Common.{◌≡◌, ℕ, zero, suc, ◌<◌, ◌≤◌, refl, sym, ap, subst, arith, nat_le, List, length}
+use Rattle.std.proofs.Common.{Bool, true, false, Option, Some, None, nat_eq, cond, get_or, ◌∙◌}
+use Rattle.std.proofs.Common.{get_or-set_other, get_or-set_same, slice_get, slice_set, eqb-true, leb-false}
+use Rattle.std.proofs.{Common.option_map, lemmas.Bool.eqb-false}
+use Rattle.trlab_code.specs.{Flow.{target, on_target}, declared.{program.Kind.Kind, instruction.Instr.Instr}}
+use Rattle.trlab_notes.specs.{declared.rows.StoredNote.StoredNote, Reasons.{reason_against, reason_number}}
+use Rattle.trlab_notes.specs.{declared.reasons.Reason.Reason, Stored.{note_of, stored_note_at, maybe_note}}
+use Rattle.trlab_notes.specs.Notes.{Note, entry, closure, maybe_closure, join}
+use Rattle.trlab_notes.{specs.Transfer.{next_note, jump_note}, proofs.Closure.{jump_settled, reason_settled}}
+use Rattle.trlab_notes.proofs.Closure.{joined_settled, settled_joins, join_is_settled, fall_settled}
+use Rattle.trlab_verify.specs.Verdict.{incoming, note_at, add_note, add_notes, next_note_to, jump_note_to}
+use Rattle.trlab_verify.specs.Verdict.{if_here, is_target, first_reason_at, reason_number_at}
 
 pub set_is : (table : List (Option StoredNote)) (q : ℕ) (o : Option StoredNote) → q < length table → (x : ℕ) →
     stored_note_at (slice_set table q o) x ≡ cond (nat_eq x q) (maybe_note o) (stored_note_at table x)

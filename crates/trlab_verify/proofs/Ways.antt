@@ -1,10 +1,9 @@
 -- The longest path from an instruction, by the longest paths from the instructions that may follow it.
-use Rattle.std.proofs.Common.{◌≡◌, ℕ, zero, suc, ◌+◌, ◌<◌, ◌≤◌, ◌&&◌, ◌||◌, max, cond, refl, sym, ap, subst, arith, ◌⊎◌, inl, inr, List, length, Bool, true, false, IsTrue, Option, Some, None, IfSome, nat_eq, add-one, ◌∙◌, slice_get}
-use Rattle.std.specs.Option.{option_map_or}
-use Rattle.std.proofs.lemmas.Bool.{eq-eqb, eqb-true, cases_lt}
-use Rattle.std.proofs.lemmas.Option.{slice_get_within}
-use Rattle.trlab_code.specs.declared.instruction.Instr.{Instr}
-use Rattle.trlab_code.specs.declared.instruction.Instr.TheVariants.{Jump, Go, Cross, Stay}
+use Rattle.std.proofs.Common.{◌≡◌, ℕ, zero, suc, ◌+◌, ◌<◌, ◌≤◌, ◌&&◌, ◌||◌, max, cond, refl, sym, ap, subst}
+use Rattle.std.proofs.Common.{arith, ◌⊎◌, inl, inr, List, length, Bool, true, false, IsTrue, Option, Some}
+use Rattle.std.proofs.Common.{None, IfSome, nat_eq, add-one, ◌∙◌, slice_get, eq-eqb, eqb-true}
+use Rattle.std.{proofs.lemmas.{Bool.cases_lt, Option.slice_get_within}, specs.Option.option_map_or}
+use Rattle.trlab_code.specs.declared.instruction.Instr.{Instr, TheVariants.{Jump, Go, Cross, Stay}}
 use Rattle.trlab_code.specs.Flow.{is_end, falls, target, on_target}
 use Rattle.trlab_verify.specs.Verdict.{Follows, HasPath, IsLongest, IsForward}
 

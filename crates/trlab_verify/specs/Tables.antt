@@ -1,32 +1,21 @@
 -- Tables of notes, one note per instruction of a program: the conditions under which a table checks, and the forms in
 -- which callers write and read its notes.
-use Rattle.std.specs.Prelude.{◌≡◌, ℕ, suc, ◌+◌, ◌<◌, ◌==◌, if◌then◌else◌, List, length, slice_get, slice_index_or, Some, None, IfSome, false, ◌≤◌, [], map}
-use Rattle.trlab_code.specs.declared.program.Kind.{Kind}
-use Rattle.trlab_code.specs.declared.instruction.Instr.{Instr}
-use Rattle.trlab_code.specs.Program.{Program}
-use Rattle.trlab_code.specs.Flow.{target}
-use Rattle.trlab_notes.specs.declared.note.AbstractValue.TheVariants.{Nothing, Between, Implies}
-use Rattle.trlab_notes.specs.Notes.{Note, entry, known_level, entry_values}
-use Rattle.trlab_notes.specs.Order.{IsNoStronger}
-use Rattle.trlab_notes.specs.Reasons.{reason_against}
-use Rattle.trlab_notes.specs.Transfer.{next_note, jump_note}
-use Rattle.trlab_verify.specs.Verdict.{Follows, note_at, IsRefused}
-use Rattle.trlab_code.specs.declared.instruction.Input.{Input}
-use Rattle.trlab_code.specs.declared.instruction.Variable.{Variable}
+use Rattle.std.specs.Prelude.{◌≡◌, ℕ, suc, ◌+◌, ◌<◌, ◌==◌, if◌then◌else◌, List, length, slice_get}
+use Rattle.std.specs.Prelude.{slice_index_or, Some, None, IfSome, false, ◌≤◌, [], map}
+use Rattle.trlab_code.specs.{declared.program.Kind.Kind, Program.Program, Machine.register_number}
+use Rattle.trlab_code.specs.{declared.instruction.{Instr.Instr, Input.Input, Variable.Variable}, Flow.target}
 use Rattle.trlab_code.specs.declared.instruction.Variable.TheVariants as variable
-use Rattle.trlab_code.specs.Machine.{register_number}
-use Rattle.trlab_notes.specs.declared.note.TheConstants.{BELOW}
-use Rattle.trlab_notes.specs.declared.note.AbstractValue.{AbstractValue}
-use Rattle.trlab_notes.specs.Rows.{levels_in}
-use Rattle.trlab_verify.specs.declared.note.Mark.{Mark}
-use Rattle.trlab_verify.specs.declared.note.Mark.TheVariants.{Unset, Num, Flag}
-use Rattle.trlab_verify.specs.declared.note.Note.{Note as Form}
-use Rattle.trlab_verify.specs.declared.table.NotesFault.{NotesFault}
-use Rattle.trlab_verify.specs.declared.table.NotesFault.TheVariants.{Refused, Memory}
+use Rattle.trlab_notes.specs.declared.note.AbstractValue.{AbstractValue, TheVariants.{Unknown, Between}}
+use Rattle.trlab_notes.specs.declared.note.{AbstractValue.TheVariants.Implies, TheConstants.BELOW}
+use Rattle.trlab_notes.specs.Notes.{Note, entry, known_level, entry_values, IsNoStronger}
+use Rattle.trlab_notes.specs.{Reasons.reason_against, Transfer.{next_note, jump_note}, Rows.levels_in}
+use Rattle.trlab_verify.specs.{Verdict.{Follows, note_at, IsRefused}, declared.note.Mark.Mark}
+use Rattle.trlab_verify.specs.declared.note.{Mark.TheVariants.{Unset, Num, Flag}, Note.Note as Form}
+use Rattle.trlab_verify.specs.declared.table.NotesFault.{NotesFault, TheVariants.{Refused, Memory}}
 
 -- the empty note, in which nothing is known
 abbrev pub empty_note : Note
-empty_note = record { values = λ x. Nothing; level = λ x y. 0; side = false }
+empty_note = record { values = λ x. Unknown; level = λ x y. 0; side = false }
 
 -- the note of the instruction at pc in a table; the empty note if the table has none
 abbrev pub note_in : List Note → ℕ → Note
@@ -83,12 +72,12 @@ AreNotesOfRejected kind program table = (at : ℕ) × (reason : ℕ)
 
 -- the abstract value that the mark of a register means
 abbrev pub mark_value : Mark → AbstractValue
-mark_value Unset = Nothing
+mark_value Unset = Unknown
 mark_value (Num lo hi) = Between lo hi
 mark_value (Flag imp) = Implies imp
 
--- the abstract value of a variable in a form: for a register, the value that its mark means, and `Nothing` if
--- it has no mark; for an input, its range, or `Nothing` if programs of kind `kind` may not read it
+-- the abstract value of a variable in a form: for a register, the value that its mark means, and `Unknown` if
+-- it has no mark; for an input, its range, or `Unknown` if programs of kind `kind` may not read it
 abbrev pub form_value : Kind → Form → Variable → AbstractValue
 form_value kind form (variable.Register r) = mark_value (slice_index_or form.regs (register_number r) Unset)
 form_value kind form (variable.Input k) = entry_values kind (variable.Input k)
@@ -113,7 +102,7 @@ meaning_at kind forms pc = meaning kind (slice_index_or forms pc form_without_ma
 abbrev pub HasValidLevels : Note → Type 0
 HasValidLevels note = (x y : Variable) → known_level note x y ≤ BELOW
 
--- for every input, the note has its range, or `Nothing` if programs of kind `kind` may not read it
+-- for every input, the note has its range, or `Unknown` if programs of kind `kind` may not read it
 abbrev pub HasInputRanges : Kind → Note → Type 0
 HasInputRanges kind note = (k : Input) → note.values (variable.Input k) ≡ entry_values kind (variable.Input k)
 

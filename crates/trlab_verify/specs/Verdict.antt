@@ -1,17 +1,12 @@
 -- The verdict: the programs that the verifier rejects, at which instruction and for which reason. It follows from the
 -- notes that the paths of a program bring to each instruction, joined, as in abstract interpretation
 -- (docs/VERIFIER.md).
-use Rattle.std.specs.Prelude.{◌≡◌, ℕ, zero, suc, ◌<◌, ◌≤◌, ◌&&◌, ◌||◌, List, length, IsTrue, Some, nat_eq, slice_get, ◌⊎◌, Bool, true, false, Option, None}
-use Rattle.std.specs.Option.{option_map}
-use Rattle.trlab_code.specs.declared.instruction.Instr.{Instr}
-use Rattle.trlab_code.specs.Flow.{target, falls, is_end, on_target}
-use Rattle.trlab_code.specs.declared.program.Kind.{Kind}
-use Rattle.trlab_notes.specs.Notes.{Note, entry}
-use Rattle.trlab_notes.specs.Order.{join}
-use Rattle.trlab_notes.specs.Transfer.{next_note, jump_note}
-use Rattle.trlab_code.specs.Program.{Program}
-use Rattle.trlab_notes.specs.declared.reasons.Reason.{Reason}
-use Rattle.trlab_notes.specs.declared.reasons.Reason.TheVariants.{Unreachable}
+use Rattle.std.specs.Prelude.{◌≡◌, ℕ, zero, suc, ◌<◌, ◌≤◌, ◌&&◌, ◌||◌, List, length, IsTrue, Some, nat_eq}
+use Rattle.std.specs.Prelude.{slice_get, ◌⊎◌, Bool, true, false, Option, None, option_map}
+use Rattle.trlab_code.specs.declared.{instruction.Instr.Instr, program.Kind.Kind}
+use Rattle.trlab_code.specs.{Flow.{target, falls, is_end, on_target}, Program.Program}
+use Rattle.trlab_notes.specs.{Notes.{Note, entry, join}, Transfer.{next_note, jump_note}}
+use Rattle.trlab_notes.specs.declared.reasons.Reason.{Reason, TheVariants.Unreachable}
 use Rattle.trlab_notes.specs.Reasons.{reason_against, reason_number}
 
 -- control may go from the instruction at pc to q: q is the next instruction, or the target of its jump

@@ -1,12 +1,8 @@
 -- Programs that the verifier has accepted, its faults, and its results for a code as a program of a kind.
 use Rattle.std.specs.Prelude.{◌≡◌, ℕ, ◌≢◌}
-use Rattle.trlab_code.specs.declared.program.Kind.{Kind}
-use Rattle.trlab_code.specs.Program.{Program, IsValidProgram}
-use Rattle.trlab_code.specs.Machine.{IsSafe}
-use Rattle.trlab_verify.specs.Verdict.{IsLongest, IsForward, IsRefused, IsAccepted}
-use Rattle.trlab_verify.specs.declared.verify.VerifyFault.{VerifyFault}
-use Rattle.trlab_verify.specs.declared.verify.VerifyFault.TheVariants.{Why, Memory}
-use Rattle.trlab_verify.specs.Tables.{HasCertificate}
+use Rattle.trlab_code.specs.{declared.program.Kind.Kind, Program.{Program, IsValidProgram}, Machine.IsSafe}
+use Rattle.trlab_verify.specs.{Verdict.{IsLongest, IsForward, IsRefused, IsAccepted}, Tables.HasCertificate}
+use Rattle.trlab_verify.specs.declared.verify.VerifyFault.{VerifyFault, TheVariants.{Why, Memory}}
 
 -- an accepted program with its budget, in instructions
 pub record CheckedProgram : Type 0 where

@@ -11,7 +11,7 @@ ghost use Rattle.trlab_code.specs.Machine.{IsSafe};
 ghost use Rattle.trlab_code.specs.Program.{IsInRange};
 ghost use Rattle.trlab_notes.specs.Stored.{note_of};
 ghost use Rattle.trlab_notes.specs.Transfer.{next_note, jump_note};
-ghost use Rattle.trlab_notes.specs.Order.{IsNoStronger};
+ghost use Rattle.trlab_notes.specs.Notes.{IsNoStronger};
 ghost use Rattle.trlab_notes.specs.Reasons.{may_be_too_large};
 ghost use Rattle.trlab_verify.specs.Tables.{HasValidLevels, meaning, meaning_at, table_of, Checks, ChecksAt};
 ghost use Rattle.trlab_verify.specs.Verdict.{Follows, IsLongest};
@@ -94,7 +94,7 @@ fn checks_target(kind: Kind, table: &[Note], note: &StoredNote, instr: Instr) ->
 /// Whether a table checks at `pc`, and no known level there is above 2.
 fn checks_at(kind: Kind, instrs: &[Instr], table: &[Note], pc: usize) -> bool
     requires inside { pc < length instrs.now }
-    requires few { length instrs.now ≤ MAX_INSTRUCTIONS }
+    requires at_most_max_instructions { length instrs.now ≤ MAX_INSTRUCTIONS }
     requires in_range { All IsInRange instrs.now }
     requires one_each { length table.now ≡ length instrs.now }
     ensures { IsTrue result ↔ (HasValidLevels (meaning_at kind table.now pc)

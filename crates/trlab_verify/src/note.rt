@@ -42,7 +42,7 @@ fn mark_value(mark: Mark) -> AbstractValue
     ensures { result ≡ mark_value mark }
 {
     match mark {
-        Mark::Unset => AbstractValue::Nothing,
+        Mark::Unset => AbstractValue::Unknown,
         Mark::Num(low, high) => AbstractValue::Between(low, high),
         Mark::Flag(imp) => AbstractValue::Implies(imp),
     }
@@ -53,7 +53,7 @@ fn mark_of(value: AbstractValue) -> Mark
     ensures { mark_value result ≡ value }
 {
     match value {
-        AbstractValue::Nothing => Mark::Unset,
+        AbstractValue::Unknown => Mark::Unset,
         AbstractValue::Between(low, high) => Mark::Num(low, high),
         AbstractValue::Implies(imp) => Mark::Flag(imp),
     }

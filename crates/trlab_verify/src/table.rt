@@ -78,7 +78,7 @@ fn judge_notes(
     instrs: &[Instr],
     stored: &mut [Option<StoredNote>],
 ) -> Result<Vec<Note>, NotesFault>
-    requires few { length instrs.now ≤ MAX_INSTRUCTIONS }
+    requires at_most_max_instructions { length instrs.now ≤ MAX_INSTRUCTIONS }
     requires in_range { All IsInRange instrs.now }
     requires one_each { length stored.old ≡ length instrs.now }
     requires begins { (q : ℕ) → q < length instrs.now →
@@ -133,7 +133,7 @@ fn judge_rejected(
     instrs: &[Instr],
     stored: &mut [Option<StoredNote>],
 ) -> Result<Option<Vec<Note>>, AllocError>
-    requires few { length instrs.now ≤ MAX_INSTRUCTIONS }
+    requires at_most_max_instructions { length instrs.now ≤ MAX_INSTRUCTIONS }
     requires in_range { All IsInRange instrs.now }
     requires one_each { length stored.old ≡ length instrs.now }
     requires begins { (q : ℕ) → q < length instrs.now →

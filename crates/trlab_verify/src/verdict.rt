@@ -99,7 +99,7 @@ pub fn judge(
     instrs: &[Instr],
     notes: &mut [Option<StoredNote>],
 ) -> Option<Rejection>
-    requires few { length instrs.now ≤ MAX_INSTRUCTIONS }
+    requires at_most_max_instructions { length instrs.now ≤ MAX_INSTRUCTIONS }
     requires in_range { All IsInRange instrs.now }
     requires one_each { length notes.old ≡ length instrs.now }
     requires begins { (q : ℕ) → q < length instrs.now →

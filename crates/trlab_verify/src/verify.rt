@@ -48,7 +48,7 @@ fn longest_of_target(instr: Instr, longest: &[u32; MAX_INSTRUCTIONS]) -> u32
 /// The longest path from the instruction at `pc`; `longest` has those from the later ones.
 fn longest_from(instrs: &[Instr], pc: usize, longest: &[u32; MAX_INSTRUCTIONS]) -> u32
     requires inside { pc < length instrs.now }
-    requires few { length instrs.now ≤ MAX_INSTRUCTIONS }
+    requires at_most_max_instructions { length instrs.now ≤ MAX_INSTRUCTIONS }
     requires forward { IsForward instrs.now }
     requires later { (q : ℕ) → pc < q → q < length instrs.now →
         IsLongest instrs.now q (slice_index longest.now q) }
@@ -61,8 +61,8 @@ fn longest_from(instrs: &[Instr], pc: usize, longest: &[u32; MAX_INSTRUCTIONS]) 
 
 /// The length of the longest path through a program without backward jumps, in instructions.
 pub fn longest_path(instrs: &[Instr]) -> u32
-    requires some { 1 ≤ length instrs.now }
-    requires few { length instrs.now ≤ MAX_INSTRUCTIONS }
+    requires at_least_one_instruction { 1 ≤ length instrs.now }
+    requires at_most_max_instructions { length instrs.now ≤ MAX_INSTRUCTIONS }
     requires forward { IsForward instrs.now }
     ensures { IsLongest instrs.now 0 result }
 {

@@ -1,10 +1,10 @@
 -- Words as their four bytes: exclusive or, rotations by whole bytes, and eight words as the lanes of a
 -- vector.
-use Rattle.std.proofs.Common.{◌≡◌, ℕ, ◌<◌, ◌+◌, ◌*◌, ◌/◌, ◌%◌, ◌^◌, List, [], ◌∷◌, ◌++◌, length, get_or, bit_or, bit_xor, Fits, w8, w32, arith, refl, sym, ap, ap₂, subst, div-one, ◌∙◌}
-use Rattle.std.specs.Int.{rotate_left}
-use Rattle.std.specs.Simd.Lanes.{Each1, zip2, chunk, pick_l, number_l, digits_l}
-use Rattle.std.proofs.lemmas.Nat.{or_shifted, xor_block}
-use Rattle.std.proofs.lemmas.Simd.{Each1-get_or, below_from_Fits, pick_l_left, get_or-zip2, get_or-chunk, length-chunk, get_or_wider, get_or_narrower}
+use Rattle.std.proofs.Common.{◌≡◌, ℕ, ◌<◌, ◌+◌, ◌*◌, ◌/◌, ◌%◌, ◌^◌, List, [], ◌∷◌, ◌++◌, length, get_or}
+use Rattle.std.proofs.Common.{bit_or, bit_xor, Fits, w8, w32, arith, refl, sym, ap, ap₂, subst, div-one, ◌∙◌}
+use Rattle.std.proofs.lemmas.{Nat.{or_shifted, xor_block}, Simd.{Each1-get_or, below_from_Fits, pick_l_left}}
+use Rattle.std.proofs.lemmas.Simd.{get_or-zip2, get_or-chunk, length-chunk, get_or_wider, get_or_narrower}
+use Rattle.std.specs.{Int.rotate_left, Simd.Lanes.{Each1, zip2, chunk, pick_l, number_l, digits_l}}
 use Rattle.rand_core.specs.Steps.{u32_at}
 use Rattle.trlab_words.proofs.LaneLemmas.{below_eight}
 

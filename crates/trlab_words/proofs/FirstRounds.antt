@@ -1,7 +1,7 @@
 -- The first column round of a block, done in two parts.
 use Rattle.std.proofs.Common.{◌≡◌, ℕ, ◌<◌, ◌+◌, ◌*◌, ◌/◌, ◌%◌, ◌^◌, List, slice_index, ◌≢◌, arith, refl}
 use Rattle.rand_chacha.specs.Block.{column_round, initial_state}
-use Rattle.trlab_words.specs.FirstRound.{with_car, step_state, shared_columns, car_column}
+use Rattle.trlab_words.specs.States.{with_car, step_state, shared_columns, car_column}
 use Rattle.trlab_words.proofs.LaneLemmas.{below_sixteen}
 
 -- the words other than that of the car do not change

@@ -1,6 +1,6 @@
 -- A key as 32 bytes and as eight words.
-use Rattle.std.proofs.Common.{◌≡◌, ℕ, ◌<◌, ◌+◌, ◌*◌, ◌/◌, ◌%◌, ◌^◌, List, All, length, slice_index, get_or, arith, refl, subst}
-use Rattle.std.proofs.lemmas.Grind.{same_number_lists}
+use Rattle.std.proofs.Common.{◌≡◌, ℕ, ◌<◌, ◌+◌, ◌*◌, ◌/◌, ◌%◌, ◌^◌, List, All, length, slice_index, get_or}
+use Rattle.std.proofs.{Common.{arith, refl, subst}, lemmas.Grind.same_number_lists}
 use Rattle.std.proofs.lemmas.List.Elements.{All-get_or}
 use Rattle.rand_core.specs.Steps.{u32_at}
 use Rattle.rand_chacha.specs.ChaCha.{key_of, seed_of}

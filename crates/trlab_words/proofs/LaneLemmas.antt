@@ -1,10 +1,9 @@
 -- The lanes of vectors, and the sixteen words of a state.
-use Rattle.std.proofs.Common.{◌≡◌, ℕ, zero, suc, ◌<◌, ◌+◌, ◌-◌, ◌*◌, ◌/◌, ◌%◌, ◌^◌, List, length, slice_index, replicate, bit_or, bit_xor, w32, arith, refl, sym, ap₂, ◌∙◌, subst}
-use Rattle.std.specs.Int.{rotate_left}
-use Rattle.std.specs.Simd.Lanes.{zip2}
+use Rattle.std.proofs.Common.{◌≡◌, ℕ, zero, suc, ◌<◌, ◌+◌, ◌-◌, ◌*◌, ◌/◌, ◌%◌, ◌^◌, List, length, slice_index}
+use Rattle.std.proofs.Common.{replicate, bit_or, bit_xor, w32, arith, refl, sym, ap₂, ◌∙◌, subst}
 use Rattle.std.proofs.lemmas.Simd.{length-zip2, get_or-zip2, length-replicate, get_or-replicate}
-use Rattle.rand_chacha.specs.Block.{xor_rotate}
-use Rattle.rand_chacha.specs.Lanes.{lane, lane_at}
+use Rattle.std.specs.{Int.rotate_left, Simd.Lanes.zip2}
+use Rattle.rand_chacha.specs.{Block.xor_rotate, Lanes.{lane, lane_at}}
 
 -- a property of each of four numbers
 pub below_four : (P : ℕ → Type 0) → P 0 → P 1 → P 2 → P 3 → (j : ℕ) → j < 4 → P j

@@ -1,9 +1,7 @@
 -- The sixteen random words, one by one.
-use Rattle.std.proofs.Common.{◌≡◌, ℕ, ◌<◌, ◌^◌, List, length, inl, inr, arith}
-use Rattle.std.specs.Prelude.{slice_index}
-use Rattle.std.proofs.lemmas.List.FromFn.{length-map-range_with_len, get_or-map-range_with_len}
+use Rattle.std.proofs.Common.{◌≡◌, ℕ, ◌<◌, ◌^◌, List, length, inl, inr, arith, slice_index}
+use Rattle.std.proofs.lemmas.List.{get_or_past, FromFn.{length-map-range_with_len, get_or-map-range_with_len}}
 use Rattle.std.proofs.lemmas.Bool.{cases_lt}
-use Rattle.std.proofs.lemmas.List.{get_or_past}
 use Rattle.rand_chacha.specs.Block.{block_word}
 use Rattle.trlab_words.specs.Words.{random_word, random_words}
 

@@ -1,4 +1,2 @@
 pub mod Words
-pub mod Chances
-pub mod FirstRound
 pub mod States

@@ -4,8 +4,7 @@
 ghost use Rattle.std.specs.Prelude.{◌≡◌, ℕ, ◌+◌, ◌*◌, ◌^◌, ◌<◌, List, slice_index};
 ghost use Rattle.rand_core.specs.Steps.{u32_at};
 ghost use Rattle.rand_chacha.specs.Block.{quarter_round, column_round, diagonal_round, block_word};
-ghost use Rattle.trlab_words.specs.FirstRound.{with_car, car_column, StartsStep};
-ghost use Rattle.trlab_words.specs.States.{words_in, state_in};
+ghost use Rattle.trlab_words.specs.States.{with_car, car_column, StartsStep, words_in, state_in};
 
 use crate::lanes::{add, bytes_of, rotate_by_8, rotate_by_16, words_of, xor, xor_rotate};
 use crate::step_start::StepStart;

@@ -1,7 +1,7 @@
 //! Chances, which are probabilities times 2^31, and the random words on which they happen.
 
 ghost use Rattle.std.specs.Prelude.{◌≡◌, ◌↔◌, ◌≤◌, ℕ, IsSome, IfSome};
-ghost use Rattle.trlab_words.specs.Chances.{happens_on};
+ghost use Rattle.trlab_words.specs.Words.{happens_on};
 ghost use Rattle.trlab_bounds.specs.declared.programs.TheConstants.{CERTAIN};
 
 use std::marker::Model;

@@ -3,7 +3,7 @@
 ghost use Rattle.std.specs.Prelude.{◌≡◌, ℕ, ◌<◌, ◌^◌, List, All, length, slice_index};
 ghost use Rattle.trlab_words.specs.Words.{random_words, random_word};
 ghost use Rattle.rand_chacha.specs.ChaCha.{seed_of};
-ghost use Rattle.trlab_words.specs.FirstRound.{StartsStep};
+ghost use Rattle.trlab_words.specs.States.{StartsStep};
 
 use crate::block::block_word_of_cars;
 use crate::step_start::StepStart;

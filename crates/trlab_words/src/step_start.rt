@@ -2,7 +2,7 @@
 
 ghost use Rattle.std.specs.Prelude.{◌≡◌};
 ghost use Rattle.rand_chacha.specs.Block.{quarter_round};
-ghost use Rattle.trlab_words.specs.FirstRound.{step_state, shared_columns, StartsStep};
+ghost use Rattle.trlab_words.specs.States.{step_state, shared_columns, StartsStep};
 
 // The start of the blocks of a step of a road. Only word 14 of a block's initial state depends on the car
 // (the number of the road is word 15), so three of the four columns of the first round are shared.

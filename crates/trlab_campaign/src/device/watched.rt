@@ -59,8 +59,8 @@ pub struct Watched<X> {
 }
 
 impl<X> Watched<X> {
-    ghost use Rattle.trlab_campaign.specs.Watched.{inner_device, has_failed, is_at_end};
-    ghost use Rattle.trlab_campaign.specs.Watched.{given_bytes, accepted_bytes, flush_count};
+    ghost use Rattle.trlab_campaign.specs.Writers.{inner_device, has_failed, is_at_end};
+    ghost use Rattle.trlab_campaign.specs.Writers.{given_bytes, accepted_bytes, flush_count};
 
     /// Wraps a reader or writer. The wrapper starts without a failure, a flush or transferred bytes.
     pub fn new(inner: X) -> Watched<X>
@@ -84,7 +84,7 @@ impl<X> Watched<X> {
 }
 
 impl<X: Read> Source for Watched<X> {
-    ghost use Rattle.trlab_campaign.specs.Watched.{inner_device, has_failed, is_at_end, given_bytes};
+    ghost use Rattle.trlab_campaign.specs.Writers.{inner_device, has_failed, is_at_end, given_bytes};
 
     ghost left = { λ watched. X.remaining (inner_device watched) };
 
@@ -111,7 +111,7 @@ impl<X: Read> Source for Watched<X> {
 }
 
 impl<X: Write> Sink for Watched<X> {
-    ghost use Rattle.trlab_campaign.specs.Watched.{inner_device, has_failed, has_flushed_all, accepted_bytes, flush_count};
+    ghost use Rattle.trlab_campaign.specs.Writers.{inner_device, has_failed, has_flushed_all, accepted_bytes, flush_count};
 
     ghost written = { λ watched. X.contents (inner_device watched) };
 

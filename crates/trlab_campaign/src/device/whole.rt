@@ -3,7 +3,7 @@
 ghost use Rattle.std.specs.Prelude.{◌≡◌, ◌+◌, ◌≤◌, ◌||◌, ◌↔◌, ◌++◌, length, false, true, IfOk};
 ghost use Rattle.std.specs.Prelude.{OnOk, IfErr, IfSome, is_err};
 ghost use Rattle.trlab_campaign.specs.Device.{ConsumesUpTo, GaveBytes, IsInputOrTooLong};
-ghost use Rattle.trlab_campaign.specs.Flushes.{FlushedAtMostOnce, FlushedOnce};
+ghost use Rattle.trlab_campaign.specs.Device.{FlushedAtMostOnce, FlushedOnce};
 ghost use Rattle.trlab_campaign.specs.Writers.{AddsByResult, bytes_of};
 ghost use Rattle.trlab_campaign.specs.declared.end.Failure.TheVariants.{Device};
 
@@ -13,7 +13,7 @@ use std::alloc::Global;
 use trlab_bounds::texts::TEXT_LIMIT;
 
 /// Reads an input to its end, or its first `TEXT_LIMIT` + 1 bytes if it is longer. These are enough, because every
-/// engine refuses an input above `TEXT_LIMIT` bytes.
+/// engine rejects an input above `TEXT_LIMIT` bytes.
 ///
 /// # Errors
 ///

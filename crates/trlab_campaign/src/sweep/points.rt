@@ -2,12 +2,12 @@
 //! caller.
 
 ghost use Rattle.std.specs.Prelude.{◌≡◌, IfOk, IfSome, IsTrue, length};
-ghost use Rattle.trlab_diagram.specs.Flow.{IsMeasured};
-ghost use Rattle.trlab_road.specs.Legal.{IsLegal};
+ghost use Rattle.trlab_diagram.specs.Tables.{IsMeasured};
+ghost use Rattle.trlab_road.specs.Cells.{IsLegal};
 ghost use Rattle.trlab_road.specs.Spreading.{IsEvenlySpaced};
 ghost use Rattle.trlab_step.specs.Run.{IsTallyAt, at_start};
-ghost use Rattle.trlab_sequential_book.specs.Jobs.{run_start};
-ghost use Rattle.trlab_jobs.specs.Shapes.{all_steps};
+ghost use Rattle.trlab_sequential_book.specs.Comparison.{run_seed};
+ghost use Rattle.trlab_jobs.specs.Sweep.{all_steps};
 ghost use Rattle.trlab_jobs.specs.Stored.{CanSpreadOn};
 ghost use Rattle.trlab_campaign.specs.SweepOutput.{IsPoint, point_of, point_seed, sweep_sheet};
 
@@ -15,8 +15,8 @@ use std::alloc::{AllocError, Global};
 use trlab_diagram::Point;
 use trlab_jobs::Sweep;
 use trlab_road::{Road, RoadFault};
-use trlab_sequential_book::{Seed, Sheet as BookSheet, Snapshot};
-use trlab_step::{Caller, Run, Schedule, StepTally};
+use trlab_sequential_book::{Seed, Sheet, Snapshot};
+use trlab_step::{Caller, Run, RunSheet, StepTally};
 
 /// The road of a point at its start, with `cars` evenly spaced cars.
 pub fn even_road(alloc: Global, sweep: &Sweep, cars: u32) -> Result<Road, AllocError>
@@ -39,7 +39,7 @@ fn run_of_point(alloc: Global, sweep: &Sweep, number: u32, road: Road) -> Result
         run ≡ at_start (point_seed sweep.now.setup number road) (sweep_sheet sweep.now.setup)) }
 {
     let rule = sweep.rule.copy(alloc)?;
-    let sheet = Schedule::new(rule, Vec::new(alloc));
+    let sheet = RunSheet::new(rule, Vec::new(alloc));
     Ok(Run::new(alloc, sweep.key, number, sweep.warm, road, sheet))
 }
 
@@ -102,7 +102,7 @@ pub fn run_point(
 
 /// Whether this is the seed of point `number`, which starts from `road`.
 fn is_seed_of(sweep: &Sweep, number: u32, road: &Road, seed: &Seed) -> bool
-    ensures { IsTrue result → run_start seed.now ≡ point_seed sweep.now.setup number road.now }
+    ensures { IsTrue result → run_seed seed.now ≡ point_seed sweep.now.setup number road.now }
 {
     seed.number == number
         && seed.warm == sweep.warm
@@ -112,7 +112,7 @@ fn is_seed_of(sweep: &Sweep, number: u32, road: &Road, seed: &Seed) -> bool
 
 /// Whether a sheet has only the rule of the sweep, from step 0 on.
 #[tactic(auto, using(crate::proofs::OneEntry::one_entry))]
-fn is_sheet_of(sweep: &Sweep, sheet: &BookSheet) -> bool
+fn is_sheet_of(sweep: &Sweep, sheet: &Sheet) -> bool
     ensures { IsTrue result → sheet.now ≡ sweep_sheet sweep.now.setup }
 {
     if sheet.len() != 1 {

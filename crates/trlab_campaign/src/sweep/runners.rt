@@ -3,9 +3,9 @@
 
 ghost use Rattle.std.specs.Prelude.{◌≡◌, ◌<◌, ◌≤◌, ◌-◌, All, IfOk, OnOk, get_or, length};
 ghost use Rattle.trlab_bounds.specs.declared.runs.TheConstants.{MAX_RUNNERS, MAX_WORKERS};
-ghost use Rattle.trlab_diagram.specs.Flow.{IsMeasured};
+ghost use Rattle.trlab_diagram.specs.Tables.{IsMeasured};
 ghost use Rattle.trlab_book.specs.Desks.{part_count};
-ghost use Rattle.trlab_campaign.specs.SweepOutput.{AreFirstPoints, ArePoints, IsPoint};
+ghost use Rattle.trlab_campaign.specs.SweepOutput.{AreFirstPoints, ArePoints, AreSeeds, IsPoint, IsStart};
 ghost use Rattle.trlab_strands.specs.Tokens.{name_of};
 
 use crate::progress::ProgressObserver;
@@ -19,7 +19,9 @@ use trlab_book::{Desk, SharedBook, run_jobs};
 use trlab_diagram::Point;
 use trlab_jobs::Sweep;
 use trlab_jobs::limits::MAX_CARS_IN_MEMORY;
-use trlab_sequential_book::{Event, Seed};
+use trlab_road::Road;
+use trlab_segments::workers_for;
+use trlab_sequential_book::{Event, Seed, SharedRule, SharedSeed};
 use trlab_strands::{Blank, Ledger};
 
 /// The points from `first` up to, but not including, `end` of a sweep, whose roads are in memory at the same time.
@@ -51,7 +53,7 @@ impl Batch {
     fn of(sweep: &Sweep, first: usize) -> Batch
         requires { first < length sweep.now.cars }
         ensures first { result.first ≡ first }
-        ensures some { first < result.end }
+        ensures at_least_one_point { first < result.end }
         ensures end { result.end ≤ length sweep.now.cars }
     {
         let end = end_of_batch(sweep, first);
@@ -69,6 +71,17 @@ impl Batch {
         ensures { result ≡ self.end - self.first }
     {
         self.end - self.first
+    }
+
+    /// The largest number of cars of a road of the batch.
+    fn most_cars(self, sweep: &Sweep) -> u32
+        requires { self.end ≤ length sweep.now.cars }
+    {
+        let mut most = 0;
+        for number in self.first..self.end {
+            most = most.max(sweep.cars[number as usize]);
+        }
+        most
     }
 
     /// Maps the index of a point in the batch to the index of its job, and back. If the numbers of cars rise, the order
@@ -94,7 +107,7 @@ pub struct Runners<'a, R, O> {
     pub gate: &'a WorkGate<'a, O>,
     /// The number of runners.
     pub count: u32,
-    /// The number of workers of each runner.
+    /// The largest number of workers of each runner.
     pub workers: u32,
     ghost runner_count: { (0 < count) × (count ≤ MAX_RUNNERS) },
     ghost worker_count: { (0 < workers) × (workers ≤ MAX_WORKERS) },
@@ -102,30 +115,57 @@ pub struct Runners<'a, R, O> {
 }
 
 impl<'a, R: Threads + Wait + Sync, O: ProgressObserver + Sync> Runners<'a, R, O> {
-    /// Submits the roads of a batch in the order of their jobs. If the book does not accept one, the remaining roads
+    /// The seed of the point `number`, with a new road.
+    fn seed(&self, number: u32) -> Result<SharedSeed, AllocError>
+        requires { number < length self.now.sweep.now.cars }
+        ensures { IfOk result (λ seed. IsStart self.now.sweep.now number seed.road) }
+    {
+        let sweep = self.sweep;
+        let road = even_road(self.alloc, sweep, sweep.cars[number as usize])?;
+        let seed = Seed {
+            road,
+            key: sweep.key,
+            number,
+            warm: sweep.warm,
+        };
+        SharedSeed::new(self.alloc, seed)
+    }
+
+    /// The seeds of a batch, in the order of its points. Its jobs share them.
+    fn seeds(&self, batch: Batch) -> Result<Vec<SharedSeed>, AllocError>
+        requires in_order { batch.first ≤ batch.end }
+        requires inside { batch.end ≤ length self.now.sweep.now.cars }
+        ensures are { IfOk result (λ seeds. AreSeeds self.now.sweep.now batch.first seeds.items) }
+        ensures count { IfOk result (λ seeds. length seeds.items ≡ batch.end - batch.first) }
+    {
+        let mut seeds = Vec::new(self.alloc);
+        for number in batch.first..batch.end {
+            let seed = self.seed(number)?;
+            seeds.push(seed)?;
+        }
+        Ok(seeds)
+    }
+
+    /// Submits the seeds of a batch in the order of their jobs. If the book does not accept one, the remaining seeds
     /// have no job.
     fn submit<L: Ledger>(
         &self,
         book: &SharedBook<L>,
         desk: &mut Desk<L>,
         batch: Batch,
+        seeds: &[SharedSeed],
     ) -> Result<(), AllocError>
-        requires some { batch.first ≤ batch.end }
-        requires inside { batch.end ≤ length self.now.sweep.now.cars }
+        requires in_order { batch.first ≤ batch.end }
+        requires count { length seeds.now ≡ batch.end - batch.first }
         ensures { part_count desk.new ≡ part_count desk.old }
     {
         let sweep = self.sweep;
+        let rule = SharedRule::copy_of(self.alloc, &sweep.rule)?;
+        let steps = sweep.warm + sweep.measure;
         for job in 0..batch.len() {
-            let number = batch.first + batch.place(job);
-            let seed = Seed {
-                road: even_road(self.alloc, sweep, sweep.cars[number as usize])?,
-                key: sweep.key,
-                number,
-                warm: sweep.warm,
-            };
-            let rule = sweep.rule.copy(self.alloc)?;
-            let steps = sweep.warm + sweep.measure;
-            let submitted = book.submit(self.rt, self.alloc, desk, seed, rule, steps);
+            let seed = seeds[batch.place(job) as usize].share()?;
+            let rule = rule.share()?;
+            let submitted = book.submit_shared(self.rt, self.alloc, desk, seed, rule, steps);
             if submitted.is_err() {
                 return Ok(());
             }
@@ -133,28 +173,30 @@ impl<'a, R: Threads + Wait + Sync, O: ProgressObserver + Sync> Runners<'a, R, O>
         Ok(())
     }
 
-    /// The point `number`: from the book if its job has reached the last step, otherwise from a run by the caller.
+    /// The point `number`, which starts from `road`: from the book if its job has reached the last step, otherwise from
+    /// a run by the caller.
     fn point<L: Ledger>(
         &self,
         book: &SharedBook<L>,
         desk: &mut Desk<L>,
         job: u32,
         number: u32,
+        road: &Road,
     ) -> Result<Point, AllocError>
         requires inside { number < length self.now.sweep.now.cars }
+        requires even { IsStart self.now.sweep.now number road.now }
         ensures is { IfOk result (λ point. IsPoint self.now.sweep.now.setup number
             (get_or self.now.sweep.now.cars number 0) point) }
         ensures measured { IfOk result IsMeasured }
     {
         let sweep = self.sweep;
         let cars = sweep.cars[number as usize];
-        let road = even_road(self.alloc, sweep, cars)?;
         if let Ok(seen) = book.read(self.rt, self.alloc, desk, job)
-            && let Some(point) = point_from_snapshot(sweep, number, cars, &road, &seen)
+            && let Some(point) = point_from_snapshot(sweep, number, cars, road, &seen)
         {
             return Ok(point);
         }
-        run_point(self.alloc, sweep, number, cars, road)
+        run_point(self.alloc, sweep, number, cars, road.copy(self.alloc)?)
     }
 
     /// Adds the points of a batch, whose jobs were run.
@@ -163,24 +205,29 @@ impl<'a, R: Threads + Wait + Sync, O: ProgressObserver + Sync> Runners<'a, R, O>
         book: &SharedBook<L>,
         desk: &mut Desk<L>,
         batch: Batch,
+        seeds: &[SharedSeed],
         points: &mut Vec<Point>,
     ) -> Result<(), AllocError>
         requires first { AreFirstPoints self.now.sweep.now points.old.items }
         requires next { length points.old.items ≡ batch.first }
-        requires some { batch.first ≤ batch.end }
+        requires in_order { batch.first ≤ batch.end }
         requires inside { batch.end ≤ length self.now.sweep.now.cars }
+        requires seeds { AreSeeds self.now.sweep.now batch.first seeds.now }
+        requires one_each { length seeds.now ≡ batch.end - batch.first }
         ensures first { OnOk result (AreFirstPoints self.now.sweep.now points.new.items) }
         ensures count { OnOk result (length points.new.items ≡ batch.end) }
     {
         for number in batch.first..batch.end {
-            let job = batch.place(number - batch.first);
-            let point = self.point(book, desk, job, number)?;
+            let index = number - batch.first;
+            let road = &seeds[index as usize].get().road;
+            let point = self.point(book, desk, batch.place(index), number, road)?;
             points.push(point)?;
         }
         Ok(())
     }
 
-    /// Runs the roads of the next batch as the jobs of a new book, and adds their points.
+    /// Runs the roads of the next batch as the jobs of a new book, and adds their points. Each runner has only as many
+    /// workers as speed up the road with the most cars.
     fn add_batch<L: Ledger + Send + Sync>(
         &self,
         blank: Blank<Event>,
@@ -192,22 +239,20 @@ impl<'a, R: Threads + Wait + Sync, O: ProgressObserver + Sync> Runners<'a, R, O>
         ensures first { OnOk result (AreFirstPoints self.now.sweep.now points.new.items) }
         ensures more { OnOk result (length points.old.items < length points.new.items) }
     {
-        let batch = Batch::of(self.sweep, points.len());
+        let sweep = self.sweep;
+        let batch = Batch::of(sweep, points.len());
+        let cars = batch.most_cars(sweep);
+        let workers = workers_for(self.rt, self.workers, cars, sweep.rule.draws());
         let (book, mut desk) = SharedBook::<L>::start(self.alloc, blank);
-        self.submit(&book, &mut desk, batch)?;
+        let seeds = self.seeds(batch)?;
+        self.submit(&book, &mut desk, batch, &seeds)?;
         let mut desk = match run_jobs(
-            self.rt,
-            self.alloc,
-            &book,
-            desk,
-            self.count,
-            self.workers,
-            self.gate,
+            self.rt, self.alloc, &book, desk, self.count, workers, self.gate,
         ) {
             Ok(desk) => desk,
             Err((desk, _)) => desk,
         };
-        self.collect(&book, &mut desk, batch, points)
+        self.collect(&book, &mut desk, batch, &seeds, points)
     }
 
     /// Computes the points of the sweep, batch by batch, and returns them in the order of the text.

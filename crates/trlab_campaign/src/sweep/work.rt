@@ -6,8 +6,7 @@ ghost use Rattle.std.specs.Prelude.{◌≡◌, ◌≤◌, length};
 use crate::progress::{Milestone, ProgressObserver, milestone_between};
 use std::sync::atomic::{AtomicU64, Ordering};
 use trlab_jobs::Sweep;
-use trlab_segments::{Asked, Gate};
-use trlab_verify::Motion;
+use trlab_segments::{Gate, MOTION_PHASE};
 
 /// A gate that counts the work of a sweep and reports progress. A step counts when its motion begins, and each
 /// percent is reported by the worker whose step reaches it.
@@ -109,7 +108,7 @@ impl<'a, O: ProgressObserver> WorkGate<'a, O> {
 
 impl<'a, O: ProgressObserver> Gate for WorkGate<'a, O> {
     fn pass(&self, number: u32, _worker: u32, phase: u32, segment: u32) {
-        if phase == <Motion as Asked<u8>>::PHASE && segment == 0 && self.is_watching {
+        if phase == MOTION_PHASE && segment == 0 && self.is_watching {
             self.begin_step(number);
         }
     }

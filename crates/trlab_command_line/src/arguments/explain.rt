@@ -2,8 +2,8 @@
 
 ghost use Rattle.std.specs.Prelude.{◌≡◌, IfOk, Ok, codes, option_map};
 ghost use Rattle.clap.specs.Words.{FailsBy, found_of, kind_of, rows_of};
-ghost use Rattle.trlab_command_line.specs.Explains.{error_kinds, explain_request, request_from_matches, subject_of_command, topic_named};
-ghost use Rattle.trlab_command_line.specs.Numbers.{HasFlagValue, MayHaveNumber};
+ghost use Rattle.trlab_command_line.specs.CommandLine.{error_kinds, explain_request, request_from_matches, subject_of_command, topic_named};
+ghost use Rattle.trlab_command_line.specs.CommandLine.{HasFlagValue, MayHaveNumber};
 
 use crate::arguments::commands::explain_command;
 use crate::arguments::matches::{argument_number, is_flag_given};

@@ -4,7 +4,7 @@ ghost use Rattle.std.specs.Prelude.{◌≡◌, ℕ, ◌≤◌, ◌<◌, ◌^◌}
 ghost use Rattle.clap.specs.Words.{Text, rows_of};
 ghost use Rattle.clap.specs.Matches.{found_of};
 ghost use Rattle.trlab_bounds.specs.declared.runs.TheConstants.{MAX_WORKERS};
-ghost use Rattle.trlab_command_line.specs.Numbers.{GivesFlag, GivesNumber, HasFlagValue, HasValueFrom, MayHaveNumber, argument_number};
+ghost use Rattle.trlab_command_line.specs.CommandLine.{GivesFlag, GivesNumber, HasFlagValue, HasValueFrom, MayHaveNumber, argument_number};
 
 use clap::ArgMatches;
 
@@ -13,7 +13,7 @@ pub fn option_number(matches: &ArgMatches, option: &str) -> u32
     requires { (least : ℕ) × (most : ℕ) × (v : Text) × (most < 2 ^ 32)
         × HasValueFrom (option.now) least most (rows_of (found_of matches.now)) v }
     ensures number { GivesNumber (option.now) (rows_of (found_of matches.now)) result }
-    ensures within { (least most : ℕ) (v : Text) → most < 2 ^ 32
+    ensures in_range { (least most : ℕ) (v : Text) → most < 2 ^ 32
         → HasValueFrom (option.now) least most (rows_of (found_of matches.now)) v
         → (least ≤ result) × (result ≤ most) }
 {
@@ -27,8 +27,8 @@ pub fn option_number(matches: &ArgMatches, option: &str) -> u32
 pub fn thread_count_of(matches: &ArgMatches, option: &str) -> u32
     requires { (v : Text) × HasValueFrom (option.now) 1 MAX_WORKERS (rows_of (found_of matches.now)) v }
     ensures number { GivesNumber (option.now) (rows_of (found_of matches.now)) result }
-    ensures some { 1 ≤ result }
-    ensures few { result ≤ MAX_WORKERS }
+    ensures at_least_one { 1 ≤ result }
+    ensures at_most_max_workers { result ≤ MAX_WORKERS }
 {
     option_number(matches, option)
 }

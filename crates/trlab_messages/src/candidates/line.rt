@@ -6,12 +6,13 @@ use crate::candidates::number::density_candidate;
 use crate::candidates::program::end_candidates;
 use crate::candidates::{COMMENT, Candidates, LATE};
 use crate::fault::Fault;
-use crate::names::{CHECK_NAMES, RULE_NAMES, after_rule, is_name_of_line};
+use crate::lines::UnreadLines;
+use crate::names::{CHECK_NAMES, RULE_NAMES, after_rule, belongs_in, is_name_of_line, line_named};
 use crate::repairs::Change;
 use std::alloc::Global;
 use trlab_asm::mnemonic_named;
 use trlab_jobs::{Subject, subject_named};
-use trlab_lines::{cut, name_and_operands};
+use trlab_lines::{cut, name_and_operands, next_line};
 use trlab_texts::LineName;
 use trlab_texts::word::{head_word, without_prefix};
 
@@ -133,6 +134,53 @@ fn rule_candidate(list: &mut Candidates, fault: &Fault<'_>) {
     }
 }
 
+/// Adds a candidate that writes the blanks between the cells of a lane as empty cells.
+fn lane_candidate(list: &mut Candidates, fault: &Fault<'_>) {
+    if fault.line.len() <= LONGEST_LINE
+        && fault.wants(LineName::Lane)
+        && let Some(cells) = without_prefix(b"lane ", fault.line)
+        && cells.contains(&b' ')
+    {
+        let at = fault.line.len().saturating_sub(cells.len());
+        let mistake = "an empty cell is written as `.`.";
+        list.rewrite(mistake, at, cells.len(), joined(list.alloc, cells, b"."));
+    }
+}
+
+/// Whether the line at fault, which begins with this word, may belong further down: no line above it has its name.
+fn may_belong_below(fault: &Fault<'_>, word: &[u8]) -> bool {
+    let mut above = UnreadLines::below(0, fault.place.above());
+    matches!(line_named(word), Some(name) if belongs_in(name, fault.subject))
+        && above.read_to(word).is_none()
+}
+
+/// Two lines, with an LF between them.
+fn in_two_lines(alloc: Global, first: &[u8], second: &[u8]) -> Result<Vec<u8>> {
+    let mut lines = first.to_vec(alloc)?;
+    lines.push(b'\n')?;
+    lines.extend_from_slice(second)?;
+    Ok(lines)
+}
+
+/// Adds a candidate that swaps the line at fault, which begins with this word, with the one below it, if that line is
+/// valid here.
+fn swap_candidate(list: &mut Candidates, fault: &Fault<'_>, word: &[u8]) {
+    let Some((below, _)) = next_line(fault.place.below()) else {
+        return;
+    };
+    let is_wanted = match line_named(head_word(below)) {
+        None | Some(LineName::Motion | LineName::Change) => false,
+        Some(name) => fault.wants(name),
+    };
+    let is_short = fault.line.len().max(below.len()) <= LONGEST_LINE;
+    if is_wanted && is_short && may_belong_below(fault, word) {
+        let length = fault.line.len().saturating_add(below.len());
+        let swapped = in_two_lines(list.alloc, below, fault.line);
+        let mistake = "these two lines are in the wrong order.";
+        list.rewrite(mistake, 0, length.saturating_add(1), swapped);
+    }
+}
+
 /// Adds a candidate that inserts a valid line, for each one except `at` lines and those of programs.
 fn missing_candidates(list: &mut Candidates, fault: &Fault<'_>, mistake: &'static str) {
     for line in &LineName::ALL {
@@ -158,7 +206,9 @@ fn command_candidate(list: &mut Candidates, fault: &Fault<'_>, word: &[u8]) {
 fn word_candidates(list: &mut Candidates, fault: &Fault<'_>, word: &[u8]) {
     name_candidates(list, fault, word);
     rule_candidate(list, fault);
+    lane_candidate(list, fault);
     if is_name_of_line(word) {
+        swap_candidate(list, fault, word);
         let missing = "a line is missing above this one, for example this one.";
         missing_candidates(list, fault, missing);
         list.delete_line(fault, LATE);

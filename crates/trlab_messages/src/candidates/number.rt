@@ -1,11 +1,11 @@
-//! Candidates for numbers that are written as fractions, with a sign or with a power of ten.
+//! Candidates for numbers that are written as fractions, with a sign, in groups of digits or with a power of ten.
 
 use crate::candidates::{Candidates, DIGITS};
 use crate::fault::Fault;
 use std::num::{nearest_u64_to_f64, saturating_f64_to_u64};
 use trlab_bounds::programs::CERTAIN;
 use trlab_bounds::roads::{MAX_LANES, MAX_LENGTH};
-use trlab_lines::{cut, next_line};
+use trlab_lines::{cut, is_numeral, next_line};
 use trlab_texts::{Excerpt, LineName, Quantity, Wanted};
 
 /// A quantity that may by mistake be written as a fraction, from 0 to 1, of a whole.
@@ -86,10 +86,32 @@ pub fn number_candidates(list: &mut Candidates, fault: &Fault<'_>) {
     value_candidates(list, at, word.bytes(), part);
 }
 
-/// The value of a number without a sign, for example `0.25`, `.25`, `1e4` or `007`.
+/// The value of a whole number whose digits are in groups of three, for example `1,000`, `1_000` or `1'000`.
+fn grouped_of(word: &[u8]) -> Option<f64> {
+    if matches!(word.first(), Some(b'0')) {
+        return None;
+    }
+    let mut value = 0.0;
+    let mut is_first = true;
+    for group in word.split(|byte| matches!(byte, b',' | b'_' | b'\'')) {
+        let has_length = group.len() == 3 || (is_first && matches!(group.len(), 1 | 2));
+        if !has_length || !is_numeral(group) {
+            return None;
+        }
+        let part: f64 = fast_float::parse(group).ok()?;
+        value = value * 1000.0 + part;
+        is_first = false;
+    }
+    Some(value)
+}
+
+/// The value of a number without a sign, for example `0.25`, `.25`, `1e4`, `007` or `1,000`.
 fn decimal_of(word: &[u8]) -> Option<f64> {
     match word.first() {
-        Some(b'.' | b'0'..=b'9') => fast_float::parse(word).ok(),
+        Some(b'.' | b'0'..=b'9') => match fast_float::parse(word) {
+            Ok(value) => Some(value),
+            Err(_) => grouped_of(word),
+        },
         _ => None,
     }
 }

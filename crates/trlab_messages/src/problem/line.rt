@@ -1,12 +1,19 @@
 //! The problem with an unexpected line.
 
 use crate::fault::Fault;
-use crate::names::{after_rule, belongs_in, count_probabilities, line_named};
+use crate::names::{
+    CHECK_NAMES, after_rule, belongs_in, count_probabilities, count_values, line_named,
+};
 use crate::sentence::{Draft, Quoted};
+use trlab_asm::mnemonic_named;
 use trlab_jobs::Subject;
-use trlab_lines::{Oddity, oddity_of};
+use trlab_lines::{Oddity, name_and_operands, oddity_of};
 use trlab_texts::word::head_word;
 use trlab_texts::{LineName, LineNames};
+
+/// The problem with the first line of an input that begins like no job, sweep or program.
+const FIRST_LINE: &str = "the first line must be `road 1` (a job), `sweep 1` (a sweep), \
+    or `motion` or `change` (a program).";
 
 /// Adds the problem with the words after `rule`: an unknown name, or too many or too few values.
 fn push_rule_problem(problem: &mut Draft, words: &[u8]) {
@@ -48,24 +55,60 @@ fn push_name_problem(problem: &mut Draft, subject: Subject, word: &[u8]) {
     }
 }
 
-/// Adds the problem with a line by its first word.
-fn push_word_problem(problem: &mut Draft, subject: Subject, word: &[u8], names: LineNames) {
-    let is_program = names.has(LineName::Motion) || names.has(LineName::Change);
-    match line_named(word) {
-        Some(name) if names.has(name) => {
-            if matches!(name, LineName::Road | LineName::Sweep) {
-                problem.push_str("the format version must be 1.");
-            }
+/// Adds the problem with the values of a line whose name is valid there.
+fn push_values_problem(problem: &mut Draft, line: &[u8], name: LineName) {
+    let Some(takes) = count_values(name) else {
+        return;
+    };
+    let words = line
+        .split(|byte| *byte == b' ')
+        .filter(|word| !word.is_empty())
+        .count();
+    let count = words.saturating_sub(1);
+    if matches!(name, LineName::Road | LineName::Sweep) {
+        problem.push_str("the format version must be 1.");
+    } else if count != takes {
+        let word = Quoted(name.word());
+        let takes = if takes == 0 { "no values" } else { "one value" };
+        write!(problem, "`{word}` takes {takes}, found {count}.");
+        if name == LineName::Lane && count > 1 {
+            problem.push_str(" Write an empty cell as `.`.");
         }
-        None if is_program && word == b"code".as_slice() => {}
-        _ if names.is_empty() => {}
-        _ => push_name_problem(problem, subject, word),
     }
 }
 
-/// An oddity in words.
-fn odd_words(oddity: Oddity) -> &'static str {
+/// Whether a line begins neither with the name of a line nor with an instruction.
+fn is_foreign(line: &[u8]) -> bool {
+    let word = head_word(line);
+    line_named(word).is_none()
+        && !CHECK_NAMES.contains(&word)
+        && mnemonic_named(name_and_operands(line).0).is_none()
+}
+
+/// Adds the problem with a line by its first word.
+fn push_word_problem(problem: &mut Draft, fault: &Fault<'_>, names: LineNames) {
+    let word = head_word(fault.line);
+    let is_program = names.has(LineName::Motion) || names.has(LineName::Change);
+    match line_named(word) {
+        Some(name) if names.has(name) => push_values_problem(problem, fault.line, name),
+        None if is_program && word == b"code".as_slice() => {}
+        _ if names.is_empty() => {}
+        None if begins_check(fault) && is_foreign(fault.line) => problem.push_str(FIRST_LINE),
+        _ => push_name_problem(problem, fault.subject, word),
+    }
+}
+
+/// Whether a fault is in the first line of an input that is read as a program.
+fn begins_check(fault: &Fault<'_>) -> bool {
+    fault.subject == Subject::Check && fault.place.number == 1
+}
+
+/// An oddity in words; `is_first` if it is in the first line of an input that is read as a program.
+fn odd_words(oddity: Oddity, is_first: bool) -> &'static str {
     match oddity {
+        Oddity::Empty if is_first => FIRST_LINE,
+        Oddity::Comment if is_first =>
+            "the line has a comment: comments are allowed only inside programs, below `motion` or `change`.",
         Oddity::ByteOrderMark => "the file begins with a byte order mark: save it as plain ASCII.",
         Oddity::CarriageReturn =>
             "the line ends with a carriage return (Windows line ending): use LF only.",
@@ -80,19 +123,21 @@ fn odd_words(oddity: Oddity) -> &'static str {
 /// Adds the problem with an unexpected line.
 pub fn push_line_problem(problem: &mut Draft, fault: &Fault<'_>, names: LineNames) {
     let Some(line) = fault.place.line else {
-        return problem.push_str(if names.has(LineName::End) {
+        return problem.push_str(if fault.place.text.is_empty() {
+            "the input is empty. On the command line, did you forget `< FILE`?"
+        } else if names.has(LineName::End) {
             "the end of the file: a program has no line `end`."
         } else {
             "the end of the file: a line is missing."
         });
     };
     if let Some(oddity) = oddity_of(line) {
-        return problem.push_str(odd_words(oddity));
+        return problem.push_str(odd_words(oddity, begins_check(fault)));
     }
     if let Some(words) = after_rule(line) {
         push_rule_problem(problem, words);
     }
     if problem.is_empty() {
-        push_word_problem(problem, fault.subject, head_word(line), names);
+        push_word_problem(problem, fault, names);
     }
 }

@@ -21,11 +21,11 @@ fn variable_text(variable: usize) -> &'static [u8] {
 fn level_of_ranges(note: &Note, inputs: &[AbstractValue], variable: usize, high: u32) -> u8 {
     let value = match note.regs.get(variable) {
         Some(Mark::Num(low, most)) => AbstractValue::Between(*low, *most),
-        Some(_) => AbstractValue::Nothing,
+        Some(_) => AbstractValue::Unknown,
         None => inputs
             .get(variable)
             .copied()
-            .unwrap_or(AbstractValue::Nothing),
+            .unwrap_or(AbstractValue::Unknown),
     };
     level_between(AbstractValue::Between(0, high), value, false, 0)
 }

@@ -3,7 +3,7 @@
 use crate::body::{Body, Rejection};
 use crate::program::Listing;
 use crate::program::register_facts::push_register_fact;
-use crate::reasons::{advice, reason_meaning};
+use crate::reasons::{advice_at, reason_meaning};
 use crate::sentence::{Draft, Quoted, Shown};
 use std::alloc::Global;
 use trlab_asm::register_text;
@@ -101,6 +101,7 @@ fn rejection_at(alloc: Global, program: Listing<'_>, pc: u32, reason: Reason) ->
     write!(text, "{}", Quoted(program.line(pc).line));
     let mut instruction = Draft::new(alloc);
     program.push_instruction(&mut instruction, pc);
+    let instr = program.code.instrs().get(pc as usize).copied();
     Rejection {
         pc,
         line_number: program.line_number(pc, 1),
@@ -108,7 +109,7 @@ fn rejection_at(alloc: Global, program: Listing<'_>, pc: u32, reason: Reason) ->
         instruction,
         reason: reason.number(),
         meaning: reason_meaning(reason),
-        advice: advice(reason, program.code.kind()),
+        advice: advice_at(reason, program.code.kind(), instr),
     }
 }
 

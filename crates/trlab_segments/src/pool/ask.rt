@@ -5,7 +5,7 @@ ghost use Rattle.std.specs.Prelude.{◌≡◌, ◌<◌, IfErr, IfOk, IfSome, OnO
 ghost use Rattle.std.specs.Arc.{arc_value};
 ghost use Rattle.trlab_road.specs.Cells.{cars};
 ghost use Rattle.trlab_segments.specs.Drawers.{HasDrawnNone};
-ghost use Rattle.trlab_segments.specs.Results.{AnswersAll, CoversAllCars};
+ghost use Rattle.trlab_segments.specs.Answered.{AnswersAll, CoversAllCars};
 
 use crate::phase::Asked;
 use crate::pool::Pool;

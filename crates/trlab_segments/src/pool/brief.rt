@@ -2,9 +2,8 @@
 
 ghost use Rattle.std.specs.Prelude.{◌≡◌, ◌<◌, ◌≤◌, IfOk, OnErr, OnOk};
 ghost use Rattle.trlab_bounds.specs.declared.runs.TheConstants.{MAX_WORKERS};
-ghost use Rattle.trlab_segments.specs.Answered.{HasParts};
+ghost use Rattle.trlab_segments.specs.Answered.{HasParts, AnswersAll, IsBriefOf, HasDone, CoversAllCars, IsPartOfBrief};
 ghost use Rattle.trlab_segments.specs.Drawers.{IsDrawerOf, HasDrawnNone};
-ghost use Rattle.trlab_segments.specs.Results.{AnswersAll, IsBriefOf, HasDone, CoversAllCars, IsPartOfBrief};
 ghost use Rattle.trlab_segments.specs.Segments.{first_car};
 
 use crate::parts::{Part, collect, work};

@@ -1,7 +1,7 @@
 //! The results of a phase so far: the deposits of helpers, and the passes that none of them has taken.
 
 ghost use Rattle.std.specs.Prelude.{IfSome};
-ghost use Rattle.trlab_segments.specs.Results.{AreResults, IsRightResult};
+ghost use Rattle.trlab_segments.specs.Answered.{AreResults, IsRightResult};
 ghost use Rattle.trlab_segments.specs.Drawers.{IsDrawerOf, IsJoined, HasDrawnNone};
 
 use crate::parts::{Part, join_parts};

@@ -1,7 +1,7 @@
 //! A phase that threads share: its brief and the results so far; and the slot in which helpers find it.
 
 ghost use Rattle.std.specs.Prelude.{◌≡◌, IfErr, IfOk, IfSome, OnOk};
-ghost use Rattle.trlab_segments.specs.Results.{AnswersAll, AreResults, CoversAllCars, IsRightResult};
+ghost use Rattle.trlab_segments.specs.Answered.{AnswersAll, AreResults, CoversAllCars, IsRightResult};
 ghost use Rattle.trlab_segments.specs.Drawers.{HasDrawnNone};
 ghost use Rattle.trlab_segments.specs.KeyedLocks.{HasTakenSlot};
 

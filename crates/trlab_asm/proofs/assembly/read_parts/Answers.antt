@@ -1,8 +1,5 @@
-use Rattle.std.proofs.Common.{◌≡◌, sym, ◌∙◌, arith, inl}
-use Rattle.std.specs.Prelude.{Err}
-use Rattle.std.proofs.lemmas.Grind.{common_steps}
-use Rattle.trlab_asm.specs.Stored.{stored_parts}
-use Rattle.trlab_asm.specs.Assembly.{with_line}
+use Rattle.std.proofs.{Common.{◌≡◌, sym, ◌∙◌, arith, inl, Err}, lemmas.Grind.common_steps}
+use Rattle.trlab_asm.specs.{Stored.stored_parts, Assembly.with_line}
 use Rattle.trlab_asm.proofs.Passes.{first_next, first_fault, first_end}
 use Rattle.trlab_asm.proofs.assembly.read_parts.Goals as goal
 

@@ -1,7 +1,6 @@
 use Rattle.std.proofs.Common.{◌≡◌, ◌≤◌, ◌+◌, length}
 use Rattle.trlab_lines.specs.Lines.{lines_of}
-use Rattle.trlab_asm.specs.Stored.{stored_parts}
-use Rattle.trlab_asm.specs.Assembly.{no_parts, first_pass}
+use Rattle.trlab_asm.specs.{Stored.stored_parts, Assembly.{no_parts, first_pass}}
 use Rattle.trlab_asm.proofs.assembly.read_parts.Given as goal
 
 abbrev pub invariant-loop-line : goal.invariant-loop-line

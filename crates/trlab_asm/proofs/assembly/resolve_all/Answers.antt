@@ -1,16 +1,12 @@
-use Rattle.std.proofs.Common.{◌≡◌, ◌+◌, ◌++◌, ◌∷◌, [], sym, ◌∙◌, ap, inl, arith}
-use Rattle.std.proofs.lemmas.Grind.{common_steps}
-use Rattle.std.specs.Prelude.{Err}
-use Rattle.std.proofs.lemmas.List.{length_push}
+use Rattle.std.proofs.Common.{◌≡◌, ◌+◌, ◌++◌, ◌∷◌, [], sym, ◌∙◌, ap, inl, arith, Err}
+use Rattle.std.proofs.lemmas.{Grind.common_steps, List.{length_push, Elements.All-push}}
 use Rattle.std.proofs.lemmas.Result.{err_from_is_err_and}
-use Rattle.std.proofs.lemmas.List.Elements.{All-push}
 use Rattle.trlab_code.specs.Program.{IsInRange}
-use Rattle.trlab_asm.specs.Stored.{pcs}
-use Rattle.trlab_asm.proofs.Passes.{second_next, second_fault, second_end}
+use Rattle.trlab_asm.{specs.Stored.pcs, proofs.Passes.{second_next, second_fault, second_end}}
 use Rattle.trlab_asm.proofs.assembly.resolve_all.Goals as goal
 
-pub returns-in_err-instr-clause-told : goal.returns-in_err-instr-clause-told
-returns-in_err-instr-clause-told c =
+pub returns-in_err-instr-clause-reported : goal.returns-in_err-instr-clause-reported
+returns-in_err-instr-clause-reported c =
     let value = rw c.line_draft-item.is at c.in_err-instr.ensures.value in
     let told = second_fault (pcs c.args.labels.now) c.args.drafts.now c.loop-line_draft.line_draft-index c.line_draft-item.result c.loop-line_draft.instrs.items c.in_err-instr.field-0.0 c.loop-line_draft-test.true value in
     let p = err_from_is_err_and c.from_residual.result c.from_residual.ensures.1 in
@@ -28,6 +24,6 @@ loop-line_draft-preserved c =
       in_range = rw pushed (All-push IsInRange c.loop-line_draft.instrs.items c.in_ok-instr.instr c.loop-line_draft.invariant.in_range c.in_ok-instr.ensures.in_range);
     }
 
-pub returns-clause-told : goal.returns-clause-told
-returns-clause-told c =
+pub returns-clause-reported : goal.returns-clause-reported
+returns-clause-reported c =
     sym c.loop-line_draft.invariant.says ∙ second_end (pcs c.args.labels.now) c.args.drafts.now c.loop-line_draft.line_draft-index c.loop-line_draft.instrs.items c.loop-line_draft-test.false

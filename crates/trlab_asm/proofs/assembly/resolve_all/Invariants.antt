@@ -1,8 +1,6 @@
 use Rattle.std.proofs.Common.{◌≡◌, length, drop, All}
 use Rattle.trlab_code.specs.Program.{IsInRange}
-use Rattle.trlab_asm.specs.Stored.{pcs}
-use Rattle.trlab_asm.specs.Assembly.{second_pass}
-use Rattle.trlab_asm.proofs.Passes.{following}
+use Rattle.trlab_asm.{specs.{Stored.pcs, Assembly.second_pass}, proofs.Passes.following}
 use Rattle.trlab_asm.proofs.assembly.resolve_all.Given as goal
 
 abbrev pub invariant-loop-line_draft : goal.invariant-loop-line_draft

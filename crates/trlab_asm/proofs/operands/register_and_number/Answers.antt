@@ -1,7 +1,6 @@
 use Rattle.std.proofs.Common.{◌≤◌}
 use Rattle.trlab_bounds.specs.declared.programs.TheConstants.{MAX_NUMBER}
-use Rattle.trlab_asm.specs.Operands.{register, number}
-use Rattle.trlab_asm.proofs.Shapes.{both_said, rest_known}
+use Rattle.trlab_asm.{specs.Operands.{register, number}, proofs.Shapes.{both_said, rest_known}}
 use Rattle.trlab_asm.proofs.operands.register_and_number.Goals as goal
 
 pub returns-in-Some-clause-value : goal.returns-in-Some-clause-value

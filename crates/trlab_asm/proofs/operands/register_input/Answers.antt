@@ -1,5 +1,4 @@
-use Rattle.trlab_asm.specs.Operands.{register, input}
-use Rattle.trlab_asm.proofs.Shapes.{both_said}
+use Rattle.trlab_asm.{specs.Operands.{register, input}, proofs.Shapes.both_said}
 use Rattle.trlab_asm.proofs.operands.register_input.Goals as goal
 
 pub returns-in-Some : goal.returns-in-Some

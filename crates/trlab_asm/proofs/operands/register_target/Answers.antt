@@ -1,5 +1,4 @@
-use Rattle.trlab_asm.specs.Operands.{register, jump_target}
-use Rattle.trlab_asm.proofs.Shapes.{both_said}
+use Rattle.trlab_asm.{specs.Operands.{register, jump_target}, proofs.Shapes.both_said}
 use Rattle.trlab_asm.proofs.operands.register_target.Goals as goal
 
 pub returns-in-Some : goal.returns-in-Some

@@ -1,7 +1,6 @@
 use Rattle.std.proofs.Common.{◌<◌, ◌≤◌}
 use Rattle.trlab_bounds.specs.declared.programs.TheConstants.{WORDS, CERTAIN}
-use Rattle.trlab_asm.specs.Operands.{register, word_chance}
-use Rattle.trlab_asm.proofs.Shapes.{both_said, rest_known}
+use Rattle.trlab_asm.{specs.Operands.{register, word_chance}, proofs.Shapes.{both_said, rest_known}}
 use Rattle.trlab_asm.proofs.operands.register_word_chance.Goals as goal
 
 pub returns-in-Some-clause-value : goal.returns-in-Some-clause-value

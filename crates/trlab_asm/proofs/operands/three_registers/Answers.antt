@@ -1,5 +1,4 @@
-use Rattle.trlab_asm.specs.Operands.{register, two_registers}
-use Rattle.trlab_asm.proofs.Shapes.{both_said}
+use Rattle.trlab_asm.{specs.Operands.{register, two_registers}, proofs.Shapes.both_said}
 use Rattle.trlab_asm.proofs.operands.three_registers.Goals as goal
 
 pub returns-in-Some : goal.returns-in-Some

@@ -1,5 +1,5 @@
 use Rattle.std.proofs.Common.{◌≡◌, true, ℕ, List, Bor}
-use Rattle.trlab_lines.specs.Numbers.{all_digits}
+use Rattle.trlab_lines.specs.Lines.{all_digits}
 use Rattle.trlab_asm.proofs.Shapes.{first_known, numerals_said, rest_known}
 use Rattle.trlab_asm.proofs.operands.two_numerals.Goals as goal
 

@@ -1,5 +1,4 @@
-use Rattle.trlab_asm.specs.Operands.{register}
-use Rattle.trlab_asm.proofs.Shapes.{both_said}
+use Rattle.trlab_asm.{specs.Operands.register, proofs.Shapes.both_said}
 use Rattle.trlab_asm.proofs.operands.two_registers.Goals as goal
 
 pub returns-in-Some : goal.returns-in-Some

@@ -1,6 +1,5 @@
 use Rattle.std.proofs.Common.{◌≤◌}
-use Rattle.trlab_asm.specs.Operands.{register, register_and_number}
-use Rattle.trlab_asm.proofs.Shapes.{both_said, rest_known}
+use Rattle.trlab_asm.{specs.Operands.{register, register_and_number}, proofs.Shapes.{both_said, rest_known}}
 use Rattle.trlab_asm.proofs.operands.two_registers_number.Goals as goal
 
 pub returns-in-Some-clause-value : goal.returns-in-Some-clause-value

@@ -1,9 +1,6 @@
-use Rattle.std.proofs.Common.{◌≡◌, ℕ, ◌-◌, ◌<◌, ◌≤◌, List, refl, arith}
-use Rattle.std.specs.Prelude.{Result, Ok, Err, IfOk}
+use Rattle.std.proofs.Common.{◌≡◌, ℕ, ◌-◌, ◌<◌, ◌≤◌, List, refl, arith, Result, Ok, Err, IfOk}
 use Rattle.trlab_bounds.specs.declared.programs.TheConstants.{WORDS, CERTAIN}
-use Rattle.trlab_asm.specs.Results.{◌>>=◌}
-use Rattle.trlab_asm.specs.Operands.{two_numerals, value_within, word_chance}
-use Rattle.trlab_asm.specs.declared.fault.Why.{Why}
+use Rattle.trlab_asm.specs.{Operands.{◌>>=◌, two_numerals, value_within, word_chance}, declared.fault.Why.Why}
 use Rattle.trlab_asm.proofs.Shapes.{first_known, rest_known}
 use Rattle.trlab_asm.proofs.operands.word_chance.Goals as goal
 

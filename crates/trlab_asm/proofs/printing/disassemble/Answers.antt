@@ -1,11 +1,8 @@
 use Rattle.std.proofs.Common.{◌≡◌, ◌<◌, ◌≤◌, ◌++◌, ◌∷◌, [], length, get_or, arith, sym, ◌∙◌, append_assoc}
-use Rattle.std.proofs.lemmas.Grind.{common_steps}
-use Rattle.std.proofs.lemmas.List.Elements.{All-more}
-use Rattle.trlab_code.specs.declared.instruction.Instr.TheVariants.{Num}
-use Rattle.trlab_code.specs.declared.instruction.Register.TheVariants.{R0}
-use Rattle.trlab_asm.specs.Canonical.{instr_line, is_jumped_to}
+use Rattle.std.proofs.lemmas.{Grind.common_steps, List.Elements.All-more}
+use Rattle.trlab_code.specs.declared.instruction.{Instr.TheVariants.Num, Register.TheVariants.R0}
 use Rattle.trlab_code.specs.Laws.{FitsIn32Bits}
-use Rattle.trlab_asm.proofs.PrintedFrom.{text_next, text_end}
+use Rattle.trlab_asm.{specs.Canonical.{instr_line, is_jumped_to}, proofs.PrintedFrom.{text_next, text_end}}
 use Rattle.trlab_asm.proofs.Reread.{reread}
 use Rattle.trlab_asm.proofs.printing.disassemble.Goals as goal
 

@@ -1,8 +1,8 @@
-use Rattle.std.proofs.Common.{◌≡◌, ℕ, List, ◌++◌, ◌∷◌, [], append_assoc}
-use Rattle.std.specs.Prelude.{Result, Ok, Err, OnOk}
+use Rattle.std.proofs.Common.{◌≡◌, ℕ, List, ◌++◌, ◌∷◌, [], append_assoc, Result, Ok, Err, OnOk}
 use Rattle.trlab_asm.specs.Canonical.{label_text, instr_text}
+use Rattle.trlab_asm.proofs.printing.push_line.Goals.{then-is_marked+in_ok-push_number+in_ok-extend_from_slice}
+use Rattle.trlab_asm.proofs.printing.push_line.Goals.{else-is_marked}
 use Rattle.trlab_asm.proofs.printing.push_line.Goals as goal
-use Rattle.trlab_asm.proofs.printing.push_line.Goals.{then-is_marked+in_ok-push_number+in_ok-extend_from_slice, else-is_marked}
 
 -- a text was put after a label
 labelled : {E : Type 0} (r : Result (Unit {0}) E) (new mid start old label text : List ℕ) → mid ≡ start ++ (58 ∷ 32 ∷ []) → start ≡ old ++ label → OnOk r (new ≡ mid ++ text)

@@ -1,5 +1,4 @@
-use Rattle.std.proofs.Common.{◌≡◌, ℕ, List, ◌++◌, append_assoc}
-use Rattle.std.specs.Prelude.{Result, Ok, Err, OnOk, is_ok, if◌then◌else◌}
+use Rattle.std.proofs.Common.{◌≡◌, ℕ, List, ◌++◌, append_assoc, Result, Ok, Err, OnOk, is_ok, if◌then◌else◌}
 use Rattle.trlab_asm.specs.Names.{register_text, input_text}
 use Rattle.trlab_asm.proofs.printing.push_operand.Goals as goal
 

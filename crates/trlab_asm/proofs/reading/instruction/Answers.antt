@@ -1,12 +1,8 @@
-use Rattle.std.proofs.Common.{◌≡◌, ◌∙◌, ℕ, List, Bool, true, false, ap, sym, rules}
-use Rattle.std.specs.Prelude.{nat_lt, Option, Some, ok_or, Result, Ok, Err, if◌then◌else◌}
-use Rattle.std.proofs.lemmas.Bool.{lt-ltb, le-ltb}
+use Rattle.std.proofs.Common.{◌≡◌, ◌∙◌, ℕ, List, Bool, true, false, ap, sym, rules, nat_lt, Option, Some}
+use Rattle.std.proofs.Common.{ok_or, Result, Ok, Err, if◌then◌else◌, lt-ltb, le-ltb}
 use Rattle.trlab_bounds.specs.declared.programs.TheConstants.{MAX_INSTRUCTIONS}
-use Rattle.trlab_asm.specs.Results.{◌>>=◌}
-use Rattle.trlab_asm.specs.Reading.{InstrDraft, draft_of}
-use Rattle.trlab_asm.specs.declared.fault.Why.{Why}
-use Rattle.trlab_asm.specs.declared.fault.Why.TheVariants.{Word, TooLong}
-use Rattle.trlab_asm.specs.declared.names.Mnemonic.{Mnemonic}
+use Rattle.trlab_asm.specs.{Operands.{◌>>=◌}, Reading.{InstrDraft, draft_of}, declared.fault.Why.Why}
+use Rattle.trlab_asm.specs.declared.{fault.Why.TheVariants.{Word, TooLong}, names.Mnemonic.Mnemonic}
 use Rattle.trlab_asm.proofs.reading.instruction.Goals as goal
 
 -- an instruction that was read

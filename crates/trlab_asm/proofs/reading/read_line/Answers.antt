@@ -1,11 +1,8 @@
-use Rattle.std.proofs.Common.{◌≡◌, ◌∙◌, ℕ, List, ap}
-use Rattle.std.specs.Prelude.{Option, Result, Ok, Err}
+use Rattle.std.proofs.Common.{◌≡◌, ◌∙◌, ℕ, List, ap, Option, Result, Ok, Err}
 use Rattle.std.proofs.lemmas.Result.{err_from_is_err_and}
-use Rattle.trlab_lines.specs.Cutting.{without_comment, label_and_rest, without_indent}
-use Rattle.trlab_asm.specs.Results.{◌>>=◌}
-use Rattle.trlab_asm.specs.Reading.{InstrDraft, Labels, Line, body, label_of, content_of_parts, line_content}
-use Rattle.trlab_asm.specs.declared.fault.Why.{Why}
-use Rattle.trlab_asm.specs.Stored.{pcs}
+use Rattle.trlab_lines.specs.Lines.{without_comment, label_and_rest, without_indent}
+use Rattle.trlab_asm.specs.{Operands.{◌>>=◌}, Reading.{InstrDraft, Labels, Line, body, label_of}}
+use Rattle.trlab_asm.specs.{Reading.{content_of_parts, line_content}, declared.fault.Why.Why, Stored.pcs}
 use Rattle.trlab_asm.proofs.reading.read_line.Goals as goal
 
 -- a line whose label is known

@@ -1,6 +1,4 @@
-use Rattle.std.proofs.Common.{◌≡◌, ◌∷◌, [], ◌++◌, ◌∙◌, refl}
-use Rattle.std.specs.Prelude.{decimal, codes}
-use Rattle.std.specs.String.{string_bytes}
+use Rattle.std.proofs.Common.{◌≡◌, ◌∷◌, [], ◌++◌, ◌∙◌, refl, decimal, codes, string_bytes}
 use Rattle.trlab_asm.specs.Canonical.{canonical_text}
 use Rattle.trlab_campaign.proofs.Lines.{line_then}
 use Rattle.trlab_campaign.proofs.check.accepted_text.Goals as goal

@@ -1,9 +1,7 @@
 use mir.Val.{bool_byte}
-use Rattle.std.proofs.Common.{◌≡◌, ◌∙◌, ◌<◌, ℕ, Bool, true, false, ap, arith, cond, get_or, length, nat_eq, refl}
-use Rattle.std.proofs.lemmas.List.{get_or_read}
-use Rattle.std.proofs.lemmas.List.Sums.{sum_by_more}
-use Rattle.trlab_road.specs.LaneCars.{LaneCar}
-use Rattle.trlab_road.specs.Stored.{no_car}
+use Rattle.std.proofs.Common.{◌≡◌, ◌∙◌, ◌<◌, ℕ, Bool, true, false, ap, arith, cond, get_or, length, nat_eq}
+use Rattle.std.proofs.{Common.refl, lemmas.List.{get_or_read, Sums.sum_by_more}}
+use Rattle.trlab_road.specs.Stored.{LaneCar, no_car}
 use Rattle.trlab_campaign.proofs.LaneCounts.{at_most}
 use Rattle.trlab_campaign.proofs.counting.count_cars.Goals as goal
 
@@ -24,7 +22,7 @@ loop-k-preserved c =
     let stood = sum_by_more (λ (car : LaneCar). cond (nat_eq car.speed 0) 1 0) line k no_car inside in
     let a = inv.distance in
     let b = inv.stopped in
-    let slow = c.requires.slow k inside in
+    let slow = c.requires.at_most_max_limit k inside in
     let gone = c.from-distance.ensures in
     let stopped : c.from-stopped.result ≡ cond (nat_eq (get_or line k no_car).speed 0) 1 0 = c.from-stopped.ensures ∙ byte_is (nat_eq c.speed-speed.result 0) ∙ ap (λ (n : ℕ). cond (nat_eq n 0) 1 0) speed in
     let one = at_most (nat_eq (get_or line k no_car).speed 0) 1 in

@@ -1,7 +1,6 @@
-use Rattle.std.proofs.Common.{◌≡◌, ◌*◌, ◌≤◌, nat_eq, take}
-use Rattle.std.specs.Prelude.{count_by, sum_by}
+use Rattle.std.proofs.Common.{◌≡◌, ◌*◌, ◌≤◌, nat_eq, take, count_by, sum_by}
 use Rattle.trlab_bounds.specs.declared.roads.TheConstants.{MAX_LIMIT}
-use Rattle.trlab_road.specs.LaneCars.{LaneCar}
+use Rattle.trlab_road.specs.Stored.{LaneCar}
 use Rattle.trlab_campaign.proofs.counting.count_cars.Given as goal
 
 abbrev pub invariant-loop-k : goal.invariant-loop-k

@@ -1,6 +1,7 @@
 use Rattle.std.proofs.Common.{◌∙◌, ap, sym}
 use Rattle.trlab_diagram.specs.declared.point.LaneCount.{LaneCount}
-use Rattle.trlab_campaign.proofs.LaneCounts.{line_cars, line_speed, line_stopped, no_cars_on, no_speed_on, none_stopped_on}
+use Rattle.trlab_campaign.proofs.LaneCounts.{line_cars, line_speed, line_stopped, no_cars_on, no_speed_on}
+use Rattle.trlab_campaign.proofs.LaneCounts.{none_stopped_on}
 use Rattle.trlab_campaign.proofs.counting.count_lane.Goals as goal
 
 pub returns-then-lanes-lane-clause-cars : goal.returns-then-lanes-lane-clause-cars

@@ -22,8 +22,8 @@ loop-done-preserved g c =
       seed = seed;
       sheet = sheet;
       at = omega (arith, next, at);
-      lane0_few = few_more done c.loop-done.lane0 c.count_lane.result c.lane_sum-lane0.result inv.lane0_few one.few a.cars a.distance a.stopped;
-      lane1_few = few_more done c.loop-done.lane1 c.count_lane-in-loop-done.result c.lane_sum-lane1.result inv.lane1_few two.few b.cars b.distance b.stopped;
+      lane0_few = few_more done c.loop-done.lane0 c.count_lane.result c.lane_sum-lane0.result inv.lane0_few one.bounded a.cars a.distance a.stopped;
+      lane1_few = few_more done c.loop-done.lane1 c.count_lane-in-loop-done.result c.lane_sum-lane1.result inv.lane1_few two.bounded b.cars b.distance b.stopped;
       lane0_is = λ roads each. lane_more 0 roads start.step done c.road.result.now c.loop-done.lane0 c.count_lane.result c.lane_sum-lane0.result (inv.lane0_is roads each)
           (road_here start.seed run.seed start.sheet run.sheet (start.step + 1 + done) run.step roads c.road.result.now seed sheet here each c.road.ensures.run)
           one.cars one.distance one.stopped a.cars a.distance a.stopped;

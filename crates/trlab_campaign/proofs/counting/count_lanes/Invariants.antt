@@ -1,7 +1,6 @@
 use Rattle.std.proofs.Common.{◌≡◌, ◌+◌, ℕ}
 use Rattle.trlab_road.specs.Cells.{Cells}
-use Rattle.trlab_campaign.specs.Counting.{IsBoundedCount}
-use Rattle.trlab_campaign.specs.SeriesOutput.{AreRoads, lane_count, roads_after}
+use Rattle.trlab_campaign.specs.SeriesOutput.{IsBoundedCount, AreRoads, lane_count, roads_after}
 use Rattle.trlab_campaign.proofs.counting.count_lanes.Given as goal
 
 abbrev pub invariant-loop-done : goal.invariant-loop-done

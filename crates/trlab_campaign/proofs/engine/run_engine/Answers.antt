@@ -1,10 +1,7 @@
 use Rattle.std.proofs.Common.{◌≡◌, ◌⊎◌, ℕ, List, Bool, true, false, refl, sym, ◌∙◌, inl, inr}
-use Rattle.std.proofs.lemmas.Bool.{false≢true}
-use Rattle.std.proofs.lemmas.Option.{IfSome_then}
+use Rattle.std.proofs.lemmas.{Bool.{false≢true}, Option.IfSome_then}
 use Rattle.trlab_campaign.specs.declared.end.End.TheVariants.{Done, Refused, Memory, DeviceFault}
-use Rattle.trlab_campaign.specs.Ending.{WroteAtEnd}
-use Rattle.trlab_campaign.specs.Writers.{bytes_of}
-use Rattle.trlab_campaign.proofs.Endings.{if_told}
+use Rattle.trlab_campaign.{specs.{Ending.WroteAtEnd, Writers.bytes_of}, proofs.Endings.if_told}
 use Rattle.trlab_campaign.proofs.WrittenBytes.{kept}
 use Rattle.trlab_campaign.proofs.engine.run_engine.Goals as goal
 

@@ -1,5 +1,4 @@
-use Rattle.trlab_campaign.proofs.Endings.{engine_ends_among}
-use Rattle.trlab_campaign.proofs.Shown.{each_of_every_one}
+use Rattle.trlab_campaign.proofs.{Endings.engine_ends_among, Shown.each_of_every_one}
 use Rattle.trlab_campaign.proofs.for_embedders.run_job_text.Goals as goal
 
 pub returns : goal.returns

@@ -1,5 +1,4 @@
-use Rattle.trlab_campaign.proofs.OneVerdict.{one_output}
-use Rattle.trlab_campaign.proofs.SomeVerdict.{some_output}
+use Rattle.trlab_campaign.proofs.{OneVerdict.one_output, SomeVerdict.some_output}
 use Rattle.trlab_campaign.proofs.laws.check_has_one_output.Goals as goal
 
 pub returns : goal.returns

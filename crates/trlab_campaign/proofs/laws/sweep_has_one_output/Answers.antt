@@ -1,5 +1,4 @@
-use Rattle.trlab_campaign.proofs.OnePoints.{sweep_one_output}
-use Rattle.trlab_campaign.proofs.SomePoints.{sweep_some_output}
+use Rattle.trlab_campaign.proofs.{OnePoints.sweep_one_output, SomePoints.sweep_some_output}
 use Rattle.trlab_campaign.proofs.laws.sweep_has_one_output.Goals as goal
 
 pub returns : goal.returns

@@ -1,8 +1,6 @@
-use Rattle.std.proofs.Common.{◌++◌, refl}
-use Rattle.std.specs.Prelude.{decimal, codes}
+use Rattle.std.proofs.Common.{◌++◌, refl, decimal, codes}
 use Rattle.trlab_verify.specs.Tables.{meaning}
-use Rattle.trlab_campaign.specs.NoteLines.{registers_text, side_text}
-use Rattle.trlab_campaign.proofs.NoteTables.{note_put}
+use Rattle.trlab_campaign.{specs.CheckOutput.{registers_text, side_text}, proofs.NoteTables.note_put}
 use Rattle.trlab_campaign.proofs.note_lines.push_note.Goals as goal
 
 pub returns : goal.returns

@@ -2,8 +2,7 @@ use Rattle.std.proofs.Common.{◌≡◌, ◌-◌, ◌++◌, ◌∙◌, ap, arith
 use Rattle.std.proofs.lemmas.List.{get_or_default}
 use Rattle.trlab_verify.specs.declared.note.Note.{Note as Form}
 use Rattle.trlab_verify.specs.Tables.{form_without_marks, meaning, meaning_at}
-use Rattle.trlab_campaign.specs.NoteLines.{note_line}
-use Rattle.trlab_campaign.proofs.Lines.{next_number}
+use Rattle.trlab_campaign.{specs.CheckOutput.note_line, proofs.Lines.next_number}
 use Rattle.trlab_campaign.proofs.note_lines.push_table.Goals as goal
 
 pub loop-pc-preserved : goal.loop-pc-preserved

@@ -1,8 +1,7 @@
-use Rattle.std.proofs.Common.{◌≡◌, ◌-◌, ◌++◌, flat_map, length}
-use Rattle.std.specs.List.{range_with_len}
+use Rattle.std.{proofs.Common.{◌≡◌, ◌-◌, ◌++◌, flat_map, length}, specs.List.range_with_len}
 use Rattle.trlab_code.specs.declared.program.Kind.{Kind}
 use Rattle.trlab_verify.specs.Tables.{meaning_at}
-use Rattle.trlab_campaign.specs.NoteLines.{note_line}
+use Rattle.trlab_campaign.specs.CheckOutput.{note_line}
 use Rattle.trlab_campaign.proofs.note_lines.push_table.Given as goal
 
 abbrev pub invariant-loop-pc : goal.invariant-loop-pc

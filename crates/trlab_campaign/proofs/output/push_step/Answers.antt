@@ -1,9 +1,6 @@
-use Rattle.std.proofs.Common.{◌<◌, ◌∷◌, [], ◌++◌, ◌∙◌, refl, length, flat_map, arith}
-use Rattle.std.specs.Prelude.{decimal, codes}
-use Rattle.trlab_road.specs.Cells.{Lane, lane_of}
-use Rattle.trlab_road.specs.Pictures.{picture}
-use Rattle.trlab_campaign.specs.Output.{picture_line}
-use Rattle.trlab_campaign.proofs.Lines.{line_then, next_piece}
+use Rattle.std.proofs.Common.{◌<◌, ◌∷◌, [], ◌++◌, ◌∙◌, refl, length, flat_map, arith, decimal, codes}
+use Rattle.trlab_road.specs.{Cells.{Lane, lane_of}, Pictures.picture}
+use Rattle.trlab_campaign.{specs.Output.picture_line, proofs.Lines.{line_then, next_piece}}
 use Rattle.trlab_campaign.proofs.output.push_step.Goals as goal
 
 pub loop-lane-init : goal.loop-lane-init

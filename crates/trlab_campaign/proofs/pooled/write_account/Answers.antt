@@ -1,6 +1,5 @@
 use Rattle.std.proofs.Common.{◌∙◌, ap, false, inr, refl}
-use Rattle.trlab_campaign.specs.Flushes.{once_more}
-use Rattle.trlab_campaign.proofs.Endings.{all_kept}
+use Rattle.trlab_campaign.{specs.Device.once_more, proofs.Endings.all_kept}
 use Rattle.trlab_campaign.proofs.pooled.write_account.Goals as goal
 
 pub returns-in-Err : goal.returns-in-Err

@@ -1,6 +1,5 @@
 use Rattle.std.proofs.Common.{◌≡◌, ◌∙◌, ℕ, ◌≤◌, subst, sym}
-use Rattle.trlab_campaign.specs.Percent.{percent_done}
-use Rattle.trlab_campaign.proofs.Milestones.{is_reached}
+use Rattle.trlab_campaign.{specs.Ending.percent_done, proofs.Milestones.is_reached}
 use Rattle.trlab_campaign.proofs.progress.milestone_between.Goals as goal
 
 pub invariant_of-result : goal.invariant_of-result

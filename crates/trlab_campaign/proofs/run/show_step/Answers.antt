@@ -1,7 +1,5 @@
-use Rattle.std.proofs.lemmas.Result.{err_from_is_err_and}
-use Rattle.std.proofs.Common.{refl}
-use Rattle.trlab_campaign.proofs.WrittenBytes.{prefix_whole}
-use Rattle.trlab_campaign.proofs.Faults.{by_memory}
+use Rattle.std.proofs.{lemmas.Result.err_from_is_err_and, Common.refl}
+use Rattle.trlab_campaign.proofs.{WrittenBytes.prefix_whole, Faults.by_memory}
 use Rattle.trlab_campaign.proofs.run.show_step.Goals as goal
 
 pub returns-in_err-write_step_text : goal.returns-in_err-write_step_text

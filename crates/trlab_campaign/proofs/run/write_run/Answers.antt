@@ -35,7 +35,7 @@ returns-in_err-show_step g c =
 
 pub loop-preserved : goal.loop-preserved
 loop-preserved g c =
-    let inside : c.loop.counter < c.args.steps = omega (arith, c.loop-test.true, c.last-last.ensures.within) in
+    let inside : c.loop.counter < c.args.steps = omega (arith, c.loop-test.true, c.last-last.ensures.in_range) in
     let left : c.args.steps - c.loop.counter ≡ c.args.steps - (c.loop.counter + 1) + 1 = omega (arith, inside) in
     let shown : ℕ → Bool = every_from c.args.shown.now.every c.args.shown.now.from in
     let inv = c.loop.invariant in

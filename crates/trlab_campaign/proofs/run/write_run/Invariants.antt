@@ -1,7 +1,5 @@
 use Rattle.std.proofs.Common.{◌≡◌, ◌-◌, false}
-use Rattle.trlab_campaign.specs.Output.{every_from}
-use Rattle.trlab_campaign.specs.Writers.{bytes_of}
-use Rattle.trlab_campaign.proofs.Running.{Writes}
+use Rattle.trlab_campaign.{specs.{Output.every_from, Writers.bytes_of}, proofs.Running.Writes}
 use Rattle.trlab_campaign.proofs.run.write_run.Given as goal
 
 abbrev pub invariant-loop : goal.invariant-loop

@@ -1,12 +1,8 @@
-use Rattle.std.proofs.Common.{flat_map, ◌∙◌, ap, refl}
-use Rattle.std.proofs.lemmas.Result.{err_from_is_err_and}
-use Rattle.trlab_diagram.specs.Series.{series_heading, window_text}
-use Rattle.trlab_diagram.specs.Table.{line_text}
+use Rattle.std.proofs.{Common.{flat_map, ◌∙◌, ap, refl}, lemmas.Result.err_from_is_err_and}
+use Rattle.trlab_diagram.specs.Tables.{series_heading, window_text, line_text}
 use Rattle.trlab_step.specs.Run.{at_start}
-use Rattle.trlab_jobs.specs.Job.{Job, seed_of, sheet_of}
-use Rattle.trlab_jobs.specs.Stored.{IsStoredJob}
-use Rattle.trlab_campaign.specs.SeriesOutput.{first_windows}
-use Rattle.trlab_campaign.specs.Writers.{bytes_of}
+use Rattle.trlab_jobs.specs.{Job.{Job, seed_of, sheet_of}, Stored.IsStoredJob}
+use Rattle.trlab_campaign.specs.{SeriesOutput.first_windows, Writers.bytes_of}
 use Rattle.trlab_campaign.proofs.SeriesLines.{prefix_of_first, series_stops, series_wrote, then_wrote}
 use Rattle.trlab_campaign.proofs.series.write_series.Goals as goal
 

@@ -1,10 +1,8 @@
-use Rattle.std.proofs.Common.{◌≡◌, ◌∙◌, ◌+◌, ◌-◌, ap, arith}
-use Rattle.std.proofs.lemmas.Result.{err_from_is_err_and}
-use Rattle.trlab_campaign.specs.SeriesOutput.{IsCourse}
-use Rattle.trlab_step.specs.Run.{Seed}
-use Rattle.trlab_campaign.proofs.Owed.{owes_none}
+use Rattle.std.proofs.{Common.{◌≡◌, ◌∙◌, ◌+◌, ◌-◌, ap, arith}, lemmas.Result.err_from_is_err_and}
+use Rattle.trlab_campaign.{specs.SeriesOutput.IsCourse, proofs.Owed.owes_none}
 use Rattle.trlab_campaign.proofs.SeriesLines.{line_on, line_stops, lines_from, next_at}
 use Rattle.trlab_campaign.proofs.series.write_windows.Goals as goal
+use Rattle.trlab_step.specs.Run.{Seed}
 
 pub returns-in_err-write_window : goal.returns-in_err-write_window
 returns-in_err-write_window g c =
@@ -38,7 +36,7 @@ loop-preserved g c =
     }
 
 pub skip_steps-requires : goal.skip_steps-requires
-skip_steps-requires g c = record { ready = c.requires.ready; room = omega (arith, c.requires.start, c.args.windows.now.within) }
+skip_steps-requires g c = record { ready = c.requires.ready; room = omega (arith, c.requires.start, c.args.windows.now.in_range) }
 
 pub write_window-requires : goal.write_window-requires
 write_window-requires g c =
@@ -47,8 +45,8 @@ write_window-requires g c =
     record {
       ready = c.requires.ready;
       works = inv.works;
-      some = windows.some_steps;
-      few = windows.few_steps;
+      at_least_one_step = windows.at_least_one_step;
+      at_most_max_steps = windows.at_most_max_steps;
       room = omega (arith, inv.at, c.requires.room c.loop.counter c.loop-test.true);
       counts = ap (λ (s : Seed). s.warm) inv.seed ∙ c.requires.counts;
     }

@@ -1,9 +1,7 @@
 use Rattle.std.proofs.Common.{◌≡◌, ◌+◌, ◌-◌, ◌*◌, ℕ, false}
 use Rattle.trlab_road.specs.Cells.{Cells}
 use Rattle.trlab_step.specs.declared.tally.StepTally.{StepTally}
-use Rattle.trlab_campaign.specs.SeriesOutput.{IsCourse}
-use Rattle.trlab_campaign.specs.Writers.{bytes_of}
-use Rattle.trlab_campaign.proofs.Owed.{Owes}
+use Rattle.trlab_campaign.{specs.{SeriesOutput.IsCourse, Writers.bytes_of}, proofs.Owed.Owes}
 use Rattle.trlab_campaign.proofs.SeriesLines.{lines_from}
 use Rattle.trlab_campaign.proofs.series.write_windows.Given as goal
 

@@ -1,6 +1,5 @@
 use Rattle.std.proofs.Common.{false}
-use Rattle.trlab_campaign.specs.SweepOutput.{IsOutputForSweep}
-use Rattle.trlab_campaign.proofs.Endings.{output_ends, kept_at_memory}
+use Rattle.trlab_campaign.{specs.SweepOutput.IsOutputForSweep, proofs.Endings.{output_ends, kept_at_memory}}
 use Rattle.trlab_campaign.proofs.WrittenBytes.{kept}
 use Rattle.trlab_campaign.proofs.sweep.write_table.Goals as goal
 

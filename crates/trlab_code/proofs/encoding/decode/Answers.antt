@@ -1,24 +1,23 @@
 use Rattle.std.proofs.Common.{◌≡◌, ◌≢◌, ◌∙◌, ℕ, ◌*◌, take, drop, sym, ap, rules, arith}
 use Rattle.std.proofs.lemmas.Result.{err_from_is_err_and}
-use Rattle.trlab_code.specs.Program.{Program, version_of}
-use Rattle.trlab_code.specs.Faults.{IsFirstCodeFault, stated_version}
-use Rattle.trlab_code.specs.declared.fault.CodeFault.TheVariants as fault
+use Rattle.trlab_code.specs.{Program.{Program, version_of}, Faults.{IsFirstCodeFault, stated_version}}
 use Rattle.trlab_code.proofs.Versions.{needless, needs_version}
 use Rattle.trlab_code.proofs.Whole.{spelling_of_parts, found_fault, told_fault, found_program, told_program}
-use Rattle.trlab_code.proofs.encoding.decode.Goals as goal
 use Rattle.trlab_code.proofs.encoding.decode.Goals.{After-drop-code, After-drop-code-then-header-bytes}
+use Rattle.trlab_code.specs.declared.fault.CodeFault.TheVariants as fault
+use Rattle.trlab_code.proofs.encoding.decode.Goals as goal
 
 pub returns-in_err-header-clause-found : goal.returns-in_err-header-clause-found
 returns-in_err-header-clause-found c = let p = err_from_is_err_and c.from_residual.result c.from_residual.ensures.1 in rw (p.1, p.2) (found_fault _ _ c.in_err-header.ensures.fault)
 
-pub returns-in_err-header-clause-told : goal.returns-in_err-header-clause-told
-returns-in_err-header-clause-told c = let p = err_from_is_err_and c.from_residual.result c.from_residual.ensures.1 in rw (p.1, p.2) (told_fault _ _ c.in_err-header.ensures.fault)
+pub returns-in_err-header-clause-reported : goal.returns-in_err-header-clause-reported
+returns-in_err-header-clause-reported c = let p = err_from_is_err_and c.from_residual.result c.from_residual.ensures.1 in rw (p.1, p.2) (told_fault _ _ c.in_err-header.ensures.fault)
 
 pub returns-in_err-instrs-clause-found : goal.returns-in_err-instrs-clause-found
 returns-in_err-instrs-clause-found c = let p = err_from_is_err_and c.from_residual-in_err-instrs.result c.from_residual-in_err-instrs.ensures.1 in rw (p.1, p.2) (found_fault _ _ c.in_err-instrs.ensures.fault)
 
-pub returns-in_err-instrs-clause-told : goal.returns-in_err-instrs-clause-told
-returns-in_err-instrs-clause-told c = let p = err_from_is_err_and c.from_residual-in_err-instrs.result c.from_residual-in_err-instrs.ensures.1 in rw (p.1, p.2) (told_fault _ _ c.in_err-instrs.ensures.fault)
+pub returns-in_err-instrs-clause-reported : goal.returns-in_err-instrs-clause-reported
+returns-in_err-instrs-clause-reported c = let p = err_from_is_err_and c.from_residual-in_err-instrs.result c.from_residual-in_err-instrs.ensures.1 in rw (p.1, p.2) (told_fault _ _ c.in_err-instrs.ensures.fault)
 
 needless_version : (c : After-drop-code) → IsFirstCodeFault c.args.bytes.now fault.NeedlessVersion
 needless_version c =
@@ -34,8 +33,8 @@ returns-then-version-header-clause-exact c = needless_version c
 pub returns-then-version-header-clause-found : goal.returns-then-version-header-clause-found
 returns-then-version-header-clause-found c = found_fault _ _ (needless_version c)
 
-pub returns-then-version-header-clause-told : goal.returns-then-version-header-clause-told
-returns-then-version-header-clause-told c = told_fault _ _ (needless_version c)
+pub returns-then-version-header-clause-reported : goal.returns-then-version-header-clause-reported
+returns-then-version-header-clause-reported c = told_fault _ _ (needless_version c)
 
 trailing : (c : After-drop-code-then-header-bytes) → IsFirstCodeFault c.args.bytes.now fault.Trailing
 trailing c =
@@ -51,8 +50,8 @@ returns-then-header-bytes-clause-exact c = trailing c
 pub returns-then-header-bytes-clause-found : goal.returns-then-header-bytes-clause-found
 returns-then-header-bytes-clause-found c = found_fault _ _ (trailing c)
 
-pub returns-then-header-bytes-clause-told : goal.returns-then-header-bytes-clause-told
-returns-then-header-bytes-clause-told c = told_fault _ _ (trailing c)
+pub returns-then-header-bytes-clause-reported : goal.returns-then-header-bytes-clause-reported
+returns-then-header-bytes-clause-reported c = told_fault _ _ (trailing c)
 
 pub returns-clause-exact : goal.returns-clause-exact
 returns-clause-exact c =
@@ -69,5 +68,5 @@ returns-clause-found c = found_program _ _ (returns-clause-exact c)
 pub returns-clause-program : goal.returns-clause-program
 returns-clause-program c = rw c.from_valid-code.ensures (search rules)
 
-pub returns-clause-told : goal.returns-clause-told
-returns-clause-told c = told_program _ _ (returns-clause-program c) (returns-clause-exact c)
+pub returns-clause-reported : goal.returns-clause-reported
+returns-clause-reported c = told_program _ _ (returns-clause-program c) (returns-clause-exact c)

@@ -1,9 +1,7 @@
-use Rattle.std.proofs.Common.{◌≡◌, ◌+◌, ◌<◌, ◌∙◌, ℕ, List, [], ◌∷◌, ◌++◌, append_assoc, get_or, take, refl, ap, length, arith}
-use Rattle.std.proofs.lemmas.List.{take_all, take_more, append-nil}
+use Rattle.std.proofs.Common.{◌≡◌, ◌+◌, ◌<◌, ◌∙◌, ℕ, List, [], ◌∷◌, ◌++◌, append_assoc, get_or, take, refl}
+use Rattle.std.proofs.{Common.{ap, length, arith, take_all, append-nil, flat_map}, lemmas.List.take_more}
 use Rattle.std.proofs.lemmas.List.Concat.{flat_map-append}
-use Rattle.std.specs.List.{flat_map}
-use Rattle.trlab_code.specs.declared.instruction.Instr.{Instr}
-use Rattle.trlab_code.specs.Program.{version_of}
+use Rattle.trlab_code.specs.{declared.instruction.Instr.Instr, Program.version_of}
 use Rattle.trlab_code.specs.Encoding.{encoding, header, instr_bytes, row_bytes}
 use Rattle.trlab_code.proofs.encoding.encode.Goals as goal
 

@@ -1,7 +1,5 @@
-use Rattle.std.proofs.Common.{◌≡◌, ◌++◌, take, length}
-use Rattle.std.specs.List.{flat_map}
-use Rattle.trlab_code.specs.Program.{version_of}
-use Rattle.trlab_code.specs.Encoding.{header, instr_bytes}
+use Rattle.std.proofs.Common.{◌≡◌, ◌++◌, take, length, flat_map}
+use Rattle.trlab_code.specs.{Program.version_of, Encoding.{header, instr_bytes}}
 use Rattle.trlab_code.proofs.encoding.encode.Given as goal
 
 abbrev pub invariant-loop-instr : goal.invariant-loop-instr

@@ -1,5 +1,4 @@
-use Rattle.std.proofs.Common.{arith}
-use Rattle.std.proofs.lemmas.Grind.{common_steps}
+use Rattle.std.proofs.{Common.arith, lemmas.Grind.common_steps}
 use Rattle.trlab_code.proofs.encoding.instr_at.Goals as goal
 
 pub returns-in-Some : goal.returns-in-Some

@@ -1,12 +1,7 @@
-use Rattle.std.proofs.Common.{◌≡◌, ℕ, ◌*◌, [], ◌∷◌, ◌++◌, take, drop, subst, arith}
-use Rattle.std.specs.List.{flat_map}
-use Rattle.std.proofs.lemmas.Grind.{common_steps}
-use Rattle.std.proofs.lemmas.Result.{err_from_is_err_and}
-use Rattle.std.proofs.lemmas.List.Elements.{All-push}
+use Rattle.std.proofs.Common.{◌≡◌, ℕ, ◌*◌, [], ◌∷◌, ◌++◌, take, drop, subst, arith, flat_map}
+use Rattle.std.proofs.lemmas.{Grind.common_steps, Result.err_from_is_err_and, List.Elements.All-push}
 use Rattle.trlab_bounds.specs.declared.programs.TheConstants.{HEADER_BYTES, INSTR_BYTES}
-use Rattle.trlab_code.specs.Program.{IsInRange}
-use Rattle.trlab_code.specs.Encoding.{instr_bytes}
-use Rattle.trlab_code.specs.Faults.{IsValidBefore, stated_count}
+use Rattle.trlab_code.specs.{Program.IsInRange, Encoding.instr_bytes, Faults.{IsValidBefore, stated_count}}
 use Rattle.trlab_code.proofs.Rows.{rows_more, good_more}
 use Rattle.trlab_code.proofs.encoding.read_instrs.Goals as goal
 

@@ -1,11 +1,7 @@
-use Rattle.std.proofs.Common.{◌≡◌, ◌*◌, take, drop, vec_len, All}
-use Rattle.std.specs.List.{flat_map}
-use Rattle.trlab_code.specs.Program.{IsInRange}
-use Rattle.trlab_code.specs.Encoding.{instr_bytes}
-use Rattle.trlab_code.specs.Faults.{IsValidBefore}
-use Rattle.trlab_bounds.specs.declared.programs.TheConstants.{HEADER_BYTES}
-use Rattle.trlab_bounds.specs.declared.programs.TheConstants.{INSTR_BYTES}
+use Rattle.std.proofs.Common.{◌≡◌, ◌*◌, take, drop, vec_len, All, flat_map}
+use Rattle.trlab_code.specs.{Program.IsInRange, Encoding.instr_bytes, Faults.IsValidBefore}
 use Rattle.trlab_code.proofs.encoding.read_instrs.Given as goal
+use Rattle.trlab_bounds.specs.declared.programs.TheConstants.{HEADER_BYTES, INSTR_BYTES}
 
 abbrev pub invariant-loop-pc : goal.invariant-loop-pc
 invariant-loop-pc l = record {

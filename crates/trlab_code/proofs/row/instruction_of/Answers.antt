@@ -1,7 +1,9 @@
 use Rattle.std.proofs.Common.{◌≡◌, Bool, true, false, sym, subst}
 use Rattle.trlab_code.specs.Program.{IsInRange, VersionAllows}
+use Rattle.trlab_code.proofs.row.instruction_of.Goals.{else-is_row_of-via-then-is_row_of+then-is_in_range+else-is_of_version}
+use Rattle.trlab_code.proofs.row.instruction_of.Goals.{else-is_row_of-via-then-is_row_of+else-is_in_range}
+use Rattle.trlab_code.proofs.row.instruction_of.Goals.{else-is_row_of-via-else-is_row_of}
 use Rattle.trlab_code.proofs.row.instruction_of.Goals as goal
-use Rattle.trlab_code.proofs.row.instruction_of.Goals.{else-is_row_of-via-then-is_row_of+then-is_in_range+else-is_of_version, else-is_row_of-via-then-is_row_of+else-is_in_range, else-is_row_of-via-else-is_row_of}
 
 differ : (b : Bool) → b ≡ true → b ≡ false → ⊥
 differ b t f = cc

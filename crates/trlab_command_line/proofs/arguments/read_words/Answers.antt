@@ -1,13 +1,9 @@
-use Rattle.std.proofs.Common.{rules, ◌∙◌, ◌∷◌, ap, map, string_bytes, subst, sym, Some}
-use Rattle.std.specs.Prelude.{IfOk}
+use Rattle.std.proofs.Common.{rules, ◌∙◌, ◌∷◌, ap, map, string_bytes, subst, sym, Some, IfOk}
 use Rattle.std.proofs.lemmas.Result.{IfOk-weaker}
-use Rattle.clap.specs.Kinds.{FailsBy, or_else}
-use Rattle.clap.specs.Words.{fault_of, found_of, rows_of, subcommand_of}
-use Rattle.trlab_command_line.specs.CommandLine.{command_line}
-use Rattle.trlab_command_line.specs.Explains.{explain_arguments_fault}
-use Rattle.trlab_command_line.specs.Requests.{IsRequestOf}
-use Rattle.trlab_command_line.proofs.Alone.{asks_its_name, explain_alone, run_alone, series_alone, sweep_alone}
-use Rattle.trlab_command_line.proofs.Matches.{fault_some, met, met_some}
+use Rattle.clap.specs.{Kinds.{FailsBy, or_else}, Words.{fault_of, found_of, rows_of, subcommand_of}}
+use Rattle.trlab_command_line.specs.CommandLine.{command_line, explain_arguments_fault, IsRequestOf}
+use Rattle.trlab_command_line.proofs.Alone.{asks_its_name, explain_alone, run_alone, series_alone}
+use Rattle.trlab_command_line.proofs.{Alone.sweep_alone, Matches.{fault_some, met, met_some}}
 use Rattle.trlab_command_line.proofs.arguments.read_words.Goals as goal
 
 pub request_of-requires : goal.request_of-requires

@@ -1,9 +1,9 @@
 use Rattle.std.proofs.Common.{arith, inl, inr, refl, subst, codes, rules}
 use Rattle.trlab_bounds.specs.declared.runs.TheConstants.{MAX_RUNNERS, MAX_STEPS, MAX_WORKERS}
 use Rattle.clap.specs.Words.{found_of, rows_of}
-use Rattle.trlab_command_line.specs.Requests.{IsEntered}
-use Rattle.trlab_command_line.proofs.CommandLine.{entered_name}
-use Rattle.trlab_command_line.proofs.Levels.{explain, flag_of as flag_has, number_of as number_has, option_of, run, series, sweep}
+use Rattle.trlab_command_line.{specs.CommandLine.IsEntered, proofs.CommandLine.entered_name}
+use Rattle.trlab_command_line.proofs.Levels.{explain, flag_of as flag_has, number_of as number_has, option_of}
+use Rattle.trlab_command_line.proofs.Levels.{run, series, sweep}
 use Rattle.trlab_command_line.proofs.arguments.request_of.Goals as goal
 
 pub thread_count_of-requires : goal.thread_count_of-requires
@@ -95,9 +95,9 @@ returns-in-run-clause-counts c =
     let workers = c.thread_count_of.ensures in
     let every = option_of run (codes "every") (codes "1") 1 MAX_STEPS refl rows entered in
     let from = option_of run (codes "from") (codes "0") 0 MAX_STEPS refl rows entered in
-    let some = c.option_number.ensures.within 1 MAX_STEPS every.0 (omega arith) every.1 in
-    let few = c.option_number-in-run.ensures.within 0 MAX_STEPS from.0 (omega arith) from.1 in
-    ((workers.some, workers.few), some, few.1)
+    let some = c.option_number.ensures.in_range 1 MAX_STEPS every.0 (omega arith) every.1 in
+    let few = c.option_number-in-run.ensures.in_range 0 MAX_STEPS from.0 (omega arith) from.1 in
+    ((workers.at_least_one, workers.at_most_max_workers), some, few.1)
 
 pub returns-in-series-clause-counts : goal.returns-in-series-clause-counts
 returns-in-series-clause-counts c =
@@ -106,9 +106,9 @@ returns-in-series-clause-counts c =
     let workers = c.thread_count_of-in-series.ensures in
     let every = option_of series (codes "every") (codes "1") 1 MAX_STEPS refl rows entered in
     let from = option_of series (codes "from") (codes "0") 0 MAX_STEPS refl rows entered in
-    let some = c.option_number-in-series.ensures.within 1 MAX_STEPS every.0 (omega arith) every.1 in
-    let few = c.option_number-in-series-2.ensures.within 0 MAX_STEPS from.0 (omega arith) from.1 in
-    ((workers.some, workers.few), some, few.1)
+    let some = c.option_number-in-series.ensures.in_range 1 MAX_STEPS every.0 (omega arith) every.1 in
+    let few = c.option_number-in-series-2.ensures.in_range 0 MAX_STEPS from.0 (omega arith) from.1 in
+    ((workers.at_least_one, workers.at_most_max_workers), some, few.1)
 
 pub unreachable-requires : goal.unreachable-requires
 unreachable-requires c = elim (entered_name c.args.name.now (rows_of (found_of c.args.matches.now)) c.requires) [

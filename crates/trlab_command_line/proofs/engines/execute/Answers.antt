@@ -1,5 +1,5 @@
 use Rattle.std.proofs.Common.{◌≡◌, ◌∙◌, ap, sym, refl, rules, true, false, true≢false}
-use Rattle.trlab_command_line.specs.Requests.{reads_input, writes_at_once}
+use Rattle.trlab_command_line.specs.CommandLine.{reads_input, writes_at_once}
 use Rattle.trlab_command_line.proofs.engines.execute.Goals as goal
 
 pub returns-in-Check : goal.returns-in-Check

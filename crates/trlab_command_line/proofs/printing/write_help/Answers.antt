@@ -1,6 +1,6 @@
 use Rattle.std.proofs.Common.{false, refl}
 use Rattle.trlab_campaign.proofs.Endings.{kept_at_memory, output_ends}
-use Rattle.trlab_command_line.specs.Outputs.{IsHelp}
+use Rattle.trlab_command_line.specs.Ends.{IsHelp}
 use Rattle.trlab_command_line.proofs.printing.write_help.Goals as goal
 
 pub returns-in-Ok-clause-ends : goal.returns-in-Ok-clause-ends

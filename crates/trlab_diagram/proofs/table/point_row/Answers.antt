@@ -1,8 +1,6 @@
 use Rattle.std.proofs.Common.{◌≡◌, ◌<◌, ◌^◌, map, decimal, arith, rules}
 use Rattle.csv.specs.Records.{fields_of}
-use Rattle.trlab_diagram.specs.Flow.{flow_of}
-use Rattle.trlab_diagram.specs.Table.{point_columns}
-use Rattle.trlab_diagram.proofs.Rows.{point_row}
+use Rattle.trlab_diagram.{specs.Tables.{flow_of, point_columns}, proofs.Rows.point_row}
 use Rattle.trlab_diagram.proofs.table.point_row.Goals as goal
 
 pub returns : goal.returns

@@ -1,6 +1,7 @@
 use Rattle.std.proofs.Common.{◌≡◌, ◌++◌, take, false}
-use Rattle.csv.specs.Writing.{default_writer, fields_written, has_written, writer_pending, writer_setup, writer_under}
-use Rattle.trlab_diagram.specs.Table.{points_text}
+use Rattle.csv.specs.Writing.{default_writer, fields_written, has_written, writer_pending, writer_setup}
+use Rattle.csv.specs.Writing.{writer_under}
+use Rattle.trlab_diagram.specs.Tables.{points_text}
 use Rattle.trlab_diagram.proofs.table.points_text.Given as goal
 
 abbrev pub invariant-loop-point : goal.invariant-loop-point

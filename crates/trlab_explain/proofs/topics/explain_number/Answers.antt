@@ -1,5 +1,4 @@
-use Rattle.trlab_explain.specs.Explanations.{IsNumberPage}
-use Rattle.trlab_explain.proofs.Endings.{output_ends_so, nothing_written}
+use Rattle.trlab_explain.{specs.Explanations.IsNumberPage, proofs.Endings.{output_ends_so, nothing_written}}
 use Rattle.trlab_explain.proofs.topics.explain_number.Goals as goal
 
 pub returns-clause-ends : goal.returns-clause-ends

@@ -1,5 +1,4 @@
-use Rattle.std.proofs.Common.{arith}
-use Rattle.std.proofs.lemmas.Grind.{common_steps}
+use Rattle.std.proofs.{Common.arith, lemmas.Grind.common_steps}
 use Rattle.trlab_jobs.proofs.lane.second_lane.Goals as goal
 
 pub returns-in_err-picture : goal.returns-in_err-picture

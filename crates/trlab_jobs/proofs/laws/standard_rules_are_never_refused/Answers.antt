@@ -1,6 +1,4 @@
-use Rattle.trlab_jobs.proofs.OneText.{jobs_never}
-use Rattle.trlab_jobs.proofs.OneSweep.{sweeps_never}
-use Rattle.trlab_jobs.proofs.OneCheck.{checks_never}
+use Rattle.trlab_jobs.proofs.{OneText.jobs_never, OneSweep.sweeps_never, OneCheck.checks_never}
 use Rattle.trlab_jobs.proofs.laws.standard_rules_are_never_refused.Goals as goal
 
 pub returns : goal.returns

@@ -1,13 +1,10 @@
-use Rattle.std.proofs.Common.{ℕ, Option, refl}
-use Rattle.std.specs.Prelude.{Ok, Err}
+use Rattle.std.proofs.Common.{ℕ, Option, refl, Ok, Err}
 use Rattle.trlab_code.specs.declared.program.Kind.TheVariants.{Motion}
 use Rattle.trlab_verify.specs.Verified.{CheckedProgram}
 use Rattle.trlab_rules.specs.Rules.{Programs}
-use Rattle.trlab_texts.specs.Programs.{part}
-use Rattle.trlab_texts.specs.Reading.{Reading, ◌>>=◌, give}
+use Rattle.trlab_texts.specs.{Programs.part, Reading.{Reading, ◌>>=◌, give}}
 use Rattle.trlab_texts.proofs.Readings.{goes_on, stops, handed_on}
-use Rattle.trlab_jobs.specs.RuleParts.{change_part}
-use Rattle.trlab_jobs.proofs.RuleSteps.{on_two_lanes}
+use Rattle.trlab_jobs.{specs.RuleParts.change_part, proofs.RuleSteps.on_two_lanes}
 use Rattle.trlab_jobs.proofs.rule.own_rule.Goals as goal
 
 -- reading after each part
@@ -17,19 +14,19 @@ after_change motion change = give (record { motion = motion; change = change })
 abbrev after_motion : ℕ → CheckedProgram → Reading Programs
 after_motion lanes motion = change_part lanes >>= after_change motion
 
-pub returns-in_err-motion-clause-told : goal.returns-in_err-motion-clause-told
-returns-in_err-motion-clause-told c =
+pub returns-in_err-motion-clause-reported : goal.returns-in_err-motion-clause-reported
+returns-in_err-motion-clause-reported c =
     let fault = handed_on c.from_residual.result c.in_err-motion.field-0.0 c.from_residual.ensures.0 c.from_residual.ensures.1 in
     rw fault (stops (part Motion) (after_motion c.args.lanes.count) c.args.rest c.in_err-motion.field-0.0 c.in_err-motion.ensures)
 
-pub returns-in_err-change-clause-told : goal.returns-in_err-change-clause-told
-returns-in_err-change-clause-told c =
+pub returns-in_err-change-clause-reported : goal.returns-in_err-change-clause-reported
+returns-in_err-change-clause-reported c =
     let fault = handed_on c.from_residual-in_err-change.result c.in_err-change.field-0.0 c.from_residual-in_err-change.ensures.0 c.from_residual-in_err-change.ensures.1 in
     rw fault (goes_on (part Motion) (after_motion c.args.lanes.count) c.args.rest c.in_ok-motion.rest c.in_ok-motion.motion (Err c.in_err-change.field-0.0) c.in_ok-motion.ensures
     (stops (change_part c.args.lanes.count) (after_change c.in_ok-motion.motion) c.in_ok-motion.rest c.in_err-change.field-0.0 c.in_err-change.ensures))
 
-pub returns-clause-told : goal.returns-clause-told
-returns-clause-told c =
+pub returns-clause-reported : goal.returns-clause-reported
+returns-clause-reported c =
     let own : Programs = record { motion = c.in_ok-motion.motion; change = c.in_ok-change.change } in
     rw c.new.ensures.value (goes_on (part Motion) (after_motion c.args.lanes.count) c.args.rest c.in_ok-motion.rest c.in_ok-motion.motion (Ok (own, c.in_ok-change.rest)) c.in_ok-motion.ensures
     (goes_on (change_part c.args.lanes.count) (after_change c.in_ok-motion.motion) c.in_ok-motion.rest c.in_ok-change.rest c.in_ok-change.change (Ok (own, c.in_ok-change.rest)) c.in_ok-change.ensures refl))

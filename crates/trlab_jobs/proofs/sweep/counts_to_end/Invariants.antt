@@ -1,6 +1,5 @@
 use Rattle.std.proofs.Common.{◌≤◌, ◌+◌, ◌-◌}
-use Rattle.trlab_jobs.specs.declared.limits.TheConstants.{MAX_POINTS}
-use Rattle.trlab_jobs.proofs.CountLines.{ReadSoFar}
+use Rattle.trlab_jobs.{specs.declared.limits.TheConstants.MAX_POINTS, proofs.CountLines.ReadSoFar}
 use Rattle.trlab_jobs.proofs.sweep.counts_to_end.Given as goal
 
 abbrev pub invariant-loop-rest : goal.invariant-loop-rest

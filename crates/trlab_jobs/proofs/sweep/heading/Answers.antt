@@ -1,10 +1,6 @@
-use Rattle.std.proofs.Common.{rules}
-use Rattle.std.specs.Prelude.{Ok, Err}
-use Rattle.trlab_texts.specs.Reading.{exactly}
-use Rattle.trlab_jobs.specs.Job.{key_line}
-use Rattle.trlab_jobs.specs.Sweep.{sweep_line}
-use Rattle.trlab_texts.proofs.Readings.{line_by, handed_on}
-use Rattle.trlab_jobs.proofs.SweepLines.{sweep_fails, key_told}
+use Rattle.std.proofs.Common.{rules, Ok, Err}
+use Rattle.trlab_texts.{specs.Reading.exactly, proofs.Readings.{line_by, handed_on}}
+use Rattle.trlab_jobs.{specs.{Job.key_line, Sweep.sweep_line}, proofs.SweepLines.{sweep_fails, key_told}}
 use Rattle.trlab_jobs.proofs.sweep.heading.Goals as goal
 
 pub returns-in_err-rest : goal.returns-in_err-rest

@@ -6,34 +6,34 @@ pub returns-in_err-limit : goal.returns-in_err-limit
 returns-in_err-limit c =
     let fault = handed_on c.from_residual.result c.in_err-limit.field-0.0 c.from_residual.ensures.0 c.from_residual.ensures.1 in
     record {
-      told = rw fault (limit_fails c.args.rest c.in_err-limit.field-0.0 c.in_err-limit.ensures.told);
+      reported = rw fault (limit_fails c.args.rest c.in_err-limit.field-0.0 c.in_err-limit.ensures.reported);
       cells = rw fault tt;
-      some = rw fault tt;
-      few = rw fault tt;
+      at_least_one_lane = rw fault tt;
+      at_most_max_lanes = rw fault tt;
     }
 
 pub returns-in_err-length : goal.returns-in_err-length
 returns-in_err-length c =
     let fault = handed_on c.from_residual-in_err-length.result c.in_err-length.field-0.0 c.from_residual-in_err-length.ensures.0 c.from_residual-in_err-length.ensures.1 in
     record {
-      told = rw fault (cells_fail c.in_ok-limit.limit c.args.rest c.in_ok-limit.rest c.in_err-length.field-0.0 c.in_ok-limit.ensures.told c.in_err-length.ensures.told);
+      reported = rw fault (cells_fail c.in_ok-limit.limit c.args.rest c.in_ok-limit.rest c.in_err-length.field-0.0 c.in_ok-limit.ensures.reported c.in_err-length.ensures.reported);
       cells = rw fault tt;
-      some = rw fault tt;
-      few = rw fault tt;
+      at_least_one_lane = rw fault tt;
+      at_most_max_lanes = rw fault tt;
     }
 
 pub returns-in_err-lanes : goal.returns-in_err-lanes
 returns-in_err-lanes c =
     let fault = handed_on c.from_residual-in_err-lanes.result c.in_err-lanes.field-0.0 c.from_residual-in_err-lanes.ensures.0 c.from_residual-in_err-lanes.ensures.1 in
     record {
-      told = rw fault (lanes_fail c.in_ok-limit.limit c.in_ok-length.length c.args.rest c.in_ok-limit.rest c.in_ok-length.rest c.in_err-lanes.field-0.0
-          c.in_ok-limit.ensures.told c.in_ok-length.ensures.told c.in_err-lanes.ensures.told);
+      reported = rw fault (lanes_fail c.in_ok-limit.limit c.in_ok-length.length c.args.rest c.in_ok-limit.rest c.in_ok-length.rest c.in_err-lanes.field-0.0
+          c.in_ok-limit.ensures.reported c.in_ok-length.ensures.reported c.in_err-lanes.ensures.reported);
       cells = rw fault tt;
-      some = rw fault tt;
-      few = rw fault tt;
+      at_least_one_lane = rw fault tt;
+      at_most_max_lanes = rw fault tt;
     }
 
-pub returns-clause-told : goal.returns-clause-told
-returns-clause-told c =
+pub returns-clause-reported : goal.returns-clause-reported
+returns-clause-reported c =
     shape_said c.in_ok-limit.limit c.in_ok-length.length c.in_ok-lanes.lanes c.args.rest c.in_ok-limit.rest c.in_ok-length.rest c.in_ok-lanes.rest
-    c.in_ok-limit.ensures.told c.in_ok-length.ensures.told c.in_ok-lanes.ensures.told
+    c.in_ok-limit.ensures.reported c.in_ok-length.ensures.reported c.in_ok-lanes.ensures.reported

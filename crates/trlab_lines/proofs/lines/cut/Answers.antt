@@ -1,5 +1,5 @@
 use Rattle.std.proofs.Common.{ap}
-use Rattle.trlab_lines.specs.Cutting.{split_around}
+use Rattle.trlab_lines.specs.Lines.{split_around}
 use Rattle.trlab_lines.proofs.lines.cut.Goals as goal
 
 pub returns : goal.returns

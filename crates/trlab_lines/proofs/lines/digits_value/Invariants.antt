@@ -1,5 +1,4 @@
-use Rattle.std.proofs.Common.{◌≡◌, take}
-use Rattle.std.specs.Str.Parse.{digits_value}
+use Rattle.std.{proofs.Common.{◌≡◌, take}, specs.Str.Parse.digits_value}
 use Rattle.trlab_lines.proofs.lines.digits_value.Given as goal
 
 abbrev pub invariant-loop-digit : goal.invariant-loop-digit

@@ -1,6 +1,7 @@
-use Rattle.std.proofs.Common.{◌<◌, length, length-append, arith, refl, sym, inl, inr}
-use Rattle.std.proofs.lemmas.Bool.{eqb-true, eqb-false}
-use Rattle.trlab_lines.proofs.Cuts.{no_line, no_line_in, no_byte_in, nowhere, only_line, lines_of_cut, bytes_of_cut, no_end_of_cut, no_cut}
+use Rattle.std.proofs.Common.{◌<◌, length, length-append, arith, refl, sym, inl, inr, eqb-true}
+use Rattle.std.proofs.lemmas.Bool.{eqb-false}
+use Rattle.trlab_lines.proofs.Cuts.{no_line, no_line_in, no_byte_in, nowhere, only_line, lines_of_cut}
+use Rattle.trlab_lines.proofs.Cuts.{bytes_of_cut, no_end_of_cut, no_cut}
 use Rattle.trlab_lines.proofs.lines.next_line.Goals as goal
 
 pub returns-then-is_empty-clause-lines : goal.returns-then-is_empty-clause-lines

@@ -1,6 +1,5 @@
 use Rattle.std.proofs.Common.{rules, ◌+◌, ◌*◌, ◌<◌, ◌≤◌, length, arith, sym, ◌∙◌, add-one, eq-eqb, ne_eqb}
-use Rattle.trlab_machine.proofs.Underway.{inside, more}
-use Rattle.trlab_machine.proofs.OnWay.{starts, wrote, fell, jumped, ended}
+use Rattle.trlab_machine.proofs.{Underway.{inside, more}, OnWay.{starts, wrote, fell, jumped, ended}}
 use Rattle.trlab_machine.proofs.Stores.{at_written, at_others}
 use Rattle.trlab_machine.proofs.for_embedders.run.Goals as goal
 
@@ -13,13 +12,13 @@ bounds-instrs-pc c = inside c.run.invariant.car.run
 pub offset_bounds-instrs-pc : goal.offset_bounds-instrs-pc
 offset_bounds-instrs-pc c =
     let within : c.run.pc < length c.args.instrs.now = inside c.run.invariant.car.run in
-    let few : c.run.pc * 8 < 1024 = omega (arith, c.requires.few) in
+    let few : c.run.pc * 8 < 1024 = omega (arith, c.requires.at_most_max_instructions) in
     grind (arith, few)
 
 pub overflow_add-pc : goal.overflow_add-pc
 overflow_add-pc c =
     let within : c.run.pc < length c.args.instrs.now = inside c.run.invariant.car.run in
-    let few : c.run.pc + 1 ≤ 128 = omega (arith, c.requires.few) in
+    let few : c.run.pc + 1 ≤ 128 = omega (arith, c.requires.at_most_max_instructions) in
     grind (arith, few)
 
 pub run-preserved-in-Writes : goal.run-preserved-in-Writes
@@ -47,14 +46,14 @@ run-preserved c = record {
 pub returns-in-Ends-clause-ends : goal.returns-in-Ends-clause-ends
 returns-in-Ends-clause-ends c = rw c.result_number-number.ensures (ended c.run.invariant.car _ (sym c.role_of.ensures ∙ c.in-Ends.is)).0
 
-pub returns-in-Ends-clause-within : goal.returns-in-Ends-clause-within
-returns-in-Ends-clause-within c = (ended c.run.invariant.car _ (sym c.role_of.ensures ∙ c.in-Ends.is)).1
+pub returns-in-Ends-clause-in_budget : goal.returns-in-Ends-clause-in_budget
+returns-in-Ends-clause-in_budget c = (ended c.run.invariant.car _ (sym c.role_of.ensures ∙ c.in-Ends.is)).1
 
 pub overflow_add-steps : goal.overflow_add-steps
 overflow_add-steps c = omega (arith, more c.run.invariant.car.run, c.ranges.budget)
 
 pub overflow_add-pc-else-number-eq1 : goal.overflow_add-pc-else-number-eq1
-overflow_add-pc-else-number-eq1 c = omega (arith, inside c.run.invariant.car.run, c.requires.few)
+overflow_add-pc-else-number-eq1 c = omega (arith, inside c.run.invariant.car.run, c.requires.at_most_max_instructions)
 
 pub run-smaller-in-Writes : goal.run-smaller-in-Writes
 run-smaller-in-Writes c = omega (arith, more c.run.invariant.car.run)

@@ -1,6 +1,5 @@
 use Rattle.std.proofs.Common.{◌≡◌, ◌-◌, length}
-use Rattle.trlab_machine.specs.Stored.{number_in}
-use Rattle.trlab_machine.proofs.OnWay.{OnWay}
+use Rattle.trlab_machine.{specs.Stored.number_in, proofs.OnWay.OnWay}
 use Rattle.trlab_machine.proofs.for_embedders.run.Given as goal
 
 abbrev pub invariant-run : goal.invariant-run

@@ -1,5 +1,5 @@
-use Rattle.trlab_notes.proofs.Monotone.{fall_up, jump_up, clear_up, passes, All_variables, all_closed, on_all, all_on, both_all, reaches_all}
-use Rattle.trlab_notes.proofs.Steps.{clear}
+use Rattle.trlab_notes.proofs.Monotone.{fall_up, jump_up, clear_up, passes, All_variables, all_closed, on_all}
+use Rattle.trlab_notes.proofs.{Monotone.{all_on, both_all, reaches_all}, Steps.clear}
 use Rattle.trlab_notes.proofs.laws.notes_are_monotone.Goals as goal
 
 pub returns-clause-clear : goal.returns-clause-clear

@@ -1,7 +1,6 @@
 use Rattle.std.proofs.Common.{◌≡◌, ℕ, ◌<◌, [], length, nat_eq, get_or}
 use Rattle.trlab_bounds.specs.declared.programs.TheConstants.{VARIABLES}
-use Rattle.trlab_notes.specs.declared.note.AbstractValue.TheVariants.{Nothing}
-use Rattle.trlab_notes.specs.Notes.{level_between}
+use Rattle.trlab_notes.specs.{declared.note.AbstractValue.TheVariants.Unknown, Notes.level_between}
 use Rattle.trlab_notes.specs.Rows.{level_of}
 use Rattle.trlab_notes.proofs.levels.known_rows.Given as goal
 
@@ -9,5 +8,5 @@ abbrev pub invariant-loop-x : goal.invariant-loop-x
 invariant-loop-x l = record {
   all : length l.rows ≡ VARIABLES;
   so_far : (k : ℕ) → k < l.x → (y : ℕ) → y < VARIABLES → level_of l.rows k y ≡
-      level_between (get_or l.values k Nothing) (get_or l.values y Nothing) (nat_eq k y) (get_or (get_or l.levels k []) y 0);
+      level_between (get_or l.values k Unknown) (get_or l.values y Unknown) (nat_eq k y) (get_or (get_or l.levels k []) y 0);
 }

@@ -1,11 +1,10 @@
 use Rattle.std.proofs.Common.{◌≡◌, Bool, refl}
-use Rattle.trlab_notes.specs.declared.note.AbstractValue.{AbstractValue}
-use Rattle.trlab_notes.specs.declared.note.AbstractValue.TheVariants.{Nothing, Between, Implies}
-use Rattle.trlab_notes.specs.Notes.{with_side}
+use Rattle.trlab_notes.specs.declared.note.AbstractValue.{AbstractValue, TheVariants.{Unknown, Between}}
+use Rattle.trlab_notes.specs.{declared.note.AbstractValue.TheVariants.Implies, Notes.with_side}
 use Rattle.trlab_notes.proofs.levels.with_side.Goals as goal
 
 no_flag : (side : Bool) (s : AbstractValue) → ((imp : Bool) → s ≡ Implies imp → ⊥) → s ≡ with_side side s
-no_flag side Nothing other = refl
+no_flag side Unknown other = refl
 no_flag side (Between lo hi) other = refl
 no_flag side (Implies imp) other = absurd (other imp refl)
 

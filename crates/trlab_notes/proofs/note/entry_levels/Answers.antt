@@ -1,7 +1,6 @@
 use Rattle.std.proofs.Common.{◌∙◌, [], ap, map, get_or, refl}
 use Rattle.trlab_code.specs.Machine.{variable_number}
-use Rattle.trlab_notes.specs.Notes.{entry_level}
-use Rattle.trlab_notes.proofs.Variables.{variables, at_variable}
+use Rattle.trlab_notes.{specs.Notes.entry_level, proofs.Variables.{variables, at_variable}}
 use Rattle.trlab_notes.proofs.note.entry_levels.Goals as goal
 
 pub returns : goal.returns

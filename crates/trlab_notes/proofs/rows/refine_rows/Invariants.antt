@@ -1,7 +1,6 @@
 use Rattle.std.proofs.Common.{◌≡◌, ℕ, ◌<◌, length, max, nat_eq, cond}
 use Rattle.trlab_bounds.specs.declared.programs.TheConstants.{VARIABLES}
-use Rattle.trlab_notes.specs.Transfer.{chain}
-use Rattle.trlab_notes.specs.Rows.{level_in, level_of}
+use Rattle.trlab_notes.specs.{Transfer.chain, Rows.{level_in, level_of}}
 use Rattle.trlab_notes.proofs.rows.refine_rows.Given as goal
 
 abbrev pub invariant-loop-x : goal.invariant-loop-x

@@ -1,8 +1,6 @@
-use Rattle.std.proofs.Common.{◌∙◌, arith, length-set}
-use Rattle.std.proofs.lemmas.Bool.{eq-eqb, ne_eqb}
-use Rattle.trlab_notes.proofs.Filling.{more_rows}
+use Rattle.std.proofs.Common.{◌∙◌, arith, length-set, eq-eqb, ne_eqb}
+use Rattle.trlab_notes.proofs.{Filling.more_rows, rows.with_variable.Goals.{then-x-variable, else-x-variable}}
 use Rattle.trlab_notes.proofs.rows.with_variable.Goals as goal
-use Rattle.trlab_notes.proofs.rows.with_variable.Goals.{then-x-variable, else-x-variable}
 
 pub loop-x-preserved : goal.loop-x-preserved
 loop-x-preserved c = let so_far = c.loop-x.invariant in record {

@@ -1,8 +1,8 @@
-use Rattle.std.proofs.Common.{◌∙◌, refl, sym}
-use Rattle.std.proofs.lemmas.Bool.{both_ways}
+use Rattle.std.proofs.{Common.{◌∙◌, refl, sym}, lemmas.Bool.both_ways}
 use Rattle.trlab_notes.proofs.Tables.{no_stronger, no_stronger_said, no_stronger_levels}
+use Rattle.trlab_notes.proofs.strength.is_no_stronger.Goals.{then-has_weaker_variables}
+use Rattle.trlab_notes.proofs.strength.is_no_stronger.Goals.{else-has_weaker_variables}
 use Rattle.trlab_notes.proofs.strength.is_no_stronger.Goals as goal
-use Rattle.trlab_notes.proofs.strength.is_no_stronger.Goals.{then-has_weaker_variables, else-has_weaker_variables}
 
 pub returns-then-not-m : goal.returns-then-not-m
 returns-then-not-m c = (

@@ -1,6 +1,5 @@
-use Rattle.trlab_notes.proofs.Tables.{join_is, join_tells, join_back}
+use Rattle.trlab_notes.proofs.{Tables.{join_is, join_tells, join_back}, strength.join.Goals.{then-a, else-a}}
 use Rattle.trlab_notes.proofs.strength.join.Goals as goal
-use Rattle.trlab_notes.proofs.strength.join.Goals.{then-a, else-a}
 
 pub invariant_of-result : goal.invariant_of-result
 invariant_of-result c = record {

@@ -1,11 +1,7 @@
-use Rattle.std.proofs.Common.{◌≡◌, ◌≤◌, ℕ, false, rules, of_calls, arith}
-use Rattle.std.specs.Prelude.{nat_lt}
-use Rattle.std.proofs.lemmas.Bool.{ltb-true}
-use Rattle.std.proofs.lemmas.Bool.Decides.{nat_tests}
-use Rattle.std.proofs.lemmas.List.Sorted.{IsPartitionedBy-ltb, IsPartitionPoint-from_clause, IsNonDecreasingBy-from_default}
-use Rattle.trlab_road.specs.LaneCars.{LaneCar}
-use Rattle.trlab_road.specs.Stored.{no_car}
-use Rattle.trlab_road.proofs.Lists.{rises_weakly}
+use Rattle.std.proofs.Common.{◌≡◌, ◌≤◌, ℕ, false, rules, of_calls, arith, nat_lt, ltb-true}
+use Rattle.std.proofs.lemmas.{Bool.Decides.nat_tests, List.Sorted.IsPartitionedBy-ltb}
+use Rattle.std.proofs.lemmas.List.Sorted.{IsPartitionPoint-from_clause, IsNonDecreasingBy-from_default}
+use Rattle.trlab_road.{specs.Stored.{LaneCar, no_car}, proofs.Lists.rises_weakly}
 use Rattle.trlab_road.proofs.gaps.first_from.Goals as goal
 
 not_less : (a b : ℕ) → nat_lt a b ≡ false → b ≤ a

@@ -1,6 +1,5 @@
 use Rattle.std.proofs.Common.{◌<◌, ◌≤◌, ◌-◌, arith, length}
-use Rattle.trlab_road.specs.Stored.{place_of}
-use Rattle.trlab_road.proofs.Lists.{rises_weakly}
+use Rattle.trlab_road.{specs.Stored.place_of, proofs.Lists.rises_weakly}
 use Rattle.trlab_road.proofs.gaps.first_near.Goals as goal
 
 -- the cars before the index are at places before the given place

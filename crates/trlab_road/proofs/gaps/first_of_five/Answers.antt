@@ -1,7 +1,5 @@
-use Rattle.std.proofs.Common.{◌<◌, ◌≤◌, ◌-◌, arith, inl, inr, length}
-use Rattle.std.proofs.lemmas.Bool.{cases_lt}
-use Rattle.trlab_road.specs.Stored.{place_of}
-use Rattle.trlab_road.proofs.Lists.{rises_weakly}
+use Rattle.std.proofs.{Common.{◌<◌, ◌≤◌, ◌-◌, arith, inl, inr, length}, lemmas.Bool.cases_lt}
+use Rattle.trlab_road.{specs.Stored.place_of, proofs.Lists.rises_weakly}
 use Rattle.trlab_road.proofs.gaps.first_of_five.Goals as goal
 
 -- the cars before the index are at places before the given place

@@ -1,7 +1,5 @@
-use Rattle.std.proofs.Common.{◌<◌, ◌-◌, length, sym, arith}
-use Rattle.std.proofs.lemmas.Bool.Decides.{nat_tests}
-use Rattle.trlab_road.proofs.Lists.{rises_high}
-use Rattle.trlab_road.proofs.ListGaps.{back_next, back_round, back_alone}
+use Rattle.std.proofs.{Common.{◌<◌, ◌-◌, length, sym, arith}, lemmas.Bool.Decides.nat_tests}
+use Rattle.trlab_road.proofs.{Lists.rises_high, ListGaps.{back_next, back_round, back_alone}}
 use Rattle.trlab_road.proofs.gaps.gap_behind.Goals as goal
 
 pub overflow_sub-result-else-is_empty-2 : goal.overflow_sub-result-else-is_empty-2
@@ -12,7 +10,7 @@ overflow_sub-result-else-is_empty-2 c =
 
 pub returns-then-next-gt0-clause-value : goal.returns-then-next-gt0-clause-value
 returns-then-next-gt0-clause-value c =
-    rw c.place_at.ensures (sym (back_next c.args.cells c.args.cars.now c.requires.sorted c.args.place c.requires.inside c.args.next c.requires.before c.requires.after (c.args.next - 1) (let h = c.if-next-gt0.true in omega arith) c.requires.within))
+    rw c.place_at.ensures (sym (back_next c.args.cells c.args.cars.now c.requires.sorted c.args.place c.requires.inside c.args.next c.requires.before c.requires.after (c.args.next - 1) (let h = c.if-next-gt0.true in omega arith) c.requires.in_range))
 
 pub returns-then-is_empty-clause-value : goal.returns-then-is_empty-clause-value
 returns-then-is_empty-clause-value c =

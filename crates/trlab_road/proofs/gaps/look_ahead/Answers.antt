@@ -1,11 +1,7 @@
 use Rattle.std.proofs.Common.{◌≡◌, ◌<◌, ◌≤◌, ◌+◌, ◌-◌, ℕ, List, length, sym, arith}
-use Rattle.trlab_road.specs.LaneCars.{LaneCar}
-use Rattle.trlab_road.specs.Gaps.{gap}
-use Rattle.trlab_road.specs.Stored.{IsSortedFrom, cells_of, place_of}
-use Rattle.trlab_road.proofs.Headspeeds.{first_headspeed, next_headspeed}
-use Rattle.trlab_road.proofs.ListGaps.{gap_next, gap_round}
-use Rattle.trlab_road.proofs.ListMotion.{parted_kth}
-use Rattle.trlab_road.proofs.Lists.{rises_high, rises_order}
+use Rattle.trlab_road.specs.{Stored.{LaneCar, IsSortedFrom, cells_of, place_of}, Gaps.gap}
+use Rattle.trlab_road.proofs.{Headspeeds.{first_headspeed, next_headspeed}, ListGaps.{gap_next, gap_round}}
+use Rattle.trlab_road.proofs.{ListMotion.parted_kth, Lists.{rises_high, rises_order}}
 use Rattle.trlab_road.proofs.gaps.look_ahead.Goals as goal
 
 -- the next car of a list is past the car; from the end on, the first car is not
@@ -37,8 +33,8 @@ returns-then-next-cars-clause-gap c = rw (c.place_at.ensures, c.place_at-place.e
 pub returns-then-next-cars-clause-headspeed : goal.returns-then-next-cars-clause-headspeed
 returns-then-next-cars-clause-headspeed c = rw c.speed_at.ensures (next_headspeed c.args.cells c.args.cars.now c.requires.sorted c.args.index c.requires.here c.if-next-cars.true)
 
-pub returns-then-next-cars-clause-within : goal.returns-then-next-cars-clause-within
-returns-then-next-cars-clause-within c =
+pub returns-then-next-cars-clause-in_range : goal.returns-then-next-cars-clause-in_range
+returns-then-next-cars-clause-in_range c =
     let a = rises_high 0 c.args.cells c.args.cars.now (c.args.index + 1) c.requires.sorted c.if-next-cars.true in
     let b = past c.args.cells c.args.cars.now c.requires.sorted c.args.index c.requires.here c.if-next-cars.true in omega (arith, a, b)
 
@@ -48,7 +44,7 @@ returns-else-next-cars-clause-gap c = rw (c.place_at-place.ensures, c.place_at-e
 pub returns-else-next-cars-clause-headspeed : goal.returns-else-next-cars-clause-headspeed
 returns-else-next-cars-clause-headspeed c = rw c.speed_at-else-next-cars.ensures (first_headspeed c.args.cells c.args.cars.now c.requires.sorted c.args.index c.requires.here (let h = c.if-next-cars.false in omega arith))
 
-pub returns-else-next-cars-clause-within : goal.returns-else-next-cars-clause-within
-returns-else-next-cars-clause-within c =
+pub returns-else-next-cars-clause-in_range : goal.returns-else-next-cars-clause-in_range
+returns-else-next-cars-clause-in_range c =
     let a = rises_high 0 c.args.cells c.args.cars.now c.args.index c.requires.sorted c.requires.here in
     let b = not_past c.args.cells c.args.cars.now c.requires.sorted c.args.index c.requires.here in omega (arith, a, b)

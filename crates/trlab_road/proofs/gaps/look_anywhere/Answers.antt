@@ -1,8 +1,9 @@
 use Rattle.std.proofs.Common.{◌≢◌, ◌<◌, ◌∙◌, length, sym, arith}
-use Rattle.trlab_road.specs.Stored.{place_of}
-use Rattle.trlab_road.proofs.ListSides.{taken, taken_ahead, taken_behind, free, free_ahead, free_behind, free_parted, free_past}
+use Rattle.trlab_road.{specs.Stored.place_of, proofs.ListSides.{taken, taken_ahead, taken_behind, free}}
+use Rattle.trlab_road.proofs.ListSides.{free_ahead, free_behind, free_parted, free_past}
+use Rattle.trlab_road.proofs.gaps.look_anywhere.Goals.{else-next-cars-via-then-next-cars+else-place_at-place}
+use Rattle.trlab_road.proofs.gaps.look_anywhere.Goals.{else-next-cars-via-else-next-cars}
 use Rattle.trlab_road.proofs.gaps.look_anywhere.Goals as goal
-use Rattle.trlab_road.proofs.gaps.look_anywhere.Goals.{else-next-cars-via-then-next-cars+else-place_at-place, else-next-cars-via-else-next-cars}
 
 pub returns-then-place_at-place-clause-beside : goal.returns-then-place_at-place-clause-beside
 returns-then-place_at-place-clause-beside c =
@@ -42,6 +43,6 @@ returns-clause-beside c =
       empty = sym (free c.args.cells c.args.cars.now c.args.place c.args.next c.requires.sorted c.requires.inside c.requires.found other);
       ahead = c.gap_ahead.ensures.value ∙ sym (free_ahead c.args.cells c.args.cars.now c.args.place c.args.next c.requires.sorted c.requires.inside c.requires.found other);
       behind = c.gap_behind.ensures.value ∙ sym (free_behind c.args.cells c.args.cars.now c.args.place c.args.next c.requires.sorted c.requires.inside c.requires.found other);
-      ahead_within = c.gap_ahead.ensures.within;
-      behind_within = c.gap_behind.ensures.within;
+      ahead_within = c.gap_ahead.ensures.in_range;
+      behind_within = c.gap_behind.ensures.in_range;
     }

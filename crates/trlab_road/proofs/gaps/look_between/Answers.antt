@@ -1,6 +1,5 @@
 use Rattle.std.proofs.Common.{◌≡◌, ◌<◌, ◌-◌, ◌∙◌, ℕ, Bool, true, false, cond, nat_eq, not, ap, arith}
-use Rattle.trlab_road.proofs.Lists.{rises_high}
-use Rattle.trlab_road.proofs.ListSides.{between_side, between_ahead, between_behind}
+use Rattle.trlab_road.proofs.{Lists.rises_high, ListSides.{between_side, between_ahead, between_behind}}
 use Rattle.trlab_road.proofs.gaps.look_between.Goals as goal
 
 -- a number that is kept or set to 0 does not increase

@@ -1,9 +1,6 @@
-use Rattle.std.proofs.Common.{◌≡◌, ◌<◌, ◌≤◌, ◌+◌, ◌⊎◌, ◌∙◌, ℕ, List, false, nat_lt, length, ap, inl, inr, arith}
-use Rattle.std.proofs.lemmas.Bool.{cases_lt, lt-ltb}
-use Rattle.std.proofs.lemmas.Bool.Decides.{nat_tests}
-use Rattle.trlab_road.specs.LaneCars.{LaneCar}
-use Rattle.trlab_road.specs.Stored.{IsSortedFrom, place_of}
-use Rattle.trlab_road.proofs.Lists.{rises_weakly}
+use Rattle.std.proofs.Common.{◌≡◌, ◌<◌, ◌≤◌, ◌+◌, ◌⊎◌, ◌∙◌, ℕ, List, false, nat_lt, length, ap, inl, inr}
+use Rattle.std.proofs.{Common.{arith, lt-ltb}, lemmas.Bool.{cases_lt, Decides.nat_tests}}
+use Rattle.trlab_road.{specs.Stored.{LaneCar, IsSortedFrom, place_of}, proofs.Lists.rises_weakly}
 use Rattle.trlab_road.proofs.gaps.pass_four.Goals as goal
 use mir.Val.{bool_byte}
 
@@ -63,7 +60,7 @@ one_more n cars x next k more rises inside so_far is =
 pub loop-k-preserved : goal.loop-k-preserved
 loop-k-preserved c =
     let inv = c.loop-k.invariant in
-    let inside : c.loop-k.k < length c.args.cars.now = omega (arith, c.requires.within, c.if-cars-near-ge-SEARCHED_TOGETHER.true, c.loop-k-test.true) in
+    let inside : c.loop-k.k < length c.args.cars.now = omega (arith, c.requires.in_range, c.if-cars-near-ge-SEARCHED_TOGETHER.true, c.loop-k-test.true) in
     let next = one_more c.requires.sorted.0 c.args.cars.now c.args.place c.loop-k.next c.loop-k.k c.from-next.result c.requires.sorted.1 inside
     (record { not_past = inv.not_past; before = inv.before; from = inv.from }) (c.from-next.ensures ∙ ap (λ p. bool_byte (nat_lt p c.args.place)) c.place_at.ensures) in
     record { not_past = next.not_past; before = next.before; from = next.from }

@@ -1,11 +1,16 @@
-use Rattle.std.proofs.Common.{◌≡◌, ◌-◌, ◌≤◌, take, drop, [], ◌∷◌, ◌++◌, ◌≢◌, nat_eq, ◌+◌, ◌<◌, ◌∙◌, ℕ, Bool, true, false, None, refl, sym, cond, min, subst, length, arith}
-use Rattle.std.proofs.lemmas.Bool.{eqb-true, eqb-false}
+use Rattle.std.proofs.Common.{◌≡◌, ◌-◌, ◌≤◌, take, drop, [], ◌∷◌, ◌++◌, ◌≢◌, nat_eq, ◌+◌, ◌<◌, ◌∙◌, ℕ, Bool}
+use Rattle.std.proofs.Common.{true, false, None, refl, sym, cond, min, subst, length, arith, eqb-true}
+use Rattle.std.proofs.lemmas.Bool.{eqb-false}
 use Rattle.trlab_road.specs.LaneChange.{cell_after_change}
-use Rattle.trlab_road.specs.Cells.{Cell}
-use Rattle.trlab_road.specs.Stored.{cells_of, cell_at, lane_crosses_at, place_of, IsFirstFrom}
-use Rattle.trlab_road.proofs.ListLaneChange.{Merged, merged_none, merged_next, merged_skip, merged_push, merged_all, crosses_here, sought_here, sought_none, sought_past, sought_next, due_low, own_low, coming_low, due_none, due_past, due_within, stays, first_at, merged_run}
-use Rattle.trlab_road.proofs.Lists.{rises_high}
-use Rattle.trlab_road.proofs.lane_change.change_lane.Goals.{then-crosses-own, else-crosses-own+in_ok-extend_from_slice, then-own_here+then-not-crosses-own, else-own_here, else-own_here-via-then-own_here+else-not-crosses-own, else-own_here-via-else-own_here}
+use Rattle.trlab_road.specs.{Cells.Cell, Stored.{cells_of, cell_at, lane_crosses_at, place_of, IsFirstFrom}}
+use Rattle.trlab_road.proofs.ListLaneChange.{Merged, merged_none, merged_next, merged_skip, merged_push}
+use Rattle.trlab_road.proofs.ListLaneChange.{merged_all, crosses_here, sought_here, sought_none, sought_past}
+use Rattle.trlab_road.proofs.ListLaneChange.{sought_next, due_low, own_low, coming_low, due_none, due_past}
+use Rattle.trlab_road.proofs.{ListLaneChange.{due_within, stays, first_at, merged_run}, Lists.rises_high}
+use Rattle.trlab_road.proofs.lane_change.change_lane.Goals.{then-crosses-own, else-own_here-via-else-own_here}
+use Rattle.trlab_road.proofs.lane_change.change_lane.Goals.{else-crosses-own+in_ok-extend_from_slice}
+use Rattle.trlab_road.proofs.lane_change.change_lane.Goals.{then-own_here+then-not-crosses-own, else-own_here}
+use Rattle.trlab_road.proofs.lane_change.change_lane.Goals.{else-own_here-via-then-own_here+else-not-crosses-own}
 use Rattle.trlab_road.proofs.lane_change.change_lane.Goals as goal
 
 pub loop-own_next-init : goal.loop-own_next-init
@@ -74,8 +79,8 @@ loop-own_next-preserved-then-own_next-due c =
       )
       | else-crosses-own+in_ok-extend_from_slice w ↦
           let end = w.run_end-end.result in
-          let after : i < end = w.run_end-end.ensures.within.0 in
-          let within : end ≤ length own = w.run_end-end.ensures.within.1 in
+          let after : i < end = w.run_end-end.ensures.in_range.0 in
+          let within : end ≤ length own = w.run_end-end.ensures.in_range.1 in
           let index : i + (end - i) ≡ end = omega (arith, after) in
           let stay : (k : ℕ) → i ≤ k → k < i + (end - i) → oc (place_of own k) ≡ false = λ k a b.
           let on : k < end = omega (arith, b, index) in
@@ -177,13 +182,13 @@ run_end-end-requires-clause-before c =
     omega (arith, here, later)
 
 pub slice_bounds-extend_from_slice-count : goal.slice_bounds-extend_from_slice-count
-slice_bounds-extend_from_slice-count c = let after = c.run_end-end.ensures.within.0 in let within = c.run_end-end.ensures.within.1 in omega (arith, after, within)
+slice_bounds-extend_from_slice-count c = let after = c.run_end-end.ensures.in_range.0 in let within = c.run_end-end.ensures.in_range.1 in omega (arith, after, within)
 
 pub slice_bounds-extend_from_slice-start : goal.slice_bounds-extend_from_slice-start
-slice_bounds-extend_from_slice-start c = let after = c.run_end-end.ensures.within.0 in let within = c.run_end-end.ensures.within.1 in omega (arith, after, within)
+slice_bounds-extend_from_slice-start c = let after = c.run_end-end.ensures.in_range.0 in let within = c.run_end-end.ensures.in_range.1 in omega (arith, after, within)
 
 pub slice_bounds-extend_from_slice-end : goal.slice_bounds-extend_from_slice-end
-slice_bounds-extend_from_slice-end c = let after = c.run_end-end.ensures.within.0 in let within = c.run_end-end.ensures.within.1 in omega (arith, after, within)
+slice_bounds-extend_from_slice-end c = let after = c.run_end-end.ensures.in_range.0 in let within = c.run_end-end.ensures.in_range.1 in omega (arith, after, within)
 
 pub car_at-car-requires : goal.car_at-car-requires
 car_at-car-requires c =
@@ -200,7 +205,7 @@ loop-own_next-smaller-then-own_next-due c =
     let low = own_low _ _ _ _ _ _ c.loop-own_next.invariant.own_due c.min.ensures c.loop-own_next-test.true c.if-own_next-due.true in
     elim c.if-crosses-own.branch [
       | then-crosses-own w ↦ let on = w.i-is in omega (arith, low, on)
-      | else-crosses-own+in_ok-extend_from_slice w ↦ let on = w.i-is in let end = w.run_end-end.ensures.within.0 in omega (arith, low, on, end)
+      | else-crosses-own+in_ok-extend_from_slice w ↦ let on = w.i-is in let end = w.run_end-end.ensures.in_range.0 in omega (arith, low, on, end)
     ]
 
 pub loop-own_next-smaller : goal.loop-own_next-smaller

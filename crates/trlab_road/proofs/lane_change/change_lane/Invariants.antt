@@ -1,6 +1,5 @@
 use Rattle.std.proofs.Common.{◌+◌, ◌-◌, length, min, true}
-use Rattle.trlab_road.specs.Stored.{cells_of, lane_crosses_at}
-use Rattle.trlab_road.proofs.ListLaneChange.{IsDue, Merged}
+use Rattle.trlab_road.{specs.Stored.{cells_of, lane_crosses_at}, proofs.ListLaneChange.{IsDue, Merged}}
 use Rattle.trlab_road.proofs.lane_change.change_lane.Given as goal
 
 -- the cells before the next car of either list are done

@@ -1,9 +1,7 @@
-use Rattle.std.proofs.Common.{◌≡◌, ◌+◌, ◌<◌, ◌≤◌, ◌∙◌, ℕ, List, Vec, Global, Bool, length, take, refl, ap, subst, arith}
-use Rattle.std.specs.Prelude.{sum_by}
-use Rattle.trlab_road.specs.LaneCars.{LaneCar}
-use Rattle.trlab_road.specs.Cells.{lane_car_count}
-use Rattle.trlab_road.specs.LaneChange.{LaneCrosses}
-use Rattle.trlab_road.specs.Stored.{IsSortedFrom, AreSorted, cells_of, lanes_from, list_at, lane_crosses_at}
+use Rattle.std.proofs.Common.{◌≡◌, ◌+◌, ◌<◌, ◌≤◌, ◌∙◌, ℕ, List, Vec, Global, Bool, length, take, refl, ap}
+use Rattle.std.proofs.Common.{subst, arith, sum_by}
+use Rattle.trlab_road.specs.Stored.{LaneCar, IsSortedFrom, AreSorted, cells_of, lanes_from, list_at}
+use Rattle.trlab_road.specs.{Stored.lane_crosses_at, Cells.lane_car_count, LaneChange.LaneCrosses}
 use Rattle.trlab_road.proofs.ListLeaving.{crosses_from}
 use Rattle.trlab_road.proofs.ListRoads.{list_counted, list_within, crosses_two, two_written, two_sorted}
 use Rattle.trlab_road.proofs.lane_change.change_lanes.Goals as goal
@@ -69,11 +67,11 @@ leaving_cars-requires-2-clause-each c = each_1 c.args.cells c.args.lanes.now c.a
 pub change_lane-requires-2-clause-own_each : goal.change_lane-requires-2-clause-own_each
 change_lane-requires-2-clause-own_each c = each_1 c.args.cells c.args.lanes.now c.args.crosses.now _ c.requires.two c.requires.sorted c.requires.one_each c.list_of.ensures _ c.list_of-2.ensures
 
-pub change_lane-requires-clause-small : goal.change_lane-requires-clause-small
-change_lane-requires-clause-small c = c.requires.small
+pub change_lane-requires-clause-at_most_max_length : goal.change_lane-requires-clause-at_most_max_length
+change_lane-requires-clause-at_most_max_length c = c.requires.at_most_max_length
 
-pub change_lane-requires-2-clause-small : goal.change_lane-requires-2-clause-small
-change_lane-requires-2-clause-small c = c.requires.small
+pub change_lane-requires-2-clause-at_most_max_length : goal.change_lane-requires-2-clause-at_most_max_length
+change_lane-requires-2-clause-at_most_max_length c = c.requires.at_most_max_length
 
 -- the answers of a lane begin at the number of the cars before it
 at_ranks : (n : ℕ) (answers : List Bool) (own lane beside other next : List LaneCar) (f g h k : ℕ) → own ≡ lane → beside ≡ other → f ≡ h → g ≡ k

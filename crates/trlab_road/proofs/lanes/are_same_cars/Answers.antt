@@ -1,6 +1,4 @@
-use Rattle.std.proofs.Common.{ap, arith, slice_index_or}
-use Rattle.std.proofs.lemmas.Bool.Decides.{Decides-eqb}
-use Rattle.std.proofs.lemmas.List.{ext_get_or}
+use Rattle.std.proofs.{Common.{ap, arith, slice_index_or, ext_get_or}, lemmas.Bool.Decides.Decides-eqb}
 use Rattle.trlab_road.specs.Stored.{no_car}
 use Rattle.trlab_road.proofs.lanes.are_same_cars.Goals as goal
 

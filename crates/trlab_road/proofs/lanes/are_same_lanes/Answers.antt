@@ -1,8 +1,7 @@
-use Rattle.std.proofs.Common.{◌≡◌, ℕ, ◌<◌, List, Vec, Global, ap, arith, length, slice_index_or, [], inl, inr, sym, ◌∙◌, refl}
-use Rattle.std.proofs.lemmas.Bool.{cases_lt}
-use Rattle.std.proofs.lemmas.List.{ext_get_or, get_or-map, length-map}
-use Rattle.trlab_road.specs.LaneCars.{LaneCar}
-use Rattle.trlab_road.specs.Stored.{list_at, lists_of}
+use Rattle.std.proofs.Common.{◌≡◌, ℕ, ◌<◌, List, Vec, Global, ap, arith, length, slice_index_or, [], inl, inr}
+use Rattle.std.proofs.{Common.{sym, ◌∙◌, refl, ext_get_or}, lemmas.Bool.cases_lt}
+use Rattle.std.proofs.lemmas.List.{get_or-map, length-map}
+use Rattle.trlab_road.specs.Stored.{LaneCar, list_at, lists_of}
 use Rattle.trlab_road.proofs.lanes.are_same_lanes.Goals as goal
 
 -- the list of a lane that is there

@@ -1,8 +1,6 @@
 use Rattle.std.proofs.Common.{◌≡◌, ℕ, ◌+◌, ◌<◌, ◌∙◌, List, [], ◌∷◌, ◌++◌, Vec, Global, length, take, ap}
 use Rattle.std.proofs.lemmas.List.{length-map, map-append, take_more}
-use Rattle.trlab_road.specs.LaneCars.{LaneCar}
-use Rattle.trlab_road.specs.Stored.{list_at, lists_of}
-use Rattle.trlab_road.proofs.ListRoads.{list_read}
+use Rattle.trlab_road.{specs.Stored.{LaneCar, list_at, lists_of}, proofs.ListRoads.list_read}
 use Rattle.trlab_road.proofs.lanes.copy_lanes.Goals as goal
 
 -- one more lane

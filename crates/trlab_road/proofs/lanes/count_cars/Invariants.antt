@@ -1,5 +1,4 @@
-use Rattle.std.proofs.Common.{◌≡◌, ◌≤◌, ◌*◌, length, take}
-use Rattle.std.specs.Prelude.{sum_by}
+use Rattle.std.proofs.Common.{◌≡◌, ◌≤◌, ◌*◌, length, take, sum_by}
 use Rattle.trlab_road.specs.Stored.{lists_of}
 use Rattle.trlab_road.proofs.lanes.count_cars.Given as goal
 

@@ -1,7 +1,6 @@
 use Rattle.std.proofs.Common.{◌≡◌, ℕ, zero, suc, List, [], ◌∷◌, ◌++◌, Vec, Global, refl, arith}
 use Rattle.std.proofs.lemmas.List.{length_push}
-use Rattle.trlab_road.specs.LaneCars.{LaneCar}
-use Rattle.trlab_road.specs.Stored.{list_at}
+use Rattle.trlab_road.specs.Stored.{LaneCar, list_at}
 use Rattle.trlab_road.proofs.lanes.empty_lanes.Goals as goal
 
 -- one more lane with no car

@@ -1,7 +1,7 @@
 use Rattle.std.proofs.Common.{sym, subst}
-use Rattle.trlab_road.specs.Cells.{Cells}
-use Rattle.trlab_road.specs.LaneChange.{ChangesLanes, road_after_change}
-use Rattle.trlab_road.proofs.LaneChangeLaws.{crosses_by, road_after_change_is, one_road_after_change, lane_change_clean, lane_change_legal}
+use Rattle.trlab_road.specs.{Cells.Cells, LaneChange.{ChangesLanes, road_after_change}}
+use Rattle.trlab_road.proofs.LaneChangeLaws.{crosses_by, road_after_change_is, one_road_after_change}
+use Rattle.trlab_road.proofs.LaneChangeLaws.{lane_change_clean, lane_change_legal}
 use Rattle.trlab_road.proofs.laws.lane_change_is_clean.Goals as goal
 
 pub returns : goal.returns

@@ -1,5 +1,4 @@
-use Rattle.trlab_road.proofs.MotionLaws.{one_road_only}
-use Rattle.trlab_road.proofs.MotionExists.{road_moves_somewhere}
+use Rattle.trlab_road.proofs.{MotionLaws.one_road_only, MotionExists.road_moves_somewhere}
 use Rattle.trlab_road.proofs.MotionInOrder.{moves_by}
 use Rattle.trlab_road.proofs.laws.motion_gives_one_road.Goals as goal
 

@@ -1,5 +1,4 @@
-use Rattle.trlab_road.proofs.PictureLaws.{pictures_good}
-use Rattle.trlab_road.proofs.PictureFaults.{same_again}
+use Rattle.trlab_road.proofs.{PictureLaws.pictures_good, PictureFaults.same_again}
 use Rattle.trlab_road.proofs.laws.pictures_mean_the_road.Goals as goal
 
 pub returns : goal.returns

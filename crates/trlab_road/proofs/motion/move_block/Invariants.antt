@@ -1,8 +1,5 @@
-use Rattle.std.proofs.Common.{◌≡◌, ◌<◌, ◌+◌, ℕ, length}
-use Rattle.std.specs.Prelude.{slice_index, slice_index_or}
-use Rattle.trlab_road.specs.declared.motion.TheConstants.{MOVED_TOGETHER}
-use Rattle.trlab_road.specs.MovedAhead.{moved_ahead}
-use Rattle.trlab_road.specs.Stored.{no_car}
+use Rattle.std.proofs.Common.{◌≡◌, ◌<◌, ◌+◌, ℕ, length, slice_index, slice_index_or}
+use Rattle.trlab_road.specs.{declared.motion.TheConstants.MOVED_TOGETHER, Stored.{moved_ahead, no_car}}
 use Rattle.trlab_road.proofs.motion.move_block.Given as goal
 
 -- the first cars went ahead

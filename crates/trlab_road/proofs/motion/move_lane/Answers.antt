@@ -1,10 +1,8 @@
 use Rattle.std.proofs.Common.{◌≡◌, ℕ, [], Vec, Global, vec_len, sym, ◌∙◌, arith}
 use Rattle.std.proofs.lemmas.List.{nil_from_length}
-use Rattle.trlab_road.specs.LaneCars.{LaneCar}
-use Rattle.trlab_road.specs.Stored.{cells_of}
-use Rattle.trlab_road.specs.Motion.{LaneMoves}
-use Rattle.trlab_road.proofs.ListMotion.{moved_all, moved_none}
-use Rattle.trlab_road.proofs.StraightMotion.{all_in_place, last_short, room_left, short, went_round, went_straight}
+use Rattle.trlab_road.{specs.{Stored.{LaneCar, cells_of}, Motion.LaneMoves}, proofs.ListMotion.moved_all}
+use Rattle.trlab_road.proofs.{ListMotion.moved_none, StraightMotion.{all_in_place, last_short, room_left}}
+use Rattle.trlab_road.proofs.StraightMotion.{short, went_round, went_straight}
 use Rattle.trlab_road.proofs.motion.move_lane.Goals as goal
 
 -- no car moves
@@ -18,14 +16,14 @@ returns-in_default-clause-moves c = none_moves c.args.cells _ c.args.cars.now c.
 
 pub move_straight-requires-clause-short : goal.move_straight-requires-clause-short
 move_straight-requires-clause-short c = rw c.deref_mut.ensures.value (λ k low.
-    let a = short c.args.cells c.args.cars.now.items c.pop.new.self.items c.in-Some.last c.args.speeds.now c.args.from c.requires.sorted c.requires.within c.in-Some.ensures.items k low in
-    let small = c.requires.small in
+    let a = short c.args.cells c.args.cars.now.items c.pop.new.self.items c.in-Some.last c.args.speeds.now c.args.from c.requires.sorted c.requires.gaps c.in-Some.ensures.items k low in
+    let small = c.requires.at_most_max_length in
     omega (arith, a, small))
 
 pub new-requires-else-place-cells-clause-on_lane : goal.new-requires-else-place-cells-clause-on_lane
 new-requires-else-place-cells-clause-on_lane c =
-    let short = last_short c.args.cells _ _ _ c.args.speeds.now c.args.from c.requires.sorted c.requires.within c.in-Some.ensures.items _ _ (c.len-straight.ensures ∙ c.pop.new.self.ok.0) c.place.ensures in
-    let small = c.requires.small in
+    let short = last_short c.args.cells _ _ _ c.args.speeds.now c.args.from c.requires.sorted c.requires.gaps c.in-Some.ensures.items _ _ (c.len-straight.ensures ∙ c.pop.new.self.ok.0) c.place.ensures in
+    let small = c.requires.at_most_max_length in
     omega (arith, short, small)
 
 pub returns-then-place-cells-clause-rises : goal.returns-then-place-cells-clause-rises
@@ -34,7 +32,7 @@ returns-then-place-cells-clause-rises c =
     let written = all_in_place c.pop.new.self.items c.move_straight.new.cars c.pop.new.self.len c.pop.new.self.ok.0 gone.same_count in
     let room = room_left c.args.cars.now c.pop.new.self c.in-Some.last c.in-Some.ensures.items c.pop.ensures.capacity in
     let list = rw written at (rw (c.push.ensures.succeeds room) at c.push.ensures.items) in
-    (went_straight c.args.cells _ _ _ c.args.speeds.now c.args.from c.requires.sorted c.requires.within c.in-Some.ensures.items _ gone _ _ _ _ _ (c.len-straight.ensures ∙ c.pop.new.self.ok.0) list c.new.ensures c.number-number.ensures c.place.ensures c.if-place-cells.true).0
+    (went_straight c.args.cells _ _ _ c.args.speeds.now c.args.from c.requires.sorted c.requires.gaps c.in-Some.ensures.items _ gone _ _ _ _ _ (c.len-straight.ensures ∙ c.pop.new.self.ok.0) list c.new.ensures c.number-number.ensures c.place.ensures c.if-place-cells.true).0
 
 pub returns-then-place-cells-clause-moves : goal.returns-then-place-cells-clause-moves
 returns-then-place-cells-clause-moves c =
@@ -42,7 +40,7 @@ returns-then-place-cells-clause-moves c =
     let written = all_in_place c.pop.new.self.items c.move_straight.new.cars c.pop.new.self.len c.pop.new.self.ok.0 gone.same_count in
     let room = room_left c.args.cars.now c.pop.new.self c.in-Some.last c.in-Some.ensures.items c.pop.ensures.capacity in
     let list = rw written at (rw (c.push.ensures.succeeds room) at c.push.ensures.items) in
-    (went_straight c.args.cells _ _ _ c.args.speeds.now c.args.from c.requires.sorted c.requires.within c.in-Some.ensures.items _ gone _ _ _ _ _ (c.len-straight.ensures ∙ c.pop.new.self.ok.0) list c.new.ensures c.number-number.ensures c.place.ensures c.if-place-cells.true).1
+    (went_straight c.args.cells _ _ _ c.args.speeds.now c.args.from c.requires.sorted c.requires.gaps c.in-Some.ensures.items _ gone _ _ _ _ _ (c.len-straight.ensures ∙ c.pop.new.self.ok.0) list c.new.ensures c.number-number.ensures c.place.ensures c.if-place-cells.true).1
 
 pub returns-else-place-cells-clause-rises : goal.returns-else-place-cells-clause-rises
 returns-else-place-cells-clause-rises c =
@@ -50,7 +48,7 @@ returns-else-place-cells-clause-rises c =
     let written = all_in_place c.pop.new.self.items c.move_straight.new.cars c.pop.new.self.len c.pop.new.self.ok.0 gone.same_count in
     let room = room_left c.args.cars.now c.pop.new.self c.in-Some.last c.in-Some.ensures.items c.pop.ensures.capacity in
     let list = rw written at (rw (c.insert.ensures.succeeds room) at c.insert.ensures.items) in
-    (went_round c.args.cells _ _ _ c.args.speeds.now c.args.from c.requires.sorted c.requires.within c.in-Some.ensures.items _ gone _ _ _ _ _ (c.len-straight.ensures ∙ c.pop.new.self.ok.0) list c.new-else-place-cells.ensures c.number-number.ensures c.place.ensures c.if-place-cells.false).0
+    (went_round c.args.cells _ _ _ c.args.speeds.now c.args.from c.requires.sorted c.requires.gaps c.in-Some.ensures.items _ gone _ _ _ _ _ (c.len-straight.ensures ∙ c.pop.new.self.ok.0) list c.new-else-place-cells.ensures c.number-number.ensures c.place.ensures c.if-place-cells.false).0
 
 pub returns-else-place-cells-clause-moves : goal.returns-else-place-cells-clause-moves
 returns-else-place-cells-clause-moves c =
@@ -58,4 +56,4 @@ returns-else-place-cells-clause-moves c =
     let written = all_in_place c.pop.new.self.items c.move_straight.new.cars c.pop.new.self.len c.pop.new.self.ok.0 gone.same_count in
     let room = room_left c.args.cars.now c.pop.new.self c.in-Some.last c.in-Some.ensures.items c.pop.ensures.capacity in
     let list = rw written at (rw (c.insert.ensures.succeeds room) at c.insert.ensures.items) in
-    (went_round c.args.cells _ _ _ c.args.speeds.now c.args.from c.requires.sorted c.requires.within c.in-Some.ensures.items _ gone _ _ _ _ _ (c.len-straight.ensures ∙ c.pop.new.self.ok.0) list c.new-else-place-cells.ensures c.number-number.ensures c.place.ensures c.if-place-cells.false).1
+    (went_round c.args.cells _ _ _ c.args.speeds.now c.args.from c.requires.sorted c.requires.gaps c.in-Some.ensures.items _ gone _ _ _ _ _ (c.len-straight.ensures ∙ c.pop.new.self.ok.0) list c.new-else-place-cells.ensures c.number-number.ensures c.place.ensures c.if-place-cells.false).1

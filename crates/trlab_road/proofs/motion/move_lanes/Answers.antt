@@ -1,8 +1,6 @@
-use Rattle.std.proofs.Common.{◌≡◌, ◌<◌, ◌≤◌, ◌∙◌, ℕ, List, length, get_or, set, refl, ap, subst, below_more, arith}
-use Rattle.std.proofs.lemmas.List.{length-set}
-use Rattle.trlab_road.specs.LaneCars.{LaneCar}
-use Rattle.trlab_road.specs.Motion.{LaneMoves}
-use Rattle.trlab_road.specs.Stored.{cells_of, list_at, lane_answer}
+use Rattle.std.proofs.Common.{◌≡◌, ◌<◌, ◌≤◌, ◌∙◌, ℕ, List, length, get_or, set, refl, ap, subst, below_more}
+use Rattle.std.proofs.Common.{arith, length-set}
+use Rattle.trlab_road.specs.{Stored.{LaneCar, cells_of, list_at, lane_answer}, Motion.LaneMoves}
 use Rattle.trlab_road.proofs.ListRoads.{list_here, list_written, list_unwritten, list_counted, list_within}
 use Rattle.trlab_road.proofs.motion.move_lanes.Goals as goal
 
@@ -23,12 +21,12 @@ move_lane-requires-clause-one_each c =
     let d = c.requires.one_each in
     omega (arith, here, a, b, d)
 
-pub move_lane-requires-clause-within : goal.move_lane-requires-clause-within
-move_lane-requires-clause-within c =
+pub move_lane-requires-clause-gaps : goal.move_lane-requires-clause-gaps
+move_lane-requires-clause-gaps c =
     let l = c.loop-l.l in
     let low : l < length c.loop-l.lanes = let t = c.loop-l-test.true in let e = c.loop-l.auto.lanes in omega (arith, t, e) in
     let here = list_here c.loop-l.lanes l c.index-lanes-l.result low ∙ c.loop-l.invariant.stand l (omega arith) in
-    rw (here, c.loop-l.invariant.counted) (c.requires.within.each_lane l c.loop-l-test.true)
+    rw (here, c.loop-l.invariant.counted) (c.requires.gaps.each_lane l c.loop-l-test.true)
 
 -- the motion of the old list, whose answers begin at the number of the cars before it
 moved_here : (n : ℕ) (answers : List ℕ) (list lane next : List LaneCar) (from before : ℕ) → list ≡ lane → from ≡ before → LaneMoves (lane_answer (cells_of n list) answers from) (cells_of n list) (cells_of n next)
@@ -70,11 +68,11 @@ bounds-lanes-l c = rw c.loop-l.auto.lanes c.loop-l-test.true
 pub bounds-lanes-l-in-loop-l : goal.bounds-lanes-l-in-loop-l
 bounds-lanes-l-in-loop-l c = rw (length-set, c.loop-l.auto.lanes) c.loop-l-test.true
 
-pub move_lane-requires-clause-small : goal.move_lane-requires-clause-small
-move_lane-requires-clause-small c = c.requires.small
+pub move_lane-requires-clause-at_most_max_length : goal.move_lane-requires-clause-at_most_max_length
+move_lane-requires-clause-at_most_max_length c = c.requires.at_most_max_length
 
-pub move_lane-requires-clause-slow : goal.move_lane-requires-clause-slow
-move_lane-requires-clause-slow c = c.requires.slow
+pub move_lane-requires-clause-at_most_max_limit : goal.move_lane-requires-clause-at_most_max_limit
+move_lane-requires-clause-at_most_max_limit c = c.requires.at_most_max_limit
 
 -- after the loop every lane has moved
 behind : (j l all : ℕ) → all ≤ l → j < all → j < l

@@ -1,7 +1,5 @@
-use Rattle.std.proofs.Common.{◌≡◌, ◌<◌, ◌≤◌, ℕ, take}
-use Rattle.std.specs.Prelude.{sum_by}
-use Rattle.trlab_road.specs.Cells.{lane_car_count}
-use Rattle.trlab_road.specs.Motion.{LaneMoves}
+use Rattle.std.proofs.Common.{◌≡◌, ◌<◌, ◌≤◌, ℕ, take, sum_by}
+use Rattle.trlab_road.specs.{Cells.lane_car_count, Motion.LaneMoves}
 use Rattle.trlab_road.specs.Stored.{IsSortedFrom, lanes_from, cells_of, list_at, list_answer}
 use Rattle.trlab_road.proofs.motion.move_lanes.Given as goal
 

@@ -1,6 +1,5 @@
 use Rattle.std.proofs.Common.{◌+◌, ◌*◌}
-use Rattle.trlab_road.specs.declared.motion.TheConstants.{MOVED_TOGETHER}
-use Rattle.trlab_road.specs.MovedAhead.{HaveMovedAhead}
+use Rattle.trlab_road.specs.{declared.motion.TheConstants.MOVED_TOGETHER, Stored.HaveMovedAhead}
 use Rattle.trlab_road.proofs.motion.move_straight.Given as goal
 
 -- the cars of the blocks before this one went ahead

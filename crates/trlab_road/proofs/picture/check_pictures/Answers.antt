@@ -1,12 +1,13 @@
-use Rattle.std.proofs.Common.{◌≡◌, ◌≢◌, ◌+◌, ◌<◌, ◌≤◌, ◌==◌, ◌↔◌, ℕ, false, List, [], Bor, map, length, slice_index, slice_index_or, ap, refl, sym, inl, inr, arith, below_more}
-use Rattle.std.proofs.lemmas.Bool.{both_ways, eqb-true, eqb-false}
-use Rattle.std.proofs.lemmas.List.{length-map}
+use Rattle.std.proofs.Common.{◌≡◌, ◌≢◌, ◌+◌, ◌<◌, ◌≤◌, ◌==◌, ◌↔◌, ℕ, false, List, [], Bor, map, length}
+use Rattle.std.proofs.Common.{slice_index, slice_index_or, ap, refl, sym, inl, inr, arith, below_more}
+use Rattle.std.proofs.{Common.eqb-true, lemmas.{Bool.{both_ways, eqb-false}, List.length-map}}
 use Rattle.trlab_bounds.specs.declared.roads.TheConstants.{MAX_LIMIT}
-use Rattle.trlab_road.specs.Legal.{LanesFit}
-use Rattle.trlab_road.specs.Pictures.{HaveEqualLengths, HaveValidShape, IsFaultAt, ShowsAnySpeed, ShowsCell, ShowsSpeed, character_at, picture_at, pictures_of}
-use Rattle.trlab_road.proofs.PictureLaws.{picture_read}
+use Rattle.trlab_road.specs.{Cells.LanesFit, Pictures.{HaveEqualLengths, HaveValidShape, IsFaultAt}}
+use Rattle.trlab_road.specs.Pictures.{ShowsAnySpeed, ShowsCell, ShowsSpeed, character_at, picture_at}
+use Rattle.trlab_road.{specs.Pictures.pictures_of, proofs.PictureLaws.picture_read}
+use Rattle.trlab_road.proofs.picture.check_pictures.Goals.{then-is_empty-via-then-is_empty}
+use Rattle.trlab_road.proofs.picture.check_pictures.Goals.{then-is_empty-via-else-is_empty+then-pictures}
 use Rattle.trlab_road.proofs.picture.check_pictures.Goals as goal
-use Rattle.trlab_road.proofs.picture.check_pictures.Goals.{then-is_empty-via-then-is_empty, then-is_empty-via-else-is_empty+then-pictures}
 
 some_pictures : (n : ℕ) → false ≡ (n == 0) → 1 ≤ n
 some_pictures n e = omega (arith, eqb-false n 0 (sym e))

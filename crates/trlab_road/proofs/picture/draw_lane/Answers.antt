@@ -1,11 +1,10 @@
 use Rattle.std.proofs.Common.{◌≡◌, ℕ, refl, sym, ap, ◌∙◌, inl, inr, arith}
 use Rattle.trlab_bounds.specs.declared.roads.TheConstants.{MAX_LIMIT}
-use Rattle.trlab_road.specs.Pictures.{ShowsCell, ShowsSpeed, dot}
-use Rattle.trlab_road.specs.Stored.{speed_of_character}
+use Rattle.trlab_road.specs.{Pictures.{ShowsCell, ShowsSpeed, dot}, Stored.speed_of_character}
 use Rattle.trlab_road.proofs.Characters.{no_point, speed_back}
 use Rattle.trlab_road.proofs.ListDrawing.{drawn_none, drawn_all, drawn_skip, drawn_more}
-use Rattle.trlab_road.proofs.picture.draw_lane.Goals as goal
 use Rattle.trlab_road.proofs.picture.draw_lane.Goals.{in-Some+in_ok-push, in_default}
+use Rattle.trlab_road.proofs.picture.draw_lane.Goals as goal
 
 -- a character that shows a cell, but not a speed, is a dot
 only_point : (character : ℕ) → ShowsCell MAX_LIMIT character → ¬ (ShowsSpeed MAX_LIMIT character) → character ≡ dot
@@ -31,21 +30,21 @@ pub loop-place-init : goal.loop-place-init
 loop-place-init c = drawn_none c.args.from c.args.picture.now c.new-cars.result.items c.new-cars.ensures.items
 
 pub overflow_cast-place : goal.overflow_cast-place
-overflow_cast-place c = let on = c.loop-place-test.true in let small = c.requires.small in omega (arith, on, small)
+overflow_cast-place c = let on = c.loop-place-test.true in let small = c.requires.at_most_max_length in omega (arith, on, small)
 
 pub new-requires-clause-on_lane : goal.new-requires-clause-on_lane
-new-requires-clause-on_lane c = let on = c.loop-place-test.true in let small = c.requires.small in omega (arith, on, small)
+new-requires-clause-on_lane c = let on = c.loop-place-test.true in let small = c.requires.at_most_max_length in omega (arith, on, small)
 
-pub new-requires-clause-slow : goal.new-requires-clause-slow
-new-requires-clause-slow c = c.in-Some.ensures.within
+pub new-requires-clause-at_most_max_limit : goal.new-requires-clause-at_most_max_limit
+new-requires-clause-at_most_max_limit c = c.in-Some.ensures.in_range
 
 pub overflow_add-number : goal.overflow_add-number
 overflow_add-number c =
     let count = c.loop-place.invariant.counted in
     let few = c.loop-place.invariant.few in
     let on = c.loop-place-test.true in
-    let small = c.requires.small in
-    let first = c.requires.few in
+    let small = c.requires.at_most_max_length in
+    let first = c.requires.at_most_max_cars in
     omega (arith, count, few, on, small, first)
 
 pub returns-clause-rises : goal.returns-clause-rises

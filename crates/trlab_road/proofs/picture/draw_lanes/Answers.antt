@@ -1,13 +1,11 @@
-use Rattle.std.proofs.Common.{◌≡◌, ◌+◌, ◌<◌, ◌≤◌, ◌∙◌, ℕ, List, [], ◌∷◌, ◌++◌, map, Vec, Global, length, drop, sym, refl, ap, subst, arith, append_assoc, drop-cons, add-one}
-use Rattle.std.proofs.lemmas.List.{length-map, length_push, map-append, append-nil, at_drop_all}
+use Rattle.std.proofs.Common.{◌≡◌, ◌+◌, ◌<◌, ◌≤◌, ◌∙◌, ℕ, List, [], ◌∷◌, ◌++◌, map, Vec, Global, length, drop}
+use Rattle.std.proofs.Common.{sym, refl, ap, subst, arith, append_assoc, drop-cons, add-one, append-nil}
+use Rattle.std.proofs.lemmas.List.{length-map, length_push, map-append, at_drop_all}
 use Rattle.trlab_bounds.specs.declared.roads.TheConstants.{MAX_LENGTH, MAX_LIMIT}
-use Rattle.trlab_road.specs.LaneCars.{LaneCar}
-use Rattle.trlab_road.specs.Cells.{Lane, lane_car_count}
-use Rattle.trlab_road.specs.Stored.{IsSortedFrom, cells_of, lanes_from, lane_of_picture, lanes_of_pictures}
+use Rattle.trlab_road.specs.Stored.{LaneCar, IsSortedFrom, cells_of, lanes_from, lane_of_picture}
+use Rattle.trlab_road.specs.{Stored.lanes_of_pictures, Cells.{Lane, lane_car_count}}
 use Rattle.trlab_road.specs.Pictures.{ShowsCell, picture_at, character_at}
-use Rattle.trlab_road.proofs.PictureLaws.{picture_read, drawn_few}
-use Rattle.trlab_road.proofs.Lists.{cars_of_list}
-use Rattle.trlab_road.proofs.ListRoads.{one_more}
+use Rattle.trlab_road.proofs.{PictureLaws.{picture_read, drawn_few}, Lists.cars_of_list, ListRoads.one_more}
 use Rattle.trlab_road.proofs.picture.draw_lanes.Goals as goal
 
 pub draw_lane-requires-clause-shown : goal.draw_lane-requires-clause-shown
@@ -20,8 +18,8 @@ draw_lane-requires-clause-shown c =
     let all : (x : ℕ) → x < length (picture_at ps i) → ShowsCell MAX_LIMIT (character_at ps i x) = λ x h. c.requires.valid.cells i x on h in
     rw read at all
 
-pub draw_lane-requires-clause-small : goal.draw_lane-requires-clause-small
-draw_lane-requires-clause-small c =
+pub draw_lane-requires-clause-at_most_max_length : goal.draw_lane-requires-clause-at_most_max_length
+draw_lane-requires-clause-at_most_max_length c =
     let i = c.loop-picture.picture-index in
     let size = length-map c.args.pictures.now (λ s. s.now) in
     let same = c.requires.valid.shape.lengths.equal i (rw size c.loop-picture-test.true) in
@@ -139,8 +137,8 @@ bounds-pictures-picture-index c = c.loop-picture-test.true
 pub slice_bounds-draw_lane-end : goal.slice_bounds-draw_lane-end
 slice_bounds-draw_lane-end c = refl
 
-pub draw_lane-requires-clause-few : goal.draw_lane-requires-clause-few
-draw_lane-requires-clause-few c =
+pub draw_lane-requires-clause-at_most_max_cars : goal.draw_lane-requires-clause-at_most_max_cars
+draw_lane-requires-clause-at_most_max_cars c =
     let count = length-map c.args.pictures.now (λ s. s.now) in
     let few = c.loop-picture.invariant.few in
     let two = c.requires.valid.shape.lanes.few_lanes in

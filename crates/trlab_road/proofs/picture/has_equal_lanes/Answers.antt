@@ -1,12 +1,12 @@
-use Rattle.std.proofs.Common.{◌≡◌, ◌<◌, ◌≤◌, ◌⊎◌, ℕ, zero, suc, List, [], Bor, get_or, length, refl, sym, ◌∙◌, ap, inl, inr, arith}
-use Rattle.std.proofs.lemmas.Bool.{false≢true, eq-eqb, eqb-true}
+use Rattle.std.proofs.Common.{◌≡◌, ◌<◌, ◌≤◌, ◌⊎◌, ℕ, zero, suc, List, [], Bor, get_or, length, refl, sym, ◌∙◌}
+use Rattle.std.proofs.{Common.{ap, inl, inr, arith, eq-eqb, eqb-true}, lemmas.Bool.{false≢true}}
 use Rattle.std.proofs.lemmas.List.{length-map}
 use Rattle.trlab_bounds.specs.declared.roads.TheConstants.{MAX_LENGTH}
-use Rattle.trlab_road.specs.Legal.{LanesFit}
-use Rattle.trlab_road.specs.Pictures.{HaveEqualLengths, picture_at, pictures_of}
+use Rattle.trlab_road.specs.{Cells.LanesFit, Pictures.{HaveEqualLengths, picture_at, pictures_of}}
 use Rattle.trlab_road.proofs.PictureLaws.{picture_read}
+use Rattle.trlab_road.proofs.picture.has_equal_lanes.Goals.{then-cells-eq0-via-then-cells-eq0}
+use Rattle.trlab_road.proofs.picture.has_equal_lanes.Goals.{then-cells-eq0-via-else-cells-eq0+then-cells}
 use Rattle.trlab_road.proofs.picture.has_equal_lanes.Goals as goal
-use Rattle.trlab_road.proofs.picture.has_equal_lanes.Goals.{then-cells-eq0-via-then-cells-eq0, then-cells-eq0-via-else-cells-eq0+then-cells}
 
 -- the length of the picture that a reference leads to
 abbrev size : List (Bor (List ℕ)) → ℕ → ℕ

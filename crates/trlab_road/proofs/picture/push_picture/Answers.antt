@@ -1,9 +1,7 @@
-use Rattle.std.proofs.Common.{◌≡◌, ◌∙◌, ◌+◌, ◌-◌, ◌++◌, ℕ, List, [], length, take, set, replicate, refl, ap, arith}
-use Rattle.std.proofs.lemmas.List.{length-map, length-append, take_all, set-append_right}
-use Rattle.trlab_road.specs.Pictures.{dot, picture, speed_character}
-use Rattle.trlab_road.specs.Stored.{cells_of, place_of}
-use Rattle.trlab_road.proofs.Lists.{length_cells, rises_high}
-use Rattle.trlab_road.proofs.ListPictures.{empty_picture, picture_more}
+use Rattle.std.proofs.Common.{◌≡◌, ◌∙◌, ◌+◌, ◌-◌, ◌++◌, ℕ, List, [], length, take, set, replicate, refl, ap}
+use Rattle.std.proofs.{Common.{arith, length-append, take_all}, lemmas.List.{length-map, set-append_right}}
+use Rattle.trlab_road.specs.{Pictures.{dot, picture, speed_character}, Stored.{cells_of, place_of}}
+use Rattle.trlab_road.proofs.{Lists.{length_cells, rises_high}, ListPictures.{empty_picture, picture_more}}
 use Rattle.trlab_road.proofs.picture.push_picture.Goals as goal
 
 -- the picture of an empty lane, after the old bytes

@@ -1,6 +1,5 @@
 use Rattle.std.proofs.Common.{◌≡◌, ◌++◌, take}
-use Rattle.trlab_road.specs.Stored.{cells_of}
-use Rattle.trlab_road.specs.Pictures.{picture}
+use Rattle.trlab_road.specs.{Stored.cells_of, Pictures.picture}
 use Rattle.trlab_road.proofs.picture.push_picture.Given as goal
 
 -- the old bytes, and after them the picture of the cars so far

@@ -1,6 +1,5 @@
 use Rattle.std.proofs.Common.{◌≡◌, ◌<◌, ℕ, get_or, refl, below_more, arith}
-use Rattle.trlab_road.specs.declared.picture.TheConstants.{CHARACTERS}
-use Rattle.trlab_road.specs.Pictures.{speed_character}
+use Rattle.trlab_road.specs.{declared.picture.TheConstants.CHARACTERS, Pictures.speed_character}
 use Rattle.trlab_road.proofs.picture.speed_character.Goals as goal
 
 -- the table has the character of each speed

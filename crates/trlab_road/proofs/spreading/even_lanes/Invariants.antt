@@ -1,6 +1,5 @@
 use Rattle.std.proofs.Common.{ℕ, ◌≡◌, ◌<◌, length}
-use Rattle.trlab_road.specs.Stored.{list_at}
-use Rattle.trlab_road.proofs.ListEven.{EvenList}
+use Rattle.trlab_road.{specs.Stored.list_at, proofs.ListEven.EvenList}
 use Rattle.trlab_road.proofs.spreading.even_lanes.Given as goal
 
 -- the cars so far are on their lanes

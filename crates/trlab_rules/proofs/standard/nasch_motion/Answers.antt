@@ -1,12 +1,8 @@
 use Rattle.std.proofs.Common.{List, sym, subst}
-use Rattle.trlab_code.specs.declared.program.Kind.TheVariants.{Motion}
-use Rattle.trlab_code.specs.declared.instruction.Instr.{Instr}
+use Rattle.trlab_code.specs.declared.{program.Kind.TheVariants.Motion, instruction.Instr.Instr}
 use Rattle.trlab_verify.specs.Verdict.{IsAccepted}
-use Rattle.trlab_rules.specs.Published.{nasch_speed}
-use Rattle.trlab_rules.specs.Standard.{nasch_program}
-use Rattle.trlab_rules.proofs.NaschRuns.{nasch_moves}
-use Rattle.trlab_rules.proofs.Accepted.{nasch_accepted}
-use Rattle.trlab_rules.proofs.GivenPrograms.{motion_given, program_of}
+use Rattle.trlab_rules.{specs.{Published.nasch_speed, Standard.nasch_program}, proofs.NaschRuns.nasch_moves}
+use Rattle.trlab_rules.proofs.{Accepted.nasch_accepted, GivenPrograms.{motion_given, program_of}}
 use Rattle.trlab_rules.proofs.standard.nasch_motion.Goals as goal
 
 pub accept-requires-clause-accepted : goal.accept-requires-clause-accepted

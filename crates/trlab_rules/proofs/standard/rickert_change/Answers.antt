@@ -1,11 +1,8 @@
 use Rattle.std.proofs.Common.{List, sym, subst}
-use Rattle.trlab_code.specs.declared.program.Kind.TheVariants.{Change}
-use Rattle.trlab_code.specs.declared.instruction.Instr.{Instr}
+use Rattle.trlab_code.specs.declared.{program.Kind.TheVariants.Change, instruction.Instr.Instr}
 use Rattle.trlab_verify.specs.Verdict.{IsAccepted}
-use Rattle.trlab_rules.specs.Published.{rickert_crosses}
-use Rattle.trlab_rules.specs.Standard.{rickert_program}
-use Rattle.trlab_rules.proofs.RickertRuns.{rickert_changes}
-use Rattle.trlab_rules.proofs.Accepted.{rickert_accepted}
+use Rattle.trlab_rules.specs.{Published.rickert_crosses, Standard.rickert_program}
+use Rattle.trlab_rules.proofs.{RickertRuns.rickert_changes, Accepted.rickert_accepted}
 use Rattle.trlab_rules.proofs.GivenPrograms.{change_given, program_of}
 use Rattle.trlab_rules.proofs.standard.rickert_change.Goals as goal
 

@@ -1,12 +1,8 @@
 use Rattle.std.proofs.Common.{List, sym, subst}
-use Rattle.trlab_code.specs.declared.program.Kind.TheVariants.{Motion}
-use Rattle.trlab_code.specs.declared.instruction.Instr.{Instr}
+use Rattle.trlab_code.specs.declared.{program.Kind.TheVariants.Motion, instruction.Instr.Instr}
 use Rattle.trlab_verify.specs.Verdict.{IsAccepted}
-use Rattle.trlab_rules.specs.Published.{vdr_speed}
-use Rattle.trlab_rules.specs.Standard.{vdr_program}
-use Rattle.trlab_rules.proofs.VdrRuns.{vdr_moves}
-use Rattle.trlab_rules.proofs.Accepted.{vdr_accepted}
-use Rattle.trlab_rules.proofs.GivenPrograms.{motion_given, program_of}
+use Rattle.trlab_rules.{specs.{Published.vdr_speed, Standard.vdr_program}, proofs.VdrRuns.vdr_moves}
+use Rattle.trlab_rules.proofs.{Accepted.vdr_accepted, GivenPrograms.{motion_given, program_of}}
 use Rattle.trlab_rules.proofs.standard.vdr_motion.Goals as goal
 
 pub accept-requires-clause-accepted : goal.accept-requires-clause-accepted

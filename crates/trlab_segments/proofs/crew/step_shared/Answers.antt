@@ -1,7 +1,6 @@
 use Rattle.std.proofs.Common.{subst}
 use Rattle.trlab_machine.specs.declared.dice.Dice.{Dice}
-use Rattle.trlab_step.specs.Next.{IsStepResult}
-use Rattle.trlab_step.proofs.AskedCars.{same_dice}
+use Rattle.trlab_step.{specs.Next.IsStepResult, proofs.AskedCars.same_dice}
 use Rattle.trlab_segments.proofs.crew.step_shared.Goals as goal
 
 pub returns : goal.returns

@@ -1,5 +1,4 @@
-use Rattle.std.proofs.lemmas.List.{map-append}
-use Rattle.std.proofs.lemmas.List.Elements.{All-push}
+use Rattle.std.proofs.lemmas.List.{map-append, Elements.All-push}
 use Rattle.trlab_segments.specs.Answered.{IsPartOfPhase, ticket_of}
 use Rattle.trlab_segments.proofs.parts.add_part.Goals as goal
 

@@ -1,8 +1,7 @@
 use Rattle.std.proofs.Common.{refl, OnOk, subst, sym}
-use Rattle.trlab_segments.specs.Drawers.{ticket_count}
-use Rattle.trlab_segments.specs.Knowledge.{IsPermutation}
-use Rattle.trlab_segments.proofs.parts.collect.Goals as goal
+use Rattle.trlab_segments.specs.{Drawers.ticket_count, Knowledge.IsPermutation}
 use Rattle.trlab_segments.proofs.parts.collect.Goals.{in-Ok, in-Err}
+use Rattle.trlab_segments.proofs.parts.collect.Goals as goal
 
 pub line_up-requires : goal.line_up-requires
 line_up-requires g c = record {

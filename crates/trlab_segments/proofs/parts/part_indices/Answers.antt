@@ -1,5 +1,4 @@
-use Rattle.std.proofs.Common.{arith, map, ◌∙◌, length-set}
-use Rattle.std.proofs.lemmas.List.{length-map}
+use Rattle.std.proofs.{Common.{arith, map, ◌∙◌, length-set}, lemmas.List.length-map}
 use Rattle.trlab_segments.specs.Answered.{ticket_of}
 use Rattle.trlab_segments.proofs.Indices.{all_noted, below_count, note_next, ticket_at}
 use Rattle.trlab_segments.proofs.parts.part_indices.Goals as goal

@@ -1,6 +1,5 @@
 use Rattle.std.proofs.Common.{◌≡◌, length, map}
-use Rattle.trlab_segments.specs.Answered.{ticket_of}
-use Rattle.trlab_segments.proofs.Indices.{HasNoted}
+use Rattle.trlab_segments.{specs.Answered.ticket_of, proofs.Indices.HasNoted}
 use Rattle.trlab_segments.proofs.parts.part_indices.Given as goal
 
 abbrev pub invariant-loop-index : goal.invariant-loop-index

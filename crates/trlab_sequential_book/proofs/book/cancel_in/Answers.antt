@@ -1,5 +1,4 @@
-use Rattle.std.proofs.Common.{rules, List, ap, ◌∙◌}
-use Rattle.std.specs.Prelude.{slice_set}
+use Rattle.std.proofs.Common.{rules, List, ap, ◌∙◌, slice_set}
 use Rattle.trlab_sequential_book.specs.Machine.{JobState, cancel_outcome}
 use Rattle.trlab_sequential_book.proofs.Booking.{jobs_found, reply_found}
 use Rattle.trlab_sequential_book.proofs.book.cancel_in.Goals as goal

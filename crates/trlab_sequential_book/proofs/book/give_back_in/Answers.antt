@@ -1,7 +1,5 @@
-use Rattle.std.proofs.Common.{rules, List, refl, ap, ◌∙◌}
-use Rattle.std.specs.Prelude.{slice_set}
-use Rattle.trlab_sequential_book.specs.Comparison.{offered}
-use Rattle.trlab_sequential_book.specs.Machine.{JobState, give_back_outcome}
+use Rattle.std.proofs.Common.{rules, List, refl, ap, ◌∙◌, slice_set}
+use Rattle.trlab_sequential_book.specs.{Comparison.offered, Machine.{JobState, give_back_outcome}}
 use Rattle.trlab_sequential_book.proofs.Booking.{jobs_found, own_found, reply_found}
 use Rattle.trlab_sequential_book.proofs.book.give_back_in.Goals as goal
 

@@ -1,7 +1,6 @@
 use Rattle.std.proofs.Common.{refl, rules}
-use Rattle.trlab_sequential_book.specs.Machine.{order_outcome}
-use Rattle.trlab_sequential_book.specs.Comparison.{offered}
-use Rattle.trlab_sequential_book.specs.Answers.{is_memory, order_reply}
+use Rattle.trlab_sequential_book.specs.{Machine.order_outcome, Comparison.offered}
+use Rattle.trlab_sequential_book.specs.Histories.{is_memory, order_reply}
 use Rattle.trlab_sequential_book.proofs.Booking.{jobs_made, own_found, reply_made, rule_found}
 use Rattle.trlab_sequential_book.proofs.book.order_in.Goals as goal
 

@@ -1,6 +1,5 @@
 use Rattle.std.proofs.Common.{rules}
-use Rattle.trlab_sequential_book.specs.Machine.{replace_outcome}
-use Rattle.trlab_sequential_book.specs.Answers.{is_memory, number_reply}
+use Rattle.trlab_sequential_book.specs.{Machine.replace_outcome, Histories.{is_memory, number_reply}}
 use Rattle.trlab_sequential_book.proofs.Booking.{jobs_made, reply_made}
 use Rattle.trlab_sequential_book.proofs.book.replace_in.Goals as goal
 

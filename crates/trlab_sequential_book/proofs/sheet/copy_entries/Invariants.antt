@@ -1,5 +1,4 @@
-use Rattle.std.proofs.Common.{◌≡◌, length, take, vec_len}
-use Rattle.std.specs.Vec.{vec_capacity}
+use Rattle.std.proofs.Common.{◌≡◌, length, take, vec_len, vec_capacity}
 use Rattle.trlab_sequential_book.proofs.sheet.copy_entries.Given as goal
 
 abbrev pub invariant-loop-entry : goal.invariant-loop-entry

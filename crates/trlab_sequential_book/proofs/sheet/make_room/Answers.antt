@@ -1,6 +1,7 @@
 use Rattle.std.proofs.Common.{rules, ◌≡◌, ◌∙◌, sym, ap, subst, arith, ◌∷◌, ◌++◌, [], length, length-append}
 use Rattle.trlab_sequential_book.specs.Sheets.{BeginBy, IsBookSheet, with_rule_from}
-use Rattle.trlab_sequential_book.proofs.Entering.{entered_at, entered_after, sheet_at, sheet_after, begin_before}
+use Rattle.trlab_sequential_book.proofs.Entering.{entered_at, entered_after, sheet_at, sheet_after}
+use Rattle.trlab_sequential_book.proofs.Entering.{begin_before}
 use Rattle.trlab_sequential_book.proofs.sheet.make_room.Goals as goal
 
 pub returns-then-last-from-clause-ok : goal.returns-then-last-from-clause-ok

@@ -1,14 +1,12 @@
-use Rattle.std.proofs.lemmas.Result.{err_from_is_err_and}
-use Rattle.std.proofs.Common.{subst}
-use Rattle.trlab_step.specs.Answers.{IsCrossingsPart}
-use Rattle.trlab_step.proofs.AskedCars.{same_dice}
+use Rattle.std.proofs.{lemmas.Result.err_from_is_err_and, Common.subst}
+use Rattle.trlab_step.{specs.Answers.IsCrossingsPart, proofs.AskedCars.same_dice}
 use Rattle.trlab_step.proofs.for_embedders.choose_part.Goals as goal
 
 pub compute_crossings-requires-clause-rising : goal.compute_crossings-requires-clause-rising
 compute_crossings-requires-clause-rising c = c.requires.rising
 
-pub compute_crossings-requires-clause-within : goal.compute_crossings-requires-clause-within
-compute_crossings-requires-clause-within c = c.requires.within
+pub compute_crossings-requires-clause-in_range : goal.compute_crossings-requires-clause-in_range
+compute_crossings-requires-clause-in_range c = c.requires.in_range
 
 pub compute_crossings-requires-clause-two_lanes : goal.compute_crossings-requires-clause-two_lanes
 compute_crossings-requires-clause-two_lanes c = c.requires.two_lanes

@@ -1,14 +1,12 @@
-use Rattle.std.proofs.lemmas.Result.{err_from_is_err_and}
-use Rattle.std.proofs.Common.{subst}
-use Rattle.trlab_step.specs.Answers.{IsSpeedsPart}
-use Rattle.trlab_step.proofs.AskedCars.{same_dice}
+use Rattle.std.proofs.{lemmas.Result.err_from_is_err_and, Common.subst}
+use Rattle.trlab_step.{specs.Answers.IsSpeedsPart, proofs.AskedCars.same_dice}
 use Rattle.trlab_step.proofs.for_embedders.move_part.Goals as goal
 
 pub compute_speeds-requires-clause-rising : goal.compute_speeds-requires-clause-rising
 compute_speeds-requires-clause-rising c = c.requires.rising
 
-pub compute_speeds-requires-clause-within : goal.compute_speeds-requires-clause-within
-compute_speeds-requires-clause-within c = c.requires.within
+pub compute_speeds-requires-clause-in_range : goal.compute_speeds-requires-clause-in_range
+compute_speeds-requires-clause-in_range c = c.requires.in_range
 
 pub returns-in_err-compute_speeds : goal.returns-in_err-compute_speeds
 returns-in_err-compute_speeds c = let p = err_from_is_err_and c.from_residual.result c.from_residual.ensures.1 in rw p.1 tt

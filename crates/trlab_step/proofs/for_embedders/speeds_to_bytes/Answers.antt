@@ -1,5 +1,4 @@
-use Rattle.std.proofs.Common.{◌∙◌, ◌++◌, [], ◌∷◌, get_or, ap, sym, arith}
-use Rattle.std.proofs.lemmas.List.{take_more, take_all}
+use Rattle.std.proofs.{Common.{◌∙◌, ◌++◌, [], ◌∷◌, get_or, ap, sym, arith, take_all}, lemmas.List.take_more}
 use Rattle.trlab_step.proofs.for_embedders.speeds_to_bytes.Goals as goal
 
 pub loop-speed-init : goal.loop-speed-init

@@ -1,6 +1,5 @@
 use Rattle.std.proofs.Common.{subst}
-use Rattle.trlab_step.specs.Next.{IsStepResult}
-use Rattle.trlab_step.proofs.AskedCars.{same_dice}
+use Rattle.trlab_step.{specs.Next.IsStepResult, proofs.AskedCars.same_dice}
 use Rattle.trlab_step.proofs.for_embedders.step_road.Goals as goal
 
 pub returns : goal.returns

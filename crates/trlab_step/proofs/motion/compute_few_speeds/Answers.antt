@@ -1,8 +1,7 @@
 use Rattle.std.proofs.Common.{◌≡◌, ◌≤◌, ◌+◌, ◌-◌, arith, length, length-take-le, refl, rules, take}
 use Rattle.std.proofs.lemmas.Result.{err_from_is_err_and}
 use Rattle.trlab_machine.specs.declared.columns.TheConstants.{SMALL_BLOCK_CARS}
-use Rattle.trlab_step.specs.Answers.{AnswersSpeed}
-use Rattle.trlab_step.proofs.BlockAnswers.{block_goes, more_fit, more_speeds}
+use Rattle.trlab_step.{specs.Answers.AnswersSpeed, proofs.BlockAnswers.{block_goes, more_fit, more_speeds}}
 use Rattle.trlab_step.proofs.Blocks.{fits_none, part_none}
 use Rattle.trlab_step.proofs.motion.compute_few_speeds.Goals as goal
 
@@ -19,7 +18,7 @@ returns c =
     let road = c.args.road.now in
     let from = c.args.from in
     let size = c.args.to - from in
-    let few : size ≤ SMALL_BLOCK_CARS = omega (arith, c.requires.few) in
+    let few : size ≤ SMALL_BLOCK_CARS = omega (arith, c.requires.at_most_small_block) in
     let block = take size c.low_bytes-answers.result in
     let whole : length c.low_bytes-answers.result ≡ SMALL_BLOCK_CARS = search rules in
     let count : length block ≡ size = length-take-le size c.low_bytes-answers.result (omega (arith, whole, few)) in

@@ -1,10 +1,10 @@
-use Rattle.std.proofs.Common.{◌≡◌, ◌≤◌, ◌+◌, ◌*◌, ◌-◌, ◌∙◌, ap, arith, length, length-take-le, rules, subst, take}
-use Rattle.std.proofs.lemmas.Result.{err_from_is_err_and}
+use Rattle.std.proofs.Common.{◌≡◌, ◌≤◌, ◌+◌, ◌*◌, ◌-◌, ◌∙◌, ap, arith, length, length-take-le, rules, subst}
+use Rattle.std.proofs.{Common.take, lemmas.Result.err_from_is_err_and}
 use Rattle.trlab_machine.specs.declared.columns.TheConstants.{BLOCK_CARS}
-use Rattle.trlab_step.specs.declared.block.TheConstants.{BLOCK}
-use Rattle.trlab_step.specs.Answers.{AnswersSpeed, AnswersSpeedsPart}
+use Rattle.trlab_step.specs.{declared.block.TheConstants.BLOCK, Answers.{AnswersSpeed, AnswersSpeedsPart}}
 use Rattle.trlab_step.proofs.BlockAnswers.{block_goes, more_fit, more_speeds}
-use Rattle.trlab_step.proofs.Blocks.{begin_is, begin_low, end_after, end_low, end_near, first_begin, fits_none, last_end, next_begin, part_none, size_is}
+use Rattle.trlab_step.proofs.Blocks.{begin_is, begin_low, end_after, end_low, end_near, first_begin}
+use Rattle.trlab_step.proofs.Blocks.{fits_none, last_end, next_begin, part_none, size_is}
 use Rattle.trlab_step.proofs.motion.compute_speeds.Goals as goal
 
 pub loop-block-preserved : goal.loop-block-preserved
@@ -63,7 +63,7 @@ overflow_add-end c = let low = end_low c.args.from c.args.to c.loop-block.block 
 pub fill_motion_views-requires : goal.fill_motion_views-requires
 fill_motion_views-requires c =
     let low = end_low c.args.from c.args.to c.loop-block.block c.requires.rising c.div_ceil-block-end.ensures c.loop-block-test.true c.min.result c.min.ensures in
-    let within = c.requires.within in
+    let within = c.requires.in_range in
     (omega arith, (end_after c.args.from c.args.to c.loop-block.block c.requires.rising c.div_ceil-block-end.ensures c.loop-block-test.true c.min.result c.min.ensures, (end_near c.args.from c.args.to c.loop-block.block c.requires.rising c.div_ceil-block-end.ensures c.loop-block-test.true c.min.result c.min.ensures, omega (arith, low, within))))
 
 pub run_motions-requires : goal.run_motions-requires

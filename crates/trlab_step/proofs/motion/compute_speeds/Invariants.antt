@@ -1,6 +1,5 @@
 use Rattle.std.proofs.Common.{◌+◌, ◌*◌, min}
-use Rattle.trlab_step.specs.declared.block.TheConstants.{BLOCK}
-use Rattle.trlab_step.specs.Answers.{AnswersSpeedsPart, SpeedsFitPart}
+use Rattle.trlab_step.specs.{declared.block.TheConstants.BLOCK, Answers.{AnswersSpeedsPart, SpeedsFitPart}}
 use Rattle.trlab_step.proofs.motion.compute_speeds.Given as goal
 
 abbrev pub invariant-loop-block : goal.invariant-loop-block

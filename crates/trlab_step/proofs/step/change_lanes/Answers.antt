@@ -1,8 +1,5 @@
-use Rattle.std.proofs.Common.{◌≤◌, ◌∙◌, ap, arith, length, count_by}
-use Rattle.trlab_step.proofs.Counts.{few_cars}
-use Rattle.trlab_step.proofs.Stepped.{lane_change_is_done}
-use Rattle.std.proofs.lemmas.Result.{err_from_is_err_and}
-use Rattle.trlab_step.proofs.Parts.{whole_free}
+use Rattle.std.proofs.{Common.{◌≤◌, ◌∙◌, ap, arith, length, count_by}, lemmas.Result.err_from_is_err_and}
+use Rattle.trlab_step.proofs.{Counts.few_cars, Stepped.lane_change_is_done, Parts.whole_free}
 use Rattle.trlab_step.proofs.step.change_lanes.Goals as goal
 
 pub returns-clause-phase : goal.returns-clause-phase
@@ -27,7 +24,7 @@ count_lane_changes-requires g c =
     let most = few_cars c.in_ok-middle.middle c.in_ok-middle.ensures.legal in
     let kept = rw c.crossings.ensures.same at c.in_ok-middle.ensures.clean.same_count in
     let few : length c.crossings.new.answers.items ≤ 200000 = omega (arith, told, most, kept) in
-    record { few = rw c.deref-2.ensures.value few }
+    record { at_most_max_cars = rw c.deref-2.ensures.value few }
 
 pub returns-in_err-crossings-clause-phase : goal.returns-in_err-crossings-clause-phase
 returns-in_err-crossings-clause-phase g c = let p = err_from_is_err_and c.from_residual.result c.from_residual.ensures.1 in rw p.1 tt

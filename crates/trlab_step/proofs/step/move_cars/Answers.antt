@@ -1,7 +1,6 @@
 use Rattle.std.proofs.Common.{◌≤◌, ◌∙◌, ap, arith, length, count_by, nat_eq, sum}
 use Rattle.std.proofs.lemmas.Result.{err_from_is_err_and}
-use Rattle.trlab_step.proofs.Counts.{few_cars}
-use Rattle.trlab_step.proofs.Parts.{whole_allowed}
+use Rattle.trlab_step.proofs.{Counts.few_cars, Parts.whole_allowed}
 use Rattle.trlab_step.proofs.Stepped.{all_gone, all_stopped, motion_is_done, moved_by_place}
 use Rattle.trlab_step.proofs.step.move_cars.Goals as goal
 
@@ -27,7 +26,7 @@ tally_of-requires g c =
     let told = c.in_ok-speeds.ensures.speeds.0.one_each in
     let most = few_cars c.args.road.now c.snapshot-start.ensures.legal in
     let few : length c.speeds.new.answers.items ≤ 200000 = omega (arith, told, most) in
-    record { few = rw c.deref-2.ensures.value few }
+    record { at_most_max_cars = rw c.deref-2.ensures.value few }
 
 pub speeds-requires : goal.speeds-requires
 speeds-requires g c = record { ready = c.requires }

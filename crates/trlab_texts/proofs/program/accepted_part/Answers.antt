@@ -1,5 +1,4 @@
-use Rattle.trlab_texts.proofs.Programs.{verdict_behind, refusal_behind}
-use Rattle.trlab_texts.proofs.Readings.{handed_on}
+use Rattle.trlab_texts.proofs.{Programs.{verdict_behind, refusal_behind}, Readings.handed_on}
 use Rattle.trlab_texts.proofs.program.accepted_part.Goals as goal
 
 pub returns : goal.returns

@@ -1,9 +1,6 @@
-use Rattle.std.proofs.Common.{sym}
-use Rattle.std.specs.Prelude.{Ok, Err}
-use Rattle.trlab_texts.specs.declared.fault.TextFault.TheVariants.{At}
-use Rattle.trlab_texts.specs.Programs.{code_line_of}
-use Rattle.trlab_texts.proofs.Readings.{line_content, line_fails}
-use Rattle.trlab_texts.proofs.Programs.{in_one_line}
+use Rattle.std.proofs.Common.{sym, Ok, Err}
+use Rattle.trlab_texts.specs.{declared.fault.TextFault.TheVariants.At, Programs.code_line_of}
+use Rattle.trlab_texts.proofs.{Readings.{line_content, line_fails}, Programs.in_one_line}
 use Rattle.trlab_texts.proofs.program.program_part.Goals as goal
 
 pub returns-in-Ok-Err : goal.returns-in-Ok-Err

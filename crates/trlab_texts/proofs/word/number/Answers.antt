@@ -1,7 +1,8 @@
 use Rattle.std.proofs.Common.{sym}
 use Rattle.trlab_texts.proofs.Numbers.{numeral_form, ten_digits, zero_first, digits_written, one_long}
+use Rattle.trlab_texts.proofs.word.number.Goals.{else-word-gt1-via-then-word-gt1+else-word-eq48}
+use Rattle.trlab_texts.proofs.word.number.Goals.{else-word-gt1-via-else-word-gt1}
 use Rattle.trlab_texts.proofs.word.number.Goals as goal
-use Rattle.trlab_texts.proofs.word.number.Goals.{else-word-gt1-via-then-word-gt1+else-word-eq48, else-word-gt1-via-else-word-gt1}
 
 pub returns-then-not-is_numeral : goal.returns-then-not-is_numeral
 returns-then-not-is_numeral c = λ n small e. numeral_form c.args.word.now n (sym c.if-not-is_numeral.ensures) small e

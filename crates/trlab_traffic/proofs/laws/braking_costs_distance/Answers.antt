@@ -1,4 +1,6 @@
-use Rattle.trlab_traffic.proofs.Braking.{braking_costs_runs, braking_costs_runs_with_lane_changes, braking_costs_runs_with_slow_starts, braking_costs_steps, braking_costs_steps_with_lane_changes, each_run_has_braked}
+use Rattle.trlab_traffic.proofs.Braking.{braking_costs_runs, braking_costs_runs_with_lane_changes}
+use Rattle.trlab_traffic.proofs.Braking.{braking_costs_runs_with_slow_starts, braking_costs_steps}
+use Rattle.trlab_traffic.proofs.Braking.{braking_costs_steps_with_lane_changes, each_run_has_braked}
 use Rattle.trlab_traffic.proofs.laws.braking_costs_distance.Goals as goal
 
 pub returns : goal.returns

@@ -1,4 +1,6 @@
-use Rattle.trlab_traffic.proofs.DetectingRuns.{count_exists, detector_measures_flow, detectors_agree, detectors_agree_by_cars, detectors_count_run, run_is_continuous}
+use Rattle.trlab_traffic.proofs.DetectingRuns.{count_exists, detector_measures_flow, detectors_agree}
+use Rattle.trlab_traffic.proofs.DetectingRuns.{detectors_agree_by_cars, detectors_count_run}
+use Rattle.trlab_traffic.proofs.DetectingRuns.{run_is_continuous}
 use Rattle.trlab_traffic.proofs.laws.detectors_count_runs.Goals as goal
 
 pub returns : goal.returns

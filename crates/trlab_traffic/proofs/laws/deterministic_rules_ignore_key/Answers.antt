@@ -1,4 +1,5 @@
-use Rattle.trlab_traffic.proofs.Determinism.{nasch_without_randomization, run_is_deterministic, step_is_deterministic}
+use Rattle.trlab_traffic.proofs.Determinism.{nasch_without_randomization, run_is_deterministic}
+use Rattle.trlab_traffic.proofs.Determinism.{step_is_deterministic}
 use Rattle.trlab_traffic.proofs.laws.deterministic_rules_ignore_key.Goals as goal
 
 pub returns : goal.returns

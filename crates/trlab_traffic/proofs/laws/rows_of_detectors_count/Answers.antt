@@ -1,4 +1,5 @@
-use Rattle.trlab_traffic.proofs.Rows.{row_measures_flow, rows_agree, run_is_continuous_by_rows, step_is_continuous_by_rows}
+use Rattle.trlab_traffic.proofs.Rows.{row_measures_flow, rows_agree, run_is_continuous_by_rows}
+use Rattle.trlab_traffic.proofs.Rows.{step_is_continuous_by_rows}
 use Rattle.trlab_traffic.proofs.laws.rows_of_detectors_count.Goals as goal
 
 pub returns : goal.returns

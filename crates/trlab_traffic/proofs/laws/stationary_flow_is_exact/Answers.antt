@@ -1,5 +1,4 @@
-use Rattle.trlab_traffic.proofs.Clusters.{rings_are_clustered}
-use Rattle.trlab_traffic.proofs.ExactFlow.{flow_is_exact}
+use Rattle.trlab_traffic.proofs.{Clusters.rings_are_clustered, ExactFlow.flow_is_exact}
 use Rattle.trlab_traffic.proofs.laws.stationary_flow_is_exact.Goals as goal
 
 pub returns : goal.returns

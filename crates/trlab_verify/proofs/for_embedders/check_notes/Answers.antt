@@ -1,18 +1,12 @@
-use Rattle.std.proofs.Common.{◌≡◌, ◌∙◌, ℕ, ◌<◌, ◌≤◌, sym, ap, subst, arith, length, false, List, Some, refl, below_more, slice_get}
-use Rattle.std.proofs.lemmas.Bool.{both_ways}
-use Rattle.std.proofs.lemmas.List.{get_or-map, length-map}
+use Rattle.std.proofs.Common.{◌≡◌, ◌∙◌, ℕ, ◌<◌, ◌≤◌, sym, ap, subst, arith, length, false, List, Some, refl}
+use Rattle.std.proofs.{Common.{below_more, slice_get}, lemmas.{Bool.both_ways, List.{get_or-map, length-map}}}
 use Rattle.std.proofs.lemmas.Option.{slice_get_within}
-use Rattle.trlab_code.specs.declared.program.Kind.{Kind}
-use Rattle.trlab_code.specs.declared.instruction.Instr.{Instr}
-use Rattle.trlab_notes.specs.Notes.{entry}
-use Rattle.trlab_notes.specs.Order.{IsNoStronger}
-use Rattle.trlab_verify.specs.declared.note.Note.{Note as Form}
-use Rattle.trlab_verify.specs.Tables.{HasValidLevels, meaning, meaning_at, table_of, form_without_marks, Checks, ChecksAt, empty_note, note_in}
-use Rattle.trlab_verify.proofs.Best.{accepted}
-use Rattle.trlab_verify.proofs.Checking.{as_table, at_same, by_notes}
-use Rattle.trlab_verify.proofs.Runs.{sound}
-use Rattle.trlab_verify.proofs.Bounded.{checked_two}
-use Rattle.trlab_verify.proofs.Forms.{under_settled, under_note}
+use Rattle.trlab_code.specs.declared.{program.Kind.Kind, instruction.Instr.Instr}
+use Rattle.trlab_notes.specs.Notes.{entry, IsNoStronger}
+use Rattle.trlab_verify.specs.{declared.note.Note.Note as Form, Tables.{HasValidLevels, meaning, meaning_at}}
+use Rattle.trlab_verify.specs.Tables.{table_of, form_without_marks, Checks, ChecksAt, empty_note, note_in}
+use Rattle.trlab_verify.proofs.{Best.accepted, Checking.{as_table, at_same, by_notes}, Runs.sound}
+use Rattle.trlab_verify.proofs.{Bounded.checked_two, Forms.{under_settled, under_note}}
 use Rattle.trlab_verify.proofs.for_embedders.check_notes.Goals as goal
 
 -- the table is that of the notes that the caller passes

@@ -1,16 +1,11 @@
-use Rattle.std.proofs.Common.{◌≡◌, ◌∙◌, ℕ, ◌<◌, sym, arith, length, Bool, true, false, IsTrue, Option, Some, None, get_or, refl}
-use Rattle.std.specs.Option.{is_some}
-use Rattle.std.proofs.lemmas.Option.{slice_get-get_or}
-use Rattle.trlab_code.specs.declared.instruction.Instr.TheVariants.{Num}
-use Rattle.trlab_code.specs.declared.instruction.Register.TheVariants.{R0}
-use Rattle.trlab_notes.specs.Stored.{note_of}
-use Rattle.trlab_verify.specs.Verdict.{Follows}
-use Rattle.trlab_verify.specs.Tables.{meaning_at}
-use Rattle.trlab_notes.specs.declared.reasons.Reason.{Reason}
-use Rattle.trlab_notes.proofs.Steps.{clear}
-use Rattle.trlab_verify.proofs.Forms.{shown, checked_at}
+use Rattle.std.proofs.Common.{◌≡◌, ◌∙◌, ℕ, ◌<◌, sym, arith, length, Bool, true, false, IsTrue, Option, Some}
+use Rattle.std.proofs.{Common.{None, get_or, refl, is_some}, lemmas.Option.slice_get-get_or}
+use Rattle.trlab_code.specs.declared.instruction.{Instr.TheVariants.Num, Register.TheVariants.R0}
+use Rattle.trlab_notes.{specs.{Stored.note_of, declared.reasons.Reason.Reason}, proofs.Steps.clear}
+use Rattle.trlab_verify.{specs.{Verdict.Follows, Tables.meaning_at}, proofs.Forms.{shown, checked_at}}
+use Rattle.trlab_verify.proofs.for_embedders.checks_at.Goals.{else-pc-gt0-via-then-pc-gt0+else-not-is_reached}
+use Rattle.trlab_verify.proofs.for_embedders.checks_at.Goals.{else-pc-gt0-via-else-pc-gt0}
 use Rattle.trlab_verify.proofs.for_embedders.checks_at.Goals as goal
-use Rattle.trlab_verify.proofs.for_embedders.checks_at.Goals.{else-pc-gt0-via-then-pc-gt0+else-not-is_reached, else-pc-gt0-via-else-pc-gt0}
 
 none_is : (o : Option Reason) → false ≡ is_some o → o ≡ None
 none_is None e = refl

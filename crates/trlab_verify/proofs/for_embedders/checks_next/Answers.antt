@@ -1,8 +1,6 @@
 use Rattle.std.proofs.Common.{suc, add-one, arith}
-use Rattle.trlab_notes.specs.Stored.{note_of}
-use Rattle.trlab_notes.specs.Transfer.{next_note}
-use Rattle.trlab_verify.specs.Tables.{meaning_at}
-use Rattle.trlab_verify.proofs.Forms.{sent_in, sent_out}
+use Rattle.trlab_notes.specs.{Stored.note_of, Transfer.next_note}
+use Rattle.trlab_verify.{specs.Tables.meaning_at, proofs.Forms.{sent_in, sent_out}}
 use Rattle.trlab_verify.proofs.for_embedders.checks_next.Goals as goal
 
 pub returns-in-Some : goal.returns-in-Some

@@ -1,9 +1,6 @@
 use Rattle.std.proofs.Common.{◌≡◌, ℕ, ap, sym, subst, arith, Some}
-use Rattle.trlab_notes.specs.Stored.{note_of}
-use Rattle.trlab_notes.specs.Transfer.{jump_note}
-use Rattle.trlab_notes.specs.Order.{IsNoStronger}
-use Rattle.trlab_verify.specs.Tables.{meaning_at}
-use Rattle.trlab_verify.proofs.Forms.{sent_in, sent_out}
+use Rattle.trlab_notes.specs.{Stored.note_of, Transfer.jump_note, Notes.IsNoStronger}
+use Rattle.trlab_verify.{specs.Tables.meaning_at, proofs.Forms.{sent_in, sent_out}}
 use Rattle.trlab_verify.proofs.for_embedders.checks_target.Goals as goal
 
 pub returns-else-to-table : goal.returns-else-to-table

@@ -1,9 +1,8 @@
-use Rattle.std.proofs.Common.{◌≡◌, ◌∙◌, ℕ, suc, ◌&&◌, ◌||◌, sym, subst, refl, arith, nat_eq, below_more, Bool, false, IsTrue, List, Some, get_or, slice_get}
+use Rattle.std.proofs.Common.{◌≡◌, ◌∙◌, ℕ, suc, ◌&&◌, ◌||◌, sym, subst, refl, arith, nat_eq, below_more, Bool}
+use Rattle.std.proofs.Common.{false, IsTrue, List, Some, get_or, slice_get}
 use Rattle.std.proofs.lemmas.Option.{slice_get-get_or, slice_get_within}
-use Rattle.trlab_code.specs.Flow.{falls, target, on_target}
-use Rattle.trlab_code.specs.declared.instruction.Instr.{Instr}
-use Rattle.trlab_code.specs.declared.instruction.Instr.TheVariants.{Num}
-use Rattle.trlab_code.specs.declared.instruction.Register.TheVariants.{R0}
+use Rattle.trlab_code.specs.{Flow.{falls, target, on_target}, declared.instruction.Instr.Instr}
+use Rattle.trlab_code.specs.declared.instruction.{Instr.TheVariants.Num, Register.TheVariants.R0}
 use Rattle.trlab_verify.specs.Verdict.{Follows}
 use Rattle.trlab_verify.proofs.for_embedders.is_reached.Goals as goal
 

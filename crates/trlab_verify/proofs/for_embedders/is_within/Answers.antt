@@ -1,9 +1,6 @@
 use Rattle.std.proofs.Common.{sym, subst, arith, refl}
-use Rattle.trlab_notes.proofs.Tables.{stored_two}
-use Rattle.trlab_notes.specs.Stored.{note_of}
-use Rattle.trlab_notes.specs.Order.{IsNoStronger}
-use Rattle.trlab_verify.specs.Tables.{meaning}
-use Rattle.trlab_verify.proofs.Forms.{over_settled, over_note}
+use Rattle.trlab_notes.{proofs.Tables.stored_two, specs.{Stored.note_of, Notes.IsNoStronger}}
+use Rattle.trlab_verify.{specs.Tables.meaning, proofs.Forms.{over_settled, over_note}}
 use Rattle.trlab_verify.proofs.for_embedders.is_within.Goals as goal
 
 pub returns-in-Some : goal.returns-in-Some

@@ -1,6 +1,4 @@
-use Rattle.trlab_verify.specs.Tables.{note_in}
-use Rattle.trlab_verify.proofs.Bounded.{checked_two}
-use Rattle.trlab_verify.proofs.Checking.{by_notes}
+use Rattle.trlab_verify.{specs.Tables.note_in, proofs.{Bounded.checked_two, Checking.by_notes}}
 use Rattle.trlab_verify.proofs.laws.levels_are_at_most_two.Goals as goal
 
 pub returns : goal.returns

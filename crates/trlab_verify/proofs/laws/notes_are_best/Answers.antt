@@ -1,6 +1,4 @@
-use Rattle.trlab_verify.proofs.Checking.{by_notes}
-use Rattle.trlab_verify.proofs.Best.{best, accepted}
-use Rattle.trlab_verify.proofs.VerdictChecks.{table_checks}
+use Rattle.trlab_verify.proofs.{Checking.by_notes, Best.{best, accepted}, VerdictChecks.table_checks}
 use Rattle.trlab_verify.specs.Tables.{note_in}
 use Rattle.trlab_verify.proofs.laws.notes_are_best.Goals as goal
 

@@ -1,7 +1,6 @@
 use Rattle.std.proofs.Common.{◌≡◌, ◌∙◌, ℕ, arith, sym, subst, inl, inr, Option, Some, None}
 use Rattle.std.proofs.lemmas.Bool.{cases_lt}
-use Rattle.trlab_code.specs.declared.program.Kind.{Kind}
-use Rattle.trlab_code.specs.Program.{Program}
+use Rattle.trlab_code.specs.{declared.program.Kind.Kind, Program.Program}
 use Rattle.trlab_verify.specs.Verdict.{IsRefused, reason_number_at}
 use Rattle.trlab_verify.proofs.laws.verdict_is_one.Goals as goal
 

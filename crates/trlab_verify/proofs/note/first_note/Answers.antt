@@ -1,7 +1,6 @@
 use Rattle.std.proofs.Common.{◌∙◌, subst, sym}
 use Rattle.trlab_notes.specs.Notes.{entry}
-use Rattle.trlab_verify.specs.Tables.{HasInputRanges}
-use Rattle.trlab_verify.proofs.Inputs.{entry_shows, closure_shows}
+use Rattle.trlab_verify.{specs.Tables.HasInputRanges, proofs.Inputs.{entry_shows, closure_shows}}
 use Rattle.trlab_verify.proofs.Forms.{first_is}
 use Rattle.trlab_verify.proofs.note.first_note.Goals as goal
 

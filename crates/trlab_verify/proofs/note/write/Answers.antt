@@ -1,8 +1,7 @@
 use Rattle.std.proofs.Common.{◌∙◌, refl, arith}
 use mathlib.Core.Path.{fun_ext}
 use Rattle.trlab_notes.proofs.Tables.{note_same, level_same, known_is}
-use Rattle.trlab_verify.specs.declared.note.Note.{Note as Form}
-use Rattle.trlab_verify.proofs.Forms.{form_says}
+use Rattle.trlab_verify.{specs.declared.note.Note.Note as Form, proofs.Forms.form_says}
 use Rattle.trlab_verify.proofs.note.write.Goals as goal
 
 pub returns : goal.returns

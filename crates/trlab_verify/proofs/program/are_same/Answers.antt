@@ -1,8 +1,6 @@
-use Rattle.std.proofs.Common.{rules, ◌≡◌, ◌∙◌, sym, ap}
+use Rattle.std.proofs.{Common.{rules, ◌≡◌, ◌∙◌, sym, ap}, lemmas.Slice.Eq.slice_eq-Decides}
 use denote.Enum.Bare.{same_true}
-use Rattle.std.proofs.lemmas.Slice.Eq.{slice_eq-Decides}
-use Rattle.trlab_code.specs.contracts.program.Kind.{the_type as kinds}
-use Rattle.trlab_code.proofs.Injective.{same_decides}
+use Rattle.trlab_code.{specs.contracts.program.Kind.the_type as kinds, proofs.Injective.same_decides}
 use Rattle.trlab_verify.proofs.Equals.{program_same}
 use Rattle.trlab_verify.proofs.program.are_same.Goals as goal
 

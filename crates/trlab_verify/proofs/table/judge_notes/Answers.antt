@@ -1,18 +1,13 @@
-use Rattle.std.proofs.Common.{◌≡◌, ◌∙◌, arith, ℕ, zero, suc, ◌<◌, ap, sym, subst, length, true, false, List, Option, Some, None, refl, IfSome, MatchOption}
-use Rattle.std.specs.Option.{is_some}
-use Rattle.trlab_code.specs.declared.program.Kind.{Kind}
-use Rattle.trlab_code.specs.declared.instruction.Instr.{Instr}
-use Rattle.trlab_notes.specs.Notes.{Note, entry, closure, maybe_closure}
-use Rattle.trlab_verify.specs.declared.verdict.Rejection.{Rejection}
+use Rattle.std.proofs.Common.{◌≡◌, ◌∙◌, arith, ℕ, zero, suc, ◌<◌, ap, sym, subst, length, true, false, List}
+use Rattle.std.proofs.Common.{Option, Some, None, refl, IfSome, MatchOption, is_some}
 use Rattle.std.proofs.lemmas.List.{get_or-map, length-map}
-use Rattle.trlab_notes.specs.Reasons.{reason_number}
-use Rattle.trlab_verify.specs.declared.note.Note.{Note as Form}
-use Rattle.trlab_verify.specs.Tables.{AreVerdictNotes, empty_note, note_in, HasInputRanges, meaning, meaning_at, table_of, form_without_marks}
-use Rattle.trlab_verify.proofs.Verdicts.{incoming_settled}
-use Rattle.trlab_verify.specs.Verdict.{note_at, IsAccepted, IsRefused}
-use Rattle.trlab_verify.proofs.Inputs.{incoming_shows, closure_shows}
-use Rattle.trlab_verify.proofs.Runs.{fetch}
-use Rattle.trlab_verify.proofs.VerdictChecks.{noted}
+use Rattle.trlab_code.specs.declared.{program.Kind.Kind, instruction.Instr.Instr}
+use Rattle.trlab_notes.specs.{Notes.{Note, entry, closure, maybe_closure}, Reasons.reason_number}
+use Rattle.trlab_verify.specs.declared.{verdict.Rejection.Rejection, note.Note.Note as Form}
+use Rattle.trlab_verify.specs.Tables.{AreVerdictNotes, empty_note, note_in, HasInputRanges, meaning}
+use Rattle.trlab_verify.specs.Tables.{meaning_at, table_of, form_without_marks}
+use Rattle.trlab_verify.{specs.Verdict.{note_at, IsAccepted, IsRefused}, proofs.Verdicts.incoming_settled}
+use Rattle.trlab_verify.proofs.{Inputs.{incoming_shows, closure_shows}, Runs.fetch, VerdictChecks.noted}
 use Rattle.trlab_verify.proofs.table.judge_notes.Goals as goal
 
 refused_at : (kind : Kind) (code : List Instr) (o : Option Rejection) → true ≡ is_some o →

@@ -1,8 +1,6 @@
 use Rattle.std.proofs.Common.{◌≡◌, ◌∙◌, ◌<◌, ap, length, sym, subst, None, get_or-take}
-use Rattle.trlab_notes.specs.Reasons.{reason_number}
-use Rattle.trlab_notes.specs.Stored.{stored_note_at, maybe_note}
-use Rattle.trlab_verify.specs.Tables.{noted_count}
-use Rattle.trlab_verify.proofs.FirstNotes.{stored_note, first_notes}
+use Rattle.trlab_notes.specs.{Reasons.reason_number, Stored.{stored_note_at, maybe_note}}
+use Rattle.trlab_verify.{specs.Tables.noted_count, proofs.FirstNotes.{stored_note, first_notes}}
 use Rattle.trlab_verify.proofs.table.judge_rejected.Goals as goal
 
 pub write_all-requires : goal.write_all-requires

@@ -1,9 +1,7 @@
 use Rattle.std.specs.Prelude.{List, Result, Ok, Err, IfOk}
-use Rattle.trlab_code.specs.declared.program.Kind.{Kind}
-use Rattle.trlab_code.specs.Program.{Program}
+use Rattle.trlab_code.specs.{declared.program.Kind.Kind, Program.Program}
 use Rattle.trlab_notes.specs.Notes.{Note}
-use Rattle.trlab_verify.specs.Tables.{Checks, AreVerdictNotes, table_of}
-use Rattle.trlab_verify.specs.Verdict.{IsAccepted}
+use Rattle.trlab_verify.specs.{Tables.{Checks, AreVerdictNotes, table_of}, Verdict.IsAccepted}
 use Rattle.trlab_verify.proofs.VerdictChecks.{verdict_notes_check}
 use Rattle.trlab_verify.proofs.table.notes.Goals as goal
 

@@ -1,12 +1,10 @@
-use Rattle.std.proofs.Common.{◌≡◌, ◌∙◌, ◌+◌, ◌<◌, ℕ, Bool, true, false, List, Option, Some, None, length, nat_eq, get_or, refl, ap, sym, arith, [], ◌∷◌, ◌++◌, length-append}
-use Rattle.std.proofs.lemmas.Bool.{eqb-true, eqb-false}
-use Rattle.std.proofs.lemmas.List.{get_or_default, get_or_push}
+use Rattle.std.proofs.Common.{◌≡◌, ◌∙◌, ◌+◌, ◌<◌, ℕ, Bool, true, false, List, Option, Some, None, length}
+use Rattle.std.proofs.Common.{nat_eq, get_or, refl, ap, sym, arith, [], ◌∷◌, ◌++◌, length-append, eqb-true}
+use Rattle.std.proofs.lemmas.{Bool.eqb-false, List.{get_or_default, get_or_push}}
 use Rattle.trlab_code.specs.declared.program.Kind.{Kind}
-use Rattle.trlab_notes.specs.Notes.{Note, entry}
-use Rattle.trlab_notes.specs.Stored.{stored_note_at, maybe_note}
-use Rattle.trlab_verify.specs.declared.note.Note.{Note as Form}
-use Rattle.trlab_verify.specs.Tables.{meaning, meaning_at, form_without_marks}
-use Rattle.trlab_verify.proofs.Inputs.{same_shown, never_none}
+use Rattle.trlab_notes.specs.{Notes.{Note, entry}, Stored.{stored_note_at, maybe_note}}
+use Rattle.trlab_verify.specs.{declared.note.Note.Note as Form, Tables.{meaning, meaning_at}}
+use Rattle.trlab_verify.{specs.Tables.form_without_marks, proofs.Inputs.{same_shown, never_none}}
 use Rattle.trlab_verify.proofs.table.write_all.Goals as goal
 
 pub write_at-requires : goal.write_at-requires

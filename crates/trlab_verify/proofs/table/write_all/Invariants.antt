@@ -1,6 +1,5 @@
 use Rattle.std.proofs.Common.{◌≡◌, ℕ, ◌<◌, length, Some}
-use Rattle.trlab_notes.specs.Stored.{stored_note_at}
-use Rattle.trlab_notes.specs.Notes.{entry}
+use Rattle.trlab_notes.specs.{Stored.stored_note_at, Notes.entry}
 use Rattle.trlab_verify.specs.Tables.{meaning_at}
 use Rattle.trlab_verify.proofs.table.write_all.Given as goal
 

@@ -1,9 +1,8 @@
-use Rattle.std.proofs.Common.{◌∙◌, ap, cond, nat_eq, None}
-use Rattle.std.proofs.lemmas.List.{get_or_default}
+use Rattle.std.proofs.{Common.{◌∙◌, ap, cond, nat_eq, None}, lemmas.List.get_or_default}
 use Rattle.trlab_notes.specs.Stored.{stored_note_at}
 use Rattle.trlab_verify.proofs.Verdicts.{set_is, joins_none, joins_some}
-use Rattle.trlab_verify.proofs.verdict.add_incoming.Goals as goal
 use Rattle.trlab_verify.proofs.verdict.add_incoming.Goals.{in-None, in-Some}
+use Rattle.trlab_verify.proofs.verdict.add_incoming.Goals as goal
 
 pub returns : goal.returns
 returns c = λ q.

@@ -1,13 +1,10 @@
-use Rattle.std.proofs.Common.{◌≡◌, ◌∙◌, ℕ, ◌<◌, ◌≤◌, length, get_or, ap, sym, arith, None, below_more, add-one}
-use Rattle.trlab_code.specs.declared.instruction.Instr.TheVariants.{Num}
-use Rattle.trlab_code.specs.declared.instruction.Register.TheVariants.{R0}
-use Rattle.std.proofs.lemmas.Option.{slice_get-get_or}
-use Rattle.std.proofs.lemmas.List.{get_or_default}
-use Rattle.trlab_notes.specs.Stored.{note_of, stored_note_at, maybe_note}
-use Rattle.trlab_notes.specs.Notes.{maybe_closure}
-use Rattle.trlab_verify.specs.Verdict.{note_at}
-use Rattle.trlab_verify.proofs.Verdicts.{unreached, tested, one_more_kept, is_none, none_back, no_note, whose, reason_same}
+use Rattle.std.proofs.Common.{◌≡◌, ◌∙◌, ℕ, ◌<◌, ◌≤◌, length, get_or, ap, sym, arith, None, below_more}
+use Rattle.std.proofs.{Common.add-one, lemmas.{Option.slice_get-get_or, List.get_or_default}}
+use Rattle.trlab_code.specs.declared.instruction.{Instr.TheVariants.Num, Register.TheVariants.R0}
+use Rattle.trlab_notes.specs.{Stored.{note_of, stored_note_at, maybe_note}, Notes.maybe_closure}
 use Rattle.trlab_notes.proofs.Steps.{clear}
+use Rattle.trlab_verify.{specs.Verdict.note_at, proofs.Verdicts.{unreached, tested, one_more_kept, is_none}}
+use Rattle.trlab_verify.proofs.Verdicts.{none_back, no_note, whose, reason_same}
 use Rattle.trlab_verify.proofs.verdict.judge.Goals as goal
 
 below_same : {m n k : ℕ} (i : ℕ) → m ≡ n → n ≡ k → i < k → i < m
@@ -61,10 +58,10 @@ pub bounds : goal.bounds
 bounds c = below_same c.loop-pc.pc c.loop-pc.auto.notes c.requires.one_each c.loop-pc-test.true
 
 pub overflow_cast-result : goal.overflow_cast-result
-overflow_cast-result c = omega (arith, c.loop-pc-test.true, c.requires.few)
+overflow_cast-result c = omega (arith, c.loop-pc-test.true, c.requires.at_most_max_instructions)
 
 pub overflow_cast-result-in-Some-reason_against : goal.overflow_cast-result-in-Some-reason_against
-overflow_cast-result-in-Some-reason_against c = omega (arith, c.loop-pc-test.true, c.requires.few)
+overflow_cast-result-in-Some-reason_against c = omega (arith, c.loop-pc-test.true, c.requires.at_most_max_instructions)
 
 pub returns-clause-verdict : goal.returns-clause-verdict
 returns-clause-verdict c = λ p lt. c.loop-pc.invariant.no_fault p (omega (arith, lt, c.loop-pc-test.false))

@@ -1,6 +1,5 @@
 use Rattle.std.proofs.Common.{◌≡◌, ℕ, ◌<◌, ◌≤◌, length, None}
-use Rattle.trlab_notes.specs.Notes.{maybe_closure}
-use Rattle.trlab_notes.specs.Stored.{stored_note_at}
+use Rattle.trlab_notes.specs.{Notes.maybe_closure, Stored.stored_note_at}
 use Rattle.trlab_verify.specs.Verdict.{incoming, note_at, reason_number_at}
 use Rattle.trlab_verify.proofs.verdict.judge.Given as goal
 

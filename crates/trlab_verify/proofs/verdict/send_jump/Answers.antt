@@ -1,8 +1,6 @@
 use Rattle.std.proofs.Common.{◌≡◌, sym, ap, subst, Some}
-use Rattle.trlab_notes.specs.Transfer.{jump_note}
-use Rattle.trlab_notes.specs.Stored.{note_of, stored_note_at}
-use Rattle.trlab_verify.specs.Verdict.{add_note, if_here, is_target}
-use Rattle.trlab_verify.proofs.Verdicts.{edge_comes}
+use Rattle.trlab_notes.specs.{Transfer.jump_note, Stored.{note_of, stored_note_at}}
+use Rattle.trlab_verify.{specs.Verdict.{add_note, if_here, is_target}, proofs.Verdicts.edge_comes}
 use Rattle.trlab_verify.proofs.verdict.send_jump.Goals as goal
 
 pub returns-then-to-notes : goal.returns-then-to-notes

@@ -1,8 +1,6 @@
 use Rattle.std.proofs.Common.{◌≡◌, sym, cond, nat_eq, add-one, suc, Some}
-use Rattle.trlab_notes.specs.Transfer.{next_note}
-use Rattle.trlab_notes.specs.Stored.{note_of, stored_note_at}
-use Rattle.trlab_verify.specs.Verdict.{add_note}
-use Rattle.trlab_verify.proofs.Verdicts.{edge_comes}
+use Rattle.trlab_notes.specs.{Transfer.next_note, Stored.{note_of, stored_note_at}}
+use Rattle.trlab_verify.{specs.Verdict.add_note, proofs.Verdicts.edge_comes}
 use Rattle.trlab_verify.proofs.verdict.send_next.Goals as goal
 
 pub returns-in-Some : goal.returns-in-Some

@@ -1,8 +1,6 @@
 use Rattle.std.proofs.Common.{refl}
-use Rattle.trlab_verify.proofs.Accepted.{checked, forward}
-use Rattle.trlab_verify.proofs.Refusals.{called, own}
-use Rattle.trlab_verify.proofs.VerdictChecks.{table_checks}
-use Rattle.trlab_verify.proofs.Runs.{sound}
+use Rattle.trlab_verify.proofs.{Accepted.{checked, forward}, Refusals.{called, own}}
+use Rattle.trlab_verify.proofs.{VerdictChecks.table_checks, Runs.sound}
 use Rattle.trlab_verify.proofs.verify.verify_as.Goals as goal
 
 pub longest_path-budget-requires-clause-forward : goal.longest_path-budget-requires-clause-forward

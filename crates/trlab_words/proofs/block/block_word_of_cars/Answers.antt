@@ -1,7 +1,8 @@
-use Rattle.std.proofs.Common.{◌≡◌, ℕ, suc, ◌+◌, ◌*◌, ◌^◌, ◌<◌, List, refl, sym, ap, ap₂, slice_index, ◌∙◌, arith, add-one}
-use Rattle.rand_chacha.specs.Block.{add32, column_round, diagonal_round, double_rounds, block_word, initial_state}
-use Rattle.trlab_words.specs.FirstRound.{with_car, car_column}
-use Rattle.trlab_words.proofs.FirstRounds.{started, both_parts}
+use Rattle.std.proofs.Common.{◌≡◌, ℕ, suc, ◌+◌, ◌*◌, ◌^◌, ◌<◌, List, refl, sym, ap, ap₂, slice_index, ◌∙◌}
+use Rattle.std.proofs.Common.{arith, add-one}
+use Rattle.rand_chacha.specs.Block.{add32, column_round, diagonal_round, double_rounds, block_word}
+use Rattle.rand_chacha.specs.Block.{initial_state}
+use Rattle.trlab_words.{specs.States.{with_car, car_column}, proofs.FirstRounds.{started, both_parts}}
 use Rattle.trlab_words.proofs.block.block_word_of_cars.Goals as goal
 
 pub rounds-init : goal.rounds-init

@@ -1,7 +1,6 @@
 use Rattle.std.proofs.Common.{◌≡◌, ℕ, ◌<◌, List, slice_index}
 use Rattle.rand_chacha.specs.Block.{column_round, double_rounds}
-use Rattle.trlab_words.specs.FirstRound.{with_car, car_column}
-use Rattle.trlab_words.specs.States.{state_in}
+use Rattle.trlab_words.specs.States.{with_car, car_column, state_in}
 use Rattle.trlab_words.proofs.block.block_word_of_cars.Given as goal
 
 abbrev pub invariant-rounds : goal.invariant-rounds

@@ -1,4 +1,4 @@
-use Rattle.trlab_words.specs.FirstRound.{car_column}
+use Rattle.trlab_words.specs.States.{car_column}
 use Rattle.trlab_words.proofs.block.car_column.Goals as goal
 
 pub returns : goal.returns

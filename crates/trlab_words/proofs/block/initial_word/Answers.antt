@@ -1,5 +1,4 @@
-use Rattle.std.proofs.Common.{refl, ◌∙◌, ◌≡◌, arith}
-use Rattle.std.proofs.lemmas.Simd.{get_or-replicate}
+use Rattle.std.proofs.{Common.{refl, ◌∙◌, ◌≡◌, arith}, lemmas.Simd.get_or-replicate}
 use Rattle.trlab_words.proofs.FirstRounds.{slice_index-with_car}
 use Rattle.trlab_words.proofs.block.initial_word.Goals.{then-k-eq14, else-k-eq14}
 use Rattle.trlab_words.proofs.block.initial_word.Goals as goal

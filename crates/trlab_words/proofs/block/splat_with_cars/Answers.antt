@@ -1,5 +1,4 @@
-use Rattle.std.proofs.Common.{rules}
-use Rattle.std.proofs.lemmas.Simd.{get_or-replicate}
+use Rattle.std.proofs.{Common.rules, lemmas.Simd.get_or-replicate}
 use Rattle.trlab_words.proofs.LaneLemmas.{below_eight}
 use Rattle.trlab_words.proofs.block.splat_with_cars.Goals as goal
 

@@ -1,7 +1,6 @@
 use Rattle.std.proofs.Common.{◌≡◌, ℕ, List, [], ◌∷◌, slice_index, refl, sym, ap, ◌∙◌}
 use Rattle.rand_chacha.specs.Lanes.{lane}
-use Rattle.trlab_words.specs.States.{state_in}
-use Rattle.trlab_words.proofs.LaneLemmas.{slice_index-lane}
+use Rattle.trlab_words.{specs.States.state_in, proofs.LaneLemmas.slice_index-lane}
 use Rattle.trlab_words.proofs.block.word_of.Goals as goal
 
 pub returns : goal.returns

@@ -1,5 +1,4 @@
-use Rattle.std.proofs.Common.{◌≡◌, ◌≤◌, length, arith, rules}
-use Rattle.std.proofs.lemmas.List.FromFn.{fill_by_all}
+use Rattle.std.proofs.{Common.{◌≡◌, ◌≤◌, length, arith, rules}, lemmas.List.FromFn.fill_by_all}
 use Rattle.trlab_words.specs.Words.{random_words, random_word}
 use Rattle.trlab_words.proofs.key.words.Goals as goal
 

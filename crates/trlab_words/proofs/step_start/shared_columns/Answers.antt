@@ -1,4 +1,4 @@
-use Rattle.trlab_words.specs.FirstRound.{shared_columns}
+use Rattle.trlab_words.specs.States.{shared_columns}
 use Rattle.trlab_words.proofs.step_start.shared_columns.Goals as goal
 
 pub returns : goal.returns

@@ -1,5 +1,4 @@
-use Rattle.std.proofs.Math.Path.{fun_ext}
-use Rattle.std.proofs.lemmas.Map.Text.{btree_map_updates_str}
+use Rattle.std.proofs.{Math.Path.fun_ext, lemmas.Map.Text.btree_map_updates_str}
 use Rattle.trlab_asm.proofs.reading.Labels.add.Goals as goal
 
 pub returns : goal.returns

@@ -1,9 +1,6 @@
-use Rattle.std.proofs.Common.{◌↔◌, IsTrue, false, ap, subst}
-use Rattle.std.proofs.lemmas.Bool.{OnTrue_from, false≢true}
-use Rattle.trlab_sequential_book.specs.Answers.{give_back_reply}
-use Rattle.trlab_sequential_book.specs.Comparison.{RunsRoadOfItsJob, offered}
-use Rattle.trlab_sequential_book.specs.Machine.{BookState}
-use Rattle.trlab_sequential_book.specs.declared.event.Call.TheVariants.{GiveBack}
+use Rattle.std.proofs.{Common.{◌↔◌, IsTrue, false, ap, subst}, lemmas.Bool.{OnTrue_from, false≢true}}
+use Rattle.trlab_sequential_book.specs.{Histories.give_back_reply, Comparison.{RunsRoadOfItsJob, offered}}
+use Rattle.trlab_sequential_book.specs.{Machine.BookState, declared.event.Call.TheVariants.GiveBack}
 use Rattle.trlab_book.proofs.Replaying.{IsPut, makes_offered, put, replays_put, tells_put}
 use Rattle.trlab_book.proofs.kept.Kept.give_back.Goals as goal
 
@@ -27,5 +24,5 @@ returns-clause-noted c =
 pub returns-clause-returned : goal.returns-clause-returned
 returns-clause-returned c = c.give_back_as-answer.ensures.returned
 
-pub returns-clause-full : goal.returns-clause-full
-returns-clause-full c = tells_put c.args.self.now c.make_room.new.self (give_back_reply c.give_back_as-answer.result) c.make_room.ensures.unchanged (event c.before)
+pub returns-clause-full_history : goal.returns-clause-full_history
+returns-clause-full_history c = tells_put c.args.self.now c.make_room.new.self (give_back_reply c.give_back_as-answer.result) c.make_room.ensures.unchanged (event c.before)

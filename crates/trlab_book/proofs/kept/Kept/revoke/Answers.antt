@@ -1,7 +1,5 @@
-use Rattle.std.proofs.Common.{refl, false}
-use Rattle.std.proofs.lemmas.Bool.{false≢true}
-use Rattle.trlab_sequential_book.specs.Answers.{done_reply}
-use Rattle.trlab_sequential_book.specs.declared.event.Call.TheVariants.{Revoke}
+use Rattle.std.proofs.{Common.{refl, false}, lemmas.Bool.{false≢true}}
+use Rattle.trlab_sequential_book.specs.{Histories.done_reply, declared.event.Call.TheVariants.Revoke}
 use Rattle.trlab_book.proofs.Replaying.{IsPut, makes_put, put, replays_put, tells_put}
 use Rattle.trlab_book.proofs.kept.Kept.revoke.Goals as goal
 
@@ -15,5 +13,5 @@ invariant_of-self c = record { replays = replays_put (event c) c.make_room.new.s
 pub returns-clause-made : goal.returns-clause-made
 returns-clause-made c = makes_put c.args.self.now c.make_room.new.self _ (Revoke c.args.job) (done_reply c.revoke-answer.result) c.make_room.ensures.unchanged (event c.before)
 
-pub returns-clause-full : goal.returns-clause-full
-returns-clause-full c = tells_put c.args.self.now c.make_room.new.self (done_reply c.revoke-answer.result) c.make_room.ensures.unchanged (event c.before)
+pub returns-clause-full_history : goal.returns-clause-full_history
+returns-clause-full_history c = tells_put c.args.self.now c.make_room.new.self (done_reply c.revoke-answer.result) c.make_room.ensures.unchanged (event c.before)

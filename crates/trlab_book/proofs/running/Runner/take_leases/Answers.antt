@@ -1,4 +1,4 @@
-use Rattle.trlab_book.specs.Turns.{Free, Through}
+use Rattle.trlab_book.specs.Turns.{Free, Finished}
 use Rattle.trlab_book.proofs.GoingOn.{ended_after, goes_both, one_ended, rests}
 use Rattle.trlab_book.proofs.running.Runner.take_leases.Goals as goal
 
@@ -8,7 +8,7 @@ loop-init g c = (tt, tt, rests Free c.args.desk.now)
 pub returns-in-Some-take_free : goal.returns-in-Some-take_free
 returns-in-Some-take_free g c =
     one_ended c.in-Some-take_free.ended c.args.desk.now c.take_free.new.desk
-    (ended_after Free Free Through 1 c.in-Some-take_free.ended c.args.desk.now c.loop.desk c.take_free.new.desk c.loop.invariant.2 c.in-Some-take_free.ensures)
+    (ended_after Free Free Finished 1 c.in-Some-take_free.ended c.args.desk.now c.loop.desk c.take_free.new.desk c.loop.invariant.2 c.in-Some-take_free.ensures)
 
 pub loop-preserved : goal.loop-preserved
 loop-preserved g c = (tt, tt, goes_both Free Free Free c.args.desk.now c.loop.desk c.take_free.new.desk c.loop.invariant.2 c.in_default.ensures)

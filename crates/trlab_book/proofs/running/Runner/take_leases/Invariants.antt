@@ -1,5 +1,4 @@
-use Rattle.trlab_book.specs.Desks.{Goes}
-use Rattle.trlab_book.specs.Turns.{Free}
+use Rattle.trlab_book.specs.{Desks.Goes, Turns.Free}
 use Rattle.trlab_book.proofs.running.Runner.take_leases.Given as goal
 
 abbrev pub invariant-loop : goal.invariant-loop

@@ -1,9 +1,9 @@
-use Rattle.std.proofs.Common.{◌≡◌, ◌<◌, ◌++◌, ◌∙◌, take, arith, refl, sym, ap, append-nil, length, length-append, length-take}
-use Rattle.std.proofs.lemmas.List.{take-append-le}
+use Rattle.std.proofs.Common.{◌≡◌, ◌<◌, ◌++◌, ◌∙◌, take, arith, refl, sym, ap, append-nil, length}
+use Rattle.std.proofs.{Common.{length-append, length-take}, lemmas.{List.take-append-le, Bool.{false≢true}}}
 use Rattle.std.proofs.Math.Bool.{or-false}
-use Rattle.std.proofs.lemmas.Bool.{false≢true}
 use Rattle.trlab_bounds.specs.declared.texts.TheConstants.{TEXT_LIMIT}
-use Rattle.trlab_campaign.proofs.KnownBytes.{consumes_more, consumes_none, consumes_kept, consumes_last, given_last, given_more, given_more_none, read_over, read_whole}
+use Rattle.trlab_campaign.proofs.KnownBytes.{consumes_more, consumes_none, consumes_kept, consumes_last}
+use Rattle.trlab_campaign.proofs.KnownBytes.{given_last, given_more, given_more_none, read_over, read_whole}
 use Rattle.trlab_campaign.proofs.device.whole.read_text.Goals as goal
 
 pub loop-piece-init : goal.loop-piece-init

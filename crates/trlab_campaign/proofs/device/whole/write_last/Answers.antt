@@ -1,8 +1,5 @@
-use Rattle.std.proofs.Common.{ap, inl, inr, ◌∙◌}
-use Rattle.std.proofs.Math.Bool.{or-false}
-use Rattle.std.proofs.lemmas.Result.{err_from_is_err_and}
-use Rattle.trlab_campaign.specs.Flushes.{once_more}
-use Rattle.trlab_campaign.proofs.WrittenBytes.{adds_kept, prefix_kept}
+use Rattle.std.proofs.{Common.{ap, inl, inr, ◌∙◌}, Math.Bool.or-false, lemmas.Result.err_from_is_err_and}
+use Rattle.trlab_campaign.{specs.Device.once_more, proofs.WrittenBytes.{adds_kept, prefix_kept}}
 use Rattle.trlab_campaign.proofs.device.whole.write_last.Goals as goal
 
 pub returns-in_err-write_text : goal.returns-in_err-write_text

@@ -1,6 +1,4 @@
-use Rattle.std.proofs.Common.{◌∙◌, arith, refl}
-use Rattle.std.proofs.Math.Bool.{or-false}
-use Rattle.std.proofs.lemmas.Grind.{common_steps}
+use Rattle.std.proofs.{Common.{◌∙◌, arith, refl}, Math.Bool.or-false, lemmas.Grind.common_steps}
 use Rattle.std.proofs.lemmas.Result.{err_from_is_err_and}
 use Rattle.trlab_campaign.proofs.WrittenBytes.{adds_kept, adds_none, adds_part, adds_whole, nothing_taken}
 use Rattle.trlab_campaign.proofs.device.whole.write_text.Goals as goal

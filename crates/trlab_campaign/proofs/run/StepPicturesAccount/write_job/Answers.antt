@@ -1,6 +1,5 @@
 use Rattle.std.proofs.Common.{ap, refl}
-use Rattle.trlab_jobs.specs.Job.{Job}
-use Rattle.trlab_jobs.specs.Stored.{IsStoredJob}
+use Rattle.trlab_jobs.specs.{Job.Job, Stored.IsStoredJob}
 use Rattle.trlab_campaign.proofs.run.StepPicturesAccount.write_job.Goals as goal
 
 pub returns : goal.returns

@@ -1,10 +1,11 @@
-use Rattle.std.proofs.Common.{◌≡◌, ◌⊎◌, ℕ, List, true, inl, inr, ⊎_elim, eqb, arith, rules}
-use Rattle.std.specs.List.{starts_with, slice_index}
+use Rattle.std.proofs.Common.{◌≡◌, ◌⊎◌, ℕ, List, true, inl, inr, ⊎_elim, eqb, arith, rules, slice_index}
+use Rattle.std.specs.List.{starts_with}
 use Rattle.trlab_bounds.specs.declared.programs.TheConstants.{MAGIC}
 use Rattle.trlab_code.specs.declared.program.Kind.TheVariants.{Motion, Change}
 use Rattle.trlab_code.specs.Faults.{HasMagic, HasVersion, HasKind, HasCount, HasValidHeader}
+use Rattle.trlab_code.proofs.encoding.Header.read.Goals.{in-0, in-1, then-count-eq0-via-then-count-eq0}
+use Rattle.trlab_code.proofs.encoding.Header.read.Goals.{then-count-eq0-via-else-count-eq0+then-count-gt-MAX_INSTRUCTIONS}
 use Rattle.trlab_code.proofs.encoding.Header.read.Goals as goal
-use Rattle.trlab_code.proofs.encoding.Header.read.Goals.{in-0, in-1, then-count-eq0-via-then-count-eq0, then-count-eq0-via-else-count-eq0+then-count-gt-MAX_INSTRUCTIONS}
 
 has_magic : (bytes : List ℕ) → true ≡ starts_with eqb bytes MAGIC → HasMagic bytes
 has_magic bytes h = search rules

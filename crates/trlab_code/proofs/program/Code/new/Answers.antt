@@ -1,5 +1,4 @@
-use Rattle.std.proofs.Common.{refl, rules, arith}
-use Rattle.std.proofs.lemmas.Grind.{common_steps}
+use Rattle.std.proofs.{Common.{refl, rules, arith}, lemmas.Grind.common_steps}
 use Rattle.trlab_code.proofs.program.Code.new.Goals as goal
 
 pub returns-then-is_empty-clause-exact : goal.returns-then-is_empty-clause-exact

@@ -1,5 +1,4 @@
-use Rattle.std.proofs.Common.{rules, ◌≡◌, ◌∙◌, ap}
-use Rattle.std.proofs.lemmas.Result.{IfOk-weaker}
+use Rattle.std.proofs.{Common.{rules, ◌≡◌, ◌∙◌, ap}, lemmas.Result.IfOk-weaker}
 use Rattle.clap.specs.Simple.{app_of, app_of_fields}
 use Rattle.trlab_command_line.specs.CommandLine.{program}
 use Rattle.trlab_command_line.proofs.arguments.commands.program.Goals as goal

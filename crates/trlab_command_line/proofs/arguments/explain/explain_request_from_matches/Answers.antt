@@ -1,8 +1,6 @@
 use Rattle.std.proofs.Common.{◌≡◌, ◌∙◌, ap, codes, inl, inr, subst, sym}
-use Rattle.clap.specs.Kinds.{HasKind}
-use Rattle.clap.specs.Words.{found_of, rows_of}
-use Rattle.clap.proofs.WalkLemmas.{first_value-rows}
-use Rattle.trlab_command_line.specs.Explains.{request_from_matches, error_kinds}
+use Rattle.clap.{specs.{Kinds.HasKind, Words.{found_of, rows_of}}, proofs.WalkLemmas.first_value-rows}
+use Rattle.trlab_command_line.specs.CommandLine.{request_from_matches, error_kinds}
 use Rattle.trlab_command_line.proofs.Matches.{explained_same}
 use Rattle.trlab_command_line.proofs.arguments.explain.explain_request_from_matches.Goals as goal
 

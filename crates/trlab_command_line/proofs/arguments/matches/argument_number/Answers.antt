@@ -1,7 +1,6 @@
 use Rattle.std.proofs.Common.{◌∙◌}
 use Rattle.std.specs.Str.Parse.{ParsesUnsigned, ExplainsUnsignedError, HasUnsignedDigitsIfOk}
-use Rattle.clap.specs.Words.{found_of, rows_of}
-use Rattle.clap.proofs.WalkLemmas.{one_text-rows}
+use Rattle.clap.{specs.Words.{found_of, rows_of}, proofs.WalkLemmas.one_text-rows}
 use Rattle.trlab_command_line.proofs.Matches.{the_number_in}
 use Rattle.trlab_command_line.proofs.arguments.matches.argument_number.Goals as goal
 

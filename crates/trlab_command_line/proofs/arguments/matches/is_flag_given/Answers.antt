@@ -1,6 +1,5 @@
 use Rattle.std.proofs.Common.{◌∙◌}
-use Rattle.clap.specs.Words.{found_of, rows_of}
-use Rattle.clap.proofs.WalkLemmas.{one_text-rows}
+use Rattle.clap.{specs.Words.{found_of, rows_of}, proofs.WalkLemmas.one_text-rows}
 use Rattle.trlab_command_line.proofs.Matches.{the_flag}
 use Rattle.trlab_command_line.proofs.arguments.matches.is_flag_given.Goals as goal
 

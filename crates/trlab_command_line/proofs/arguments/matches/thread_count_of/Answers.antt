@@ -7,5 +7,5 @@ option_number-requires c = (1, MAX_WORKERS, c.requires.0, omega arith, c.require
 
 pub returns : goal.returns
 returns c =
-    let within = c.option_number.ensures.within 1 MAX_WORKERS c.requires.0 (omega arith) c.requires.1 in
-    record { number = c.option_number.ensures.number; some = within.0; few = within.1 }
+    let within = c.option_number.ensures.in_range 1 MAX_WORKERS c.requires.0 (omega arith) c.requires.1 in
+    record { number = c.option_number.ensures.number; at_least_one = within.0; at_most_max_workers = within.1 }

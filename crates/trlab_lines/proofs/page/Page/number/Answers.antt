@@ -1,7 +1,5 @@
-use Rattle.std.proofs.lemmas.List.Elements.{All-same}
-use Rattle.trlab_lines.specs.Plain.{IsPlain}
-use Rattle.std.proofs.Common.{◌∙◌, decimal}
-use Rattle.trlab_lines.proofs.PlainDigits.{plain_digits}
+use Rattle.std.proofs.{lemmas.List.Elements.All-same, Common.{◌∙◌, decimal}}
+use Rattle.trlab_lines.{specs.Plain.IsPlain, proofs.PlainDigits.plain_digits}
 use Rattle.trlab_lines.proofs.page.Page.number.Goals as goal
 
 pub put-requires : goal.put-requires

@@ -1,6 +1,4 @@
-use Rattle.std.proofs.Common.{◌≤◌, arith, length, append-nil}
-use Rattle.std.proofs.lemmas.Bool.{le-ltb}
-use Rattle.std.proofs.lemmas.List.{take_all}
+use Rattle.std.proofs.Common.{◌≤◌, arith, length, append-nil, le-ltb, take_all}
 use Rattle.trlab_lines.specs.declared.page.TheConstants.{MAX_QUOTED}
 use Rattle.trlab_lines.proofs.page.Page.quote.Goals as goal
 

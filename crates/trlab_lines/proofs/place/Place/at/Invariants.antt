@@ -1,6 +1,5 @@
 use Rattle.std.proofs.Common.{◌≡◌, length}
-use Rattle.trlab_lines.specs.Lines.{line_at, lines_of}
-use Rattle.trlab_lines.proofs.Places.{IsUnread}
+use Rattle.trlab_lines.{specs.Lines.{line_at, lines_of}, proofs.Places.IsUnread}
 use Rattle.trlab_lines.proofs.place.Place.at.Given as goal
 
 abbrev pub invariant-loop-line : goal.invariant-loop-line

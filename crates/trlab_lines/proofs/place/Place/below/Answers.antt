@@ -1,7 +1,6 @@
-use Rattle.std.proofs.Common.{◌≡◌, ◌+◌, ◌++◌, ◌∙◌, ℕ, List, Some, option_map, sym, ap, drop, length, min, take, Bor}
-use Rattle.std.proofs.lemmas.List.{take-append-drop}
-use Rattle.trlab_lines.specs.Lines.{line_at, lines_of}
-use Rattle.trlab_lines.proofs.Places.{behind_cut, below_end, below_line}
+use Rattle.std.proofs.Common.{◌≡◌, ◌+◌, ◌++◌, ◌∙◌, ℕ, List, Some, option_map, sym, ap, drop, length, min}
+use Rattle.std.proofs.Common.{take, Bor, take-append-drop}
+use Rattle.trlab_lines.{specs.Lines.{line_at, lines_of}, proofs.Places.{behind_cut, below_end, below_line}}
 use Rattle.trlab_lines.proofs.place.Place.below.Goals.{in-Some, in-None}
 use Rattle.trlab_lines.proofs.place.Place.below.Goals as goal
 

@@ -1,9 +1,6 @@
 use Rattle.std.proofs.Common.{◌∙◌, ap, sym, rules, get_or, set}
-use Rattle.trlab_notes.specs.declared.note.AbstractValue.TheVariants.{Nothing}
-use Rattle.trlab_notes.specs.Notes.{closure}
-use Rattle.trlab_notes.specs.Transfer.{assign, result_to, to_result}
-use Rattle.trlab_notes.specs.Rows.{level_in}
-use Rattle.trlab_notes.specs.Stored.{note_of}
+use Rattle.trlab_notes.specs.{declared.note.AbstractValue.TheVariants.Unknown, Notes.closure}
+use Rattle.trlab_notes.specs.{Transfer.{assign, result_to, to_result}, Rows.level_in, Stored.note_of}
 use Rattle.trlab_notes.proofs.Tables.{after_is, after_tells, after_back, corner}
 use Rattle.trlab_notes.proofs.rows.StoredNote.assign_result.Goals as goal
 
@@ -15,7 +12,7 @@ invariant_of-result c =
     let inside = c.number-variable.ensures.in_range in
     record {
       ranges = after_tells a d s (level_in c.result_to.result) (level_in c.to_result.result) c.with_variable.result (level_in c.known_row_and_column.result.0) (level_in c.known_row_and_column.result.1) inside (search rules) c.known_row_and_column.ensures.to c.known_row_and_column.ensures.from c.with_variable.ensures;
-      transposed = after_back a d c.with_variable.result c.with_variable-2.result (level_in c.known_row_and_column.result.0) (level_in c.known_row_and_column.result.1) (c.known_row_and_column.ensures.to d inside ∙ corner (get_or (set a.values d s) d Nothing) d (level_in c.result_to.result d) (level_in c.to_result.result d) ∙ sym (c.known_row_and_column.ensures.from d inside)) c.with_variable.ensures c.with_variable-2.ensures;
+      transposed = after_back a d c.with_variable.result c.with_variable-2.result (level_in c.known_row_and_column.result.0) (level_in c.known_row_and_column.result.1) (c.known_row_and_column.ensures.to d inside ∙ corner (get_or (set a.values d s) d Unknown) d (level_in c.result_to.result d) (level_in c.to_result.result d) ∙ sym (c.known_row_and_column.ensures.from d inside)) c.with_variable.ensures c.with_variable-2.ensures;
     }
 
 pub returns : goal.returns

@@ -1,8 +1,6 @@
 use Rattle.std.proofs.Common.{◌∙◌, ap, sym}
 use Rattle.trlab_code.specs.Machine.{variable_number}
-use Rattle.trlab_notes.specs.Rows.{level_of}
-use Rattle.trlab_notes.proofs.Variables.{below}
-use Rattle.trlab_notes.proofs.Tables.{known_is}
+use Rattle.trlab_notes.{specs.Rows.level_of, proofs.{Variables.below, Tables.known_is}}
 use Rattle.trlab_notes.proofs.rows.StoredNote.column.Goals as goal
 
 pub returns : goal.returns

@@ -1,7 +1,6 @@
 use Rattle.std.proofs.Common.{◌∙◌, sym, arith}
 use Rattle.trlab_code.specs.Machine.{variable_number}
-use Rattle.trlab_notes.proofs.Variables.{below}
-use Rattle.trlab_notes.proofs.Tables.{known_is}
+use Rattle.trlab_notes.proofs.{Variables.below, Tables.known_is}
 use Rattle.trlab_notes.proofs.rows.StoredNote.levels.Goals as goal
 
 pub returns : goal.returns

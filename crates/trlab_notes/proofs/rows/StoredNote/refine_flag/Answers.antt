@@ -1,6 +1,5 @@
-use Rattle.trlab_notes.proofs.Tables.{trust_is}
+use Rattle.trlab_notes.proofs.{Tables.trust_is, rows.StoredNote.refine_flag.Goals.{then-self, else-self}}
 use Rattle.trlab_notes.proofs.rows.StoredNote.refine_flag.Goals as goal
-use Rattle.trlab_notes.proofs.rows.StoredNote.refine_flag.Goals.{then-self, else-self}
 
 pub returns : goal.returns
 returns c = trust_is c.args.self.now c.args.register c.if-self.result (elim c.if-self.branch [

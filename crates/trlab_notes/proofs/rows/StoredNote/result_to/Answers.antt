@@ -1,6 +1,5 @@
 use Rattle.trlab_code.specs.Machine.{variable_number}
-use Rattle.trlab_notes.specs.Transfer.{slacken}
-use Rattle.trlab_notes.proofs.Bits.{sum_levels}
+use Rattle.trlab_notes.{specs.Transfer.slacken, proofs.Bits.sum_levels}
 use Rattle.trlab_notes.proofs.rows.StoredNote.result_to.Goals as goal
 
 pub returns-in-Add : goal.returns-in-Add

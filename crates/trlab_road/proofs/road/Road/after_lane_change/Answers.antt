@@ -10,8 +10,8 @@ change_lanes-requires-clause-two c =
     let e = lanes_count c.self.inside.cells c.self.inside.lanes.items c.self.inside.limit c.self.invariant in
     rw c.deref.ensures.value (omega (arith, two, e))
 
-pub change_lanes-requires-clause-small : goal.change_lanes-requires-clause-small
-change_lanes-requires-clause-small c = few_cells c.self.inside.cells c.self.inside.lanes.items c.self.inside.limit c.self.invariant
+pub change_lanes-requires-clause-at_most_max_length : goal.change_lanes-requires-clause-at_most_max_length
+change_lanes-requires-clause-at_most_max_length c = few_cells c.self.inside.cells c.self.inside.lanes.items c.self.inside.limit c.self.invariant
 
 pub change_lanes-requires-clause-sorted : goal.change_lanes-requires-clause-sorted
 change_lanes-requires-clause-sorted c = rw c.deref.ensures.value c.self.invariant.sorted

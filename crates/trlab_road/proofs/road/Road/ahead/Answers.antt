@@ -1,10 +1,8 @@
 use Rattle.std.proofs.Common.{◌≡◌, ◌∙◌, ℕ, List, [], Vec, Global, get_or, sym, ap, subst}
-use Rattle.trlab_road.specs.LaneCars.{LaneCar}
-use Rattle.trlab_road.specs.Cells.{Lane}
-use Rattle.trlab_road.specs.Gaps.{gap, headspeed}
-use Rattle.trlab_road.specs.Stored.{IsFoundAt, cells_of, lanes_from, list_at, place_of}
-use Rattle.trlab_road.proofs.Headspeeds.{headspeed_within}
-use Rattle.trlab_road.proofs.ListRoads.{below_counted, found_by, found_in_order, lane_from, few_cells, length_first}
+use Rattle.trlab_road.specs.{Stored.{LaneCar, IsFoundAt, cells_of, lanes_from, list_at, place_of}, Cells.Lane}
+use Rattle.trlab_road.{specs.Gaps.{gap, headspeed}, proofs.Headspeeds.headspeed_within}
+use Rattle.trlab_road.proofs.ListRoads.{below_counted, found_by, found_in_order, lane_from, few_cells}
+use Rattle.trlab_road.proofs.ListRoads.{length_first}
 use Rattle.trlab_road.proofs.road.Road.ahead.Goals as goal
 
 pub find-lane-requires-clause-below : goal.find-lane-requires-clause-below
@@ -12,8 +10,8 @@ find-lane-requires-clause-below c =
     let low = rw (← c.self.view_is) at c.requires in
     rw c.deref.ensures.value (below_counted c.self.inside.cells c.self.inside.lanes.items c.self.inside.limit c.self.invariant c.args.k low)
 
-pub look_ahead-requires-clause-small : goal.look_ahead-requires-clause-small
-look_ahead-requires-clause-small c = few_cells c.self.inside.cells c.self.inside.lanes.items c.self.inside.limit c.self.invariant
+pub look_ahead-requires-clause-at_most_max_length : goal.look_ahead-requires-clause-at_most_max_length
+look_ahead-requires-clause-at_most_max_length c = few_cells c.self.inside.cells c.self.inside.lanes.items c.self.inside.limit c.self.invariant
 
 -- the result for the list that was searched is the result for the lane
 told : (look : Lane → ℕ → ℕ) (n : ℕ) (lists given : List (Vec LaneCar Global)) (k l i v : ℕ) (cars : List LaneCar) → IsFoundAt lists k l i → given ≡ lists → cars ≡ list_at given l → v ≡ look (cells_of n cars) (place_of cars i)
@@ -46,10 +44,10 @@ returns-clause-headspeed c =
     (told headspeed n lists _ _ _ _ c.look_ahead.result.headspeed _ f c.deref-2.ensures.value c.list_of.ensures c.look_ahead.ensures.headspeed))
 
 pub returns-clause-below : goal.returns-clause-below
-returns-clause-below c = rw (← c.self.view_is, length_first c.self.inside.cells c.self.inside.lanes.items c.self.inside.limit c.self.invariant) c.look_ahead.ensures.within
+returns-clause-below c = rw (← c.self.view_is, length_first c.self.inside.cells c.self.inside.lanes.items c.self.inside.limit c.self.invariant) c.look_ahead.ensures.in_range
 
-pub returns-clause-within : goal.returns-clause-within
-returns-clause-within c =
+pub returns-clause-at_most_limit : goal.returns-clause-at_most_limit
+returns-clause-at_most_limit c =
     let n = c.self.inside.cells in
     let lists = c.self.inside.lanes.items in
     let f = subst (λ (ls : List (Vec LaneCar Global)). IsFoundAt ls c.args.k c.find-lane.result.0 c.find-lane.result.1) c.deref.ensures.value c.find-lane.ensures in

@@ -1,12 +1,12 @@
-use Rattle.std.proofs.Common.{◌≡◌, ◌<◌, ◌≤◌, ◌-◌, ◌∙◌, ℕ, false, List, [], Vec, Global, length, get_or, sum_by, sym, ap, arith}
+use Rattle.std.proofs.Common.{◌≡◌, ◌<◌, ◌≤◌, ◌-◌, ◌∙◌, ℕ, false, List, [], Vec, Global, length, get_or}
+use Rattle.std.proofs.Common.{sum_by, sym, ap, arith}
 use Rattle.trlab_bounds.specs.declared.roads.TheConstants.{MAX_LANES}
-use Rattle.trlab_road.specs.declared.gaps.SideGaps.{SideGaps}
-use Rattle.trlab_road.specs.LaneCars.{LaneCar}
-use Rattle.trlab_road.specs.Cells.{Cells, Lane, cars_before, lane_car_count}
-use Rattle.trlab_road.specs.Gaps.{side, sideback, sidegap}
+use Rattle.trlab_road.specs.{declared.gaps.SideGaps.SideGaps, Stored.{LaneCar, IsFoundAt, IsListedRoad}}
+use Rattle.trlab_road.specs.Stored.{DescribesSideCell, cells_of, lanes_from, list_at, lists_of, place_of}
+use Rattle.trlab_road.specs.{Cells.{Cells, Lane, cars_before, lane_car_count}, Gaps.{side, sideback, sidegap}}
 use Rattle.trlab_road.specs.LaneChange.{IsValueOnOtherLane, IsGapOnOtherLane, sides}
-use Rattle.trlab_road.specs.Stored.{IsFoundAt, IsListedRoad, DescribesSideCell, cells_of, lanes_from, list_at, lists_of, place_of}
-use Rattle.trlab_road.proofs.ListRoads.{below_counted, few_cells, few_lists, found_by, found_in_order, found_inside, found_later, lane_from, lanes_count, length_first}
+use Rattle.trlab_road.proofs.ListRoads.{below_counted, few_cells, few_lists, found_by, found_in_order}
+use Rattle.trlab_road.proofs.ListRoads.{found_inside, found_later, lane_from, lanes_count, length_first}
 use Rattle.trlab_road.proofs.road.Road.beside.Goals as goal
 
 -- the correct result for the k-th car in standing order
@@ -50,11 +50,11 @@ module _ (n : ℕ) (lists : List (Vec LaneCar Global)) (limit k l i x : ℕ) (ow
 found_first : (lists : List (Vec LaneCar Global)) (k : ℕ) → 0 < length lists → k < length (list_at lists 0) → IsFoundAt lists k 0 k
 found_first lists k some low = record { on_lane = some; low = low; order = omega arith }
 
-pub look_beside-requires-clause-small : goal.look_beside-requires-clause-small
-look_beside-requires-clause-small c = few_cells c.self.inside.cells c.self.inside.lanes.items c.self.inside.limit c.self.invariant
+pub look_beside-requires-clause-at_most_max_length : goal.look_beside-requires-clause-at_most_max_length
+look_beside-requires-clause-at_most_max_length c = few_cells c.self.inside.cells c.self.inside.lanes.items c.self.inside.limit c.self.invariant
 
-pub look_beside-requires-else-index-first-clause-small : goal.look_beside-requires-else-index-first-clause-small
-look_beside-requires-else-index-first-clause-small c = few_cells c.self.inside.cells c.self.inside.lanes.items c.self.inside.limit c.self.invariant
+pub look_beside-requires-else-index-first-clause-at_most_max_length : goal.look_beside-requires-else-index-first-clause-at_most_max_length
+look_beside-requires-else-index-first-clause-at_most_max_length c = few_cells c.self.inside.cells c.self.inside.lanes.items c.self.inside.limit c.self.invariant
 
 -- the lists of the two lanes
 two_lists : (lists : List (Vec LaneCar Global)) (road : ℕ) → road ≡ 2 → road ≡ length lists → (0 < length lists) × (1 < length lists)

@@ -1,7 +1,5 @@
 use Rattle.std.proofs.Common.{◌∙◌, ap, refl, sym, subst}
-use Rattle.trlab_road.specs.Stored.{lists_of}
-use Rattle.trlab_road.specs.Legal.{IsLegal}
-use Rattle.trlab_road.proofs.SameLists.{same_road, same_sorted}
+use Rattle.trlab_road.{specs.{Stored.lists_of, Cells.IsLegal}, proofs.SameLists.{same_road, same_sorted}}
 use Rattle.trlab_road.proofs.road.Road.copy.Goals as goal
 
 pub invariant_of-result : goal.invariant_of-result

@@ -1,9 +1,7 @@
-use Rattle.std.proofs.Common.{◌≡◌, ◌∙◌, sym, ap}
-use Rattle.std.proofs.lemmas.Bool.{eqb-true, eq-eqb}
-use Rattle.trlab_road.specs.Stored.{lists_of}
-use Rattle.trlab_road.proofs.SameLists.{same_road, told_limit, told_length, told_road}
+use Rattle.std.proofs.Common.{◌≡◌, ◌∙◌, sym, ap, eqb-true, eq-eqb}
+use Rattle.trlab_road.{specs.Stored.lists_of, proofs.SameLists.{same_road, told_limit, told_length}}
+use Rattle.trlab_road.proofs.{SameLists.told_road, road.Road.equals.Goals.{then-self-other, else-self-other}}
 use Rattle.trlab_road.proofs.road.Road.equals.Goals as goal
-use Rattle.trlab_road.proofs.road.Road.equals.Goals.{then-self-other, else-self-other}
 
 pub returns-then-self-other-2 : goal.returns-then-self-other-2
 returns-then-self-other-2 c =

@@ -1,13 +1,8 @@
 use Rattle.std.proofs.Common.{◌≡◌, ◌<◌, ℕ, List, Vec, Global, length, refl, sym, subst, ◌∙◌, arith}
-use Rattle.std.proofs.lemmas.List.{length-map}
-use Rattle.trlab_road.specs.LaneCars.{LaneCar}
-use Rattle.trlab_road.specs.Cells.{Lane}
-use Rattle.trlab_road.specs.Spreading.{IsEvenlySpacedLane, IsEvenlySpaced}
-use Rattle.trlab_road.specs.Stored.{cells_of, lanes_from, list_at}
-use Rattle.trlab_road.proofs.EvenRoads.{even_legal, even_count}
-use Rattle.trlab_road.proofs.ListRoads.{lane_from}
-use Rattle.trlab_road.proofs.EvenExists.{told_fault, told_road}
-use Rattle.std.proofs.lemmas.Result.{err_from_is_err_and}
+use Rattle.std.proofs.lemmas.{List.length-map, Result.err_from_is_err_and}
+use Rattle.trlab_road.specs.{Stored.{LaneCar, cells_of, lanes_from, list_at}, Cells.Lane}
+use Rattle.trlab_road.{specs.Spreading.{IsEvenlySpacedLane, IsEvenlySpaced}, proofs.EvenRoads.even_legal}
+use Rattle.trlab_road.proofs.{EvenRoads.even_count, ListRoads.lane_from, EvenExists.{told_fault, told_road}}
 use Rattle.trlab_road.proofs.road.Road.even.Goals as goal
 
 -- even lists make an even road
@@ -36,8 +31,8 @@ pub returns-clause-legal : goal.returns-clause-legal
 returns-clause-legal c =
     even_legal _ _ _ _ _ c.in_ok-check_even.ensures (road_of c.args.lanes c.args.cells c.args.limit c.args.count c.in_ok-lanes.lanes.items c.in_ok-lanes.ensures.same_lanes c.in_ok-lanes.ensures.each_lane)
 
-pub returns-in_err-check_even-clause-told : goal.returns-in_err-check_even-clause-told
-returns-in_err-check_even-clause-told c = let p = err_from_is_err_and c.from_residual.result c.from_residual.ensures.1 in rw (p.1, p.2) (told_fault c.args.lanes c.args.cells c.args.limit c.args.count _ c.in_err-check_even.ensures)
+pub returns-in_err-check_even-clause-reported : goal.returns-in_err-check_even-clause-reported
+returns-in_err-check_even-clause-reported c = let p = err_from_is_err_and c.from_residual.result c.from_residual.ensures.1 in rw (p.1, p.2) (told_fault c.args.lanes c.args.cells c.args.limit c.args.count _ c.in_err-check_even.ensures)
 
-pub returns-clause-told : goal.returns-clause-told
-returns-clause-told c = told_road c.args.lanes c.args.cells c.args.limit c.args.count _ c.in_ok-check_even.ensures
+pub returns-clause-reported : goal.returns-clause-reported
+returns-clause-reported c = told_road c.args.lanes c.args.cells c.args.limit c.args.count _ c.in_ok-check_even.ensures

@@ -1,7 +1,5 @@
 use Rattle.std.proofs.Common.{List, Vec, Global, subst, ap, ◌∙◌, drop}
-use Rattle.trlab_road.specs.LaneCars.{LaneCar}
-use Rattle.trlab_road.specs.Stored.{IsFoundAt, list_at}
-use Rattle.trlab_road.proofs.InLine.{in_line, line_from}
+use Rattle.trlab_road.{specs.Stored.{LaneCar, IsFoundAt, list_at}, proofs.InLine.{in_line, line_from}}
 use Rattle.trlab_road.proofs.ListRoads.{below_counted}
 use Rattle.trlab_road.proofs.road.Road.line_from.Goals as goal
 

@@ -2,8 +2,8 @@ use Rattle.trlab_road.proofs.MotionInOrder.{moves_in_order, allowed_legal, allow
 use Rattle.trlab_road.proofs.ListRoads.{lists_fit, lists_move, allowed_count, few_cells, all_written}
 use Rattle.trlab_road.proofs.road.Road.move_cars.Goals as goal
 
-pub move_lanes-requires-clause-small : goal.move_lanes-requires-clause-small
-move_lanes-requires-clause-small c = few_cells c.self.inside.cells c.self.inside.lanes.items c.self.inside.limit c.self.invariant
+pub move_lanes-requires-clause-at_most_max_length : goal.move_lanes-requires-clause-at_most_max_length
+move_lanes-requires-clause-at_most_max_length c = few_cells c.self.inside.cells c.self.inside.lanes.items c.self.inside.limit c.self.invariant
 
 pub move_lanes-requires-clause-sorted : goal.move_lanes-requires-clause-sorted
 move_lanes-requires-clause-sorted c = rw c.deref_mut.ensures.value c.self.invariant.sorted
@@ -13,8 +13,8 @@ move_lanes-requires-clause-one_each c =
     let allowed = rw (← c.self.view_is) at c.requires in
     rw c.deref_mut.ensures.value (allowed_count c.self.inside.cells c.self.inside.limit c.self.inside.lanes.items c.args.speeds.now allowed)
 
-pub move_lanes-requires-clause-within : goal.move_lanes-requires-clause-within
-move_lanes-requires-clause-within c =
+pub move_lanes-requires-clause-gaps : goal.move_lanes-requires-clause-gaps
+move_lanes-requires-clause-gaps c =
     let allowed = rw (← c.self.view_is) at c.requires in
     rw c.deref_mut.ensures.value (lists_fit c.self.inside.cells c.self.inside.limit c.self.inside.lanes.items c.args.speeds.now allowed)
 

@@ -1,14 +1,11 @@
 use Rattle.std.proofs.Common.{◌≡◌, ◌≤◌, ◌∙◌, ℕ, List, Err, length, refl, sym, ap, subst, inl, inr, arith}
-use Rattle.std.proofs.lemmas.Result.{err_from_is_err_and}
-use Rattle.std.proofs.lemmas.List.{length-map}
+use Rattle.std.proofs.lemmas.{Result.err_from_is_err_and, List.length-map}
 use Rattle.trlab_bounds.specs.declared.roads.TheConstants.{MAX_LIMIT}
-use Rattle.trlab_road.specs.Cells.{Lane, Cells}
-use Rattle.trlab_road.specs.Legal.{IsLegal}
-use Rattle.trlab_road.specs.Pictures.{AreValidPictures, PicturesShow, ShowsCell}
+use Rattle.trlab_road.specs.Cells.{Lane, Cells, IsLegal}
+use Rattle.trlab_road.specs.{Pictures.{AreValidPictures, PicturesShow, ShowsCell}, Stored.lanes_of_pictures}
 use Rattle.trlab_road.proofs.PictureLaws.{picture_read, draws, shown_legal, one_shown}
 use Rattle.trlab_road.proofs.PictureFaults.{no_fault_shown, told_fault, told_road}
 use Rattle.trlab_road.proofs.road.Road.parse.Goals as goal
-use Rattle.trlab_road.specs.Stored.{lanes_of_pictures}
 
 -- the pictures show the road that was drawn, and it is legal
 shows : (limit : ℕ) (ps : List (List ℕ)) (lanes : List Lane) → AreValidPictures limit ps → lanes ≡ lanes_of_pictures 0 ps → PicturesShow limit ps (record { limit = limit; lanes = lanes })
@@ -39,11 +36,11 @@ returns-clause-back c = same_road c.args.limit _ _ (shows c.args.limit _ _ c.in_
 pub returns-in_err-check_pictures-clause-back : goal.returns-in_err-check_pictures-clause-back
 returns-in_err-check_pictures-clause-back c = let p = err_from_is_err_and c.from_residual.result c.from_residual.ensures.1 in rw (p.1, p.2) (no_fault_shown c.args.limit _ _ c.in_err-check_pictures.ensures)
 
-pub returns-in_err-check_pictures-clause-told : goal.returns-in_err-check_pictures-clause-told
-returns-in_err-check_pictures-clause-told c = let p = err_from_is_err_and c.from_residual.result c.from_residual.ensures.1 in rw (p.1, p.2) (told_fault c.args.limit _ _ c.in_err-check_pictures.ensures)
+pub returns-in_err-check_pictures-clause-reported : goal.returns-in_err-check_pictures-clause-reported
+returns-in_err-check_pictures-clause-reported c = let p = err_from_is_err_and c.from_residual.result c.from_residual.ensures.1 in rw (p.1, p.2) (told_fault c.args.limit _ _ c.in_err-check_pictures.ensures)
 
-pub returns-clause-told : goal.returns-clause-told
-returns-clause-told c = told_road c.args.limit _ _ (legal c.args.limit _ _ c.in_ok-check_pictures.ensures c.in_ok-lanes.ensures.drawn) (shows c.args.limit _ _ c.in_ok-check_pictures.ensures c.in_ok-lanes.ensures.drawn)
+pub returns-clause-reported : goal.returns-clause-reported
+returns-clause-reported c = told_road c.args.limit _ _ (legal c.args.limit _ _ c.in_ok-check_pictures.ensures c.in_ok-lanes.ensures.drawn) (shows c.args.limit _ _ c.in_ok-check_pictures.ensures c.in_ok-lanes.ensures.drawn)
 
 pub returns-in_err-check_pictures-clause-shown : goal.returns-in_err-check_pictures-clause-shown
 returns-in_err-check_pictures-clause-shown c = let p = err_from_is_err_and c.from_residual.result c.from_residual.ensures.1 in rw (p.1, p.2) c.in_err-check_pictures.ensures
@@ -60,8 +57,8 @@ returns-in_err-lanes-clause-legal c = let p = err_from_is_err_and c.from_residua
 pub returns-in_err-lanes-clause-back : goal.returns-in_err-lanes-clause-back
 returns-in_err-lanes-clause-back c = let p = err_from_is_err_and c.from_residual-in_err-lanes.result c.from_residual-in_err-lanes.ensures.1 in λ road legal s. rw (p.1, p.2) refl
 
-pub returns-in_err-lanes-clause-told : goal.returns-in_err-lanes-clause-told
-returns-in_err-lanes-clause-told c = let p = err_from_is_err_and c.from_residual-in_err-lanes.result c.from_residual-in_err-lanes.ensures.1 in λ fault f other. inr (p.1 ∙ ap Err p.2)
+pub returns-in_err-lanes-clause-reported : goal.returns-in_err-lanes-clause-reported
+returns-in_err-lanes-clause-reported c = let p = err_from_is_err_and c.from_residual-in_err-lanes.result c.from_residual-in_err-lanes.ensures.1 in λ fault f other. inr (p.1 ∙ ap Err p.2)
 
 -- valid pictures are also valid for the largest limit
 shows_more : (limit character : ℕ) → limit ≤ MAX_LIMIT → ShowsCell limit character → ShowsCell MAX_LIMIT character

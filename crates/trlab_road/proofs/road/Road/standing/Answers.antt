@@ -1,6 +1,5 @@
 use Rattle.std.proofs.Common.{List, Vec, Global, subst}
-use Rattle.trlab_road.specs.LaneCars.{LaneCar}
-use Rattle.trlab_road.specs.Stored.{IsFoundAt}
+use Rattle.trlab_road.specs.Stored.{LaneCar, IsFoundAt}
 use Rattle.trlab_road.proofs.ListRoads.{below_counted, found_standing, found_cell, found_inside, length_first}
 use Rattle.trlab_road.proofs.road.Road.standing.Goals as goal
 

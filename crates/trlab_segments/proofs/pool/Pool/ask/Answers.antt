@@ -1,8 +1,7 @@
 use Rattle.std.proofs.Common.{ℕ, OnOk, List, Result, subst, sym, ◌∙◌}
 use Rattle.trlab_machine.specs.declared.dice.Dice.{Dice}
 use Rattle.trlab_road.specs.Cells.{Cells, cars}
-use Rattle.trlab_segments.specs.Results.{AnswersAll, IsBriefOf}
-use Rattle.trlab_segments.specs.declared.pool.brief.Brief.{Brief}
+use Rattle.trlab_segments.specs.{Answered.{AnswersAll, IsBriefOf}, declared.pool.brief.Brief.Brief}
 use Rattle.trlab_segments.proofs.pool.Pool.ask.Goals as goal
 
 -- the answers for a brief are those of its program, dice and road

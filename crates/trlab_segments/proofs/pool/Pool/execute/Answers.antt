@@ -1,8 +1,6 @@
 use Rattle.std.proofs.Common.{◌≡◌, OnOk, ap, subst, sym, ◌∙◌}
-use Rattle.trlab_segments.specs.Drawers.{HasDrawnNone}
-use Rattle.trlab_segments.specs.Results.{AnswersAll, CoversAllCars, IsRightResult}
-use Rattle.trlab_segments.specs.declared.pool.brief.Brief.{Brief}
-use Rattle.trlab_segments.specs.declared.pool.task.Task.{Task}
+use Rattle.trlab_segments.specs.{Drawers.HasDrawnNone, Answered.{AnswersAll, CoversAllCars, IsRightResult}}
+use Rattle.trlab_segments.specs.declared.pool.{brief.Brief.Brief, task.Task.Task}
 use Rattle.trlab_segments.proofs.pool.Pool.execute.Goals as goal
 
 -- the brief of a task

@@ -1,5 +1,4 @@
-use Rattle.std.proofs.Common.{◌≡◌}
-use Rattle.std.specs.Arc.{arc_value}
+use Rattle.std.{proofs.Common.{◌≡◌}, specs.Arc.arc_value}
 use Rattle.trlab_segments.proofs.pool.ask.wait_for_helpers.Given as goal
 
 abbrev pub invariant-loop : goal.invariant-loop

@@ -1,5 +1,4 @@
-use Rattle.trlab_segments.specs.Results.{IsPartOfBrief}
-use Rattle.trlab_segments.proofs.Joining.{all_told}
+use Rattle.trlab_segments.{specs.Answered.IsPartOfBrief, proofs.Joining.all_told}
 use Rattle.trlab_segments.proofs.pool.results.deposit.Goals as goal
 
 pub returns : goal.returns

@@ -1,5 +1,5 @@
 use Rattle.trlab_segments.proofs.Joining.{all_told, joined_from, deposited_from, new_from, with_reserve}
-use Rattle.trlab_segments.specs.Results.{IsPartOfBrief}
+use Rattle.trlab_segments.specs.Answered.{IsPartOfBrief}
 use Rattle.trlab_segments.proofs.pool.results.gather_results.Goals as goal
 
 pub one_drawer-drawn-requires : goal.one_drawer-drawn-requires

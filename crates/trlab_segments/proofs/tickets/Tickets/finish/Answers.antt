@@ -1,9 +1,9 @@
 use Rattle.std.proofs.Common.{◌≡◌, min, sym, refl, ◌∙◌, subst, arith, true≢false}
-use Rattle.trlab_segments.specs.Drawers.{tickets_of}
-use Rattle.trlab_segments.specs.Knowledge.{IsPermutation}
+use Rattle.trlab_segments.specs.{Drawers.tickets_of, Knowledge.IsPermutation}
 use Rattle.trlab_segments.proofs.Steps.{adds_none, not_whole}
+use Rattle.trlab_segments.proofs.tickets.Tickets.finish.Goals.{else-drawer-self-via-then-drawer-self+else-next-self}
+use Rattle.trlab_segments.proofs.tickets.Tickets.finish.Goals.{else-drawer-self-via-else-drawer-self}
 use Rattle.trlab_segments.proofs.tickets.Tickets.finish.Goals as goal
-use Rattle.trlab_segments.proofs.tickets.Tickets.finish.Goals.{else-drawer-self-via-then-drawer-self+else-next-self, else-drawer-self-via-else-drawer-self}
 
 pub fetch_add-next-requires : goal.fetch_add-next-requires
 fetch_add-next-requires c =

@@ -1,6 +1,5 @@
 use Rattle.trlab_sequential_book.specs.declared.event.Call.TheVariants.{Submit}
-use Rattle.trlab_sequential_book.specs.Answers.{is_memory, number_reply}
-use Rattle.trlab_sequential_book.specs.Machine.{BookState}
+use Rattle.trlab_sequential_book.specs.{Histories.{is_memory, number_reply}, Machine.BookState}
 use Rattle.trlab_sequential_book.proofs.Booking.{counted, next_number, told_made}
 use Rattle.trlab_sequential_book.proofs.book.Book.add_job.Goals as goal
 

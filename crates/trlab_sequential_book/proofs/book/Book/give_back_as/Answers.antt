@@ -1,8 +1,6 @@
 use Rattle.std.proofs.Common.{false, refl, sym, ◌∙◌}
-use Rattle.trlab_sequential_book.specs.declared.event.Call.TheVariants.{GiveBack}
-use Rattle.trlab_sequential_book.specs.Comparison.{offered}
-use Rattle.trlab_sequential_book.specs.Answers.{give_back_reply}
-use Rattle.trlab_sequential_book.specs.Machine.{BookState}
+use Rattle.trlab_sequential_book.specs.{declared.event.Call.TheVariants.GiveBack, Comparison.offered}
+use Rattle.trlab_sequential_book.specs.{Histories.give_back_reply, Machine.BookState}
 use Rattle.trlab_sequential_book.proofs.Booking.{full_stays, full_told, leads_made, next_back, told_made}
 use Rattle.trlab_sequential_book.proofs.book.Book.give_back_as.Goals as goal
 

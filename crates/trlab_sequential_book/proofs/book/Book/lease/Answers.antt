@@ -1,9 +1,7 @@
-use Rattle.std.proofs.Common.{ap, arith, rules, sym, ◌∙◌}
-use Rattle.std.specs.List.{position}
-use Rattle.std.proofs.lemmas.Grind.{common_steps}
-use Rattle.trlab_sequential_book.specs.Comparison.{LeaseCall}
-use Rattle.trlab_sequential_book.specs.Machine.{BookState, is_free}
-use Rattle.trlab_sequential_book.proofs.Booking.{full_stays, full_told, lease_leads, lease_lent, lease_told, none_leads, none_told}
+use Rattle.std.proofs.{Common.{ap, arith, rules, sym, ◌∙◌, position}, lemmas.Grind.common_steps}
+use Rattle.trlab_sequential_book.specs.{Comparison.LeaseCall, Machine.{BookState, is_free}}
+use Rattle.trlab_sequential_book.proofs.Booking.{full_stays, full_told, lease_leads, lease_lent, lease_told}
+use Rattle.trlab_sequential_book.proofs.Booking.{none_leads, none_told}
 use Rattle.trlab_sequential_book.proofs.book.Book.lease.Goals as goal
 
 pub invariant_of-self-in_err-lease : goal.invariant_of-self-in_err-lease
@@ -17,7 +15,7 @@ returns-clause-reply c =
     let book = c.self.inside in
     let state : BookState = record { count = book.count; next = book.next; jobs = book.jobs.items } in
     let free = rw c.deref.ensures.value at c.in-Some.ensures.place in
-    let within = rw c.deref.ensures.value at c.in-Some.ensures.within in
+    let within = rw c.deref.ensures.value at c.in-Some.ensures.in_range in
     lease_told state c.args.self.now c.in-Some.index c.index_mut-found.result.now c.in_ok-lease.lease c.self.view_is (sym c.has_full_history.ensures ∙ c.if-has_full_history.false)
     (sym free) within c.index_mut-found.ensures.value c.in_ok-lease.ensures.lease.0 c.in_ok-lease.ensures.lease.1
 
@@ -26,7 +24,7 @@ returns-clause-state c =
     let book = c.self.inside in
     let state : BookState = record { count = book.count; next = book.next; jobs = book.jobs.items } in
     let free = rw c.deref.ensures.value at c.in-Some.ensures.place in
-    let within = rw c.deref.ensures.value at c.in-Some.ensures.within in
+    let within = rw c.deref.ensures.value at c.in-Some.ensures.in_range in
     lease_leads state c.args.self.now c.in-Some.index c.index_mut-found.result.now c.lend.new.self c.self.view_is (sym c.has_full_history.ensures ∙ c.if-has_full_history.false)
     (sym free) within c.index_mut-found.ensures.value c.in_ok-lease.ensures.job
 
@@ -34,7 +32,7 @@ pub returns-clause-lent : goal.returns-clause-lent
 returns-clause-lent c =
     let book = c.self.inside in
     let state : BookState = record { count = book.count; next = book.next; jobs = book.jobs.items } in
-    let within = rw c.deref.ensures.value at c.in-Some.ensures.within in
+    let within = rw c.deref.ensures.value at c.in-Some.ensures.in_range in
     lease_lent state c.args.self.now c.in-Some.index c.index_mut-found.result.now c.in_ok-lease.lease c.self.view_is
     within c.index_mut-found.ensures.value c.in_ok-lease.ensures.lease.0 c.in_ok-lease.ensures.lease.1
 

@@ -1,6 +1,5 @@
 use Rattle.std.proofs.Common.{sym, ◌∙◌}
-use Rattle.trlab_sequential_book.specs.Comparison.{OrderCall, offered}
-use Rattle.trlab_sequential_book.specs.Answers.{is_memory, order_reply}
+use Rattle.trlab_sequential_book.specs.{Comparison.{OrderCall, offered}, Histories.{is_memory, order_reply}}
 use Rattle.trlab_sequential_book.specs.Machine.{BookState}
 use Rattle.trlab_sequential_book.proofs.Booking.{counted, full_stays, full_told, next_order, told_made}
 use Rattle.trlab_sequential_book.proofs.book.Book.order_as.Goals as goal

@@ -1,8 +1,8 @@
 use Rattle.std.proofs.Common.{sym, ◌∙◌}
-use Rattle.trlab_sequential_book.specs.declared.event.Call.TheVariants.{Read}
-use Rattle.trlab_sequential_book.specs.Answers.{is_memory, read_reply}
-use Rattle.trlab_sequential_book.specs.Machine.{BookState, outcome_of_call}
-use Rattle.trlab_sequential_book.proofs.Booking.{counted, full_stays, full_told, next_seen, reading_stays, same_jobs, told_made, told_seen}
+use Rattle.trlab_sequential_book.specs.{declared.event.Call.TheVariants.Read, Histories.is_memory}
+use Rattle.trlab_sequential_book.specs.{Histories.read_reply, Machine.{BookState, outcome_of_call}}
+use Rattle.trlab_sequential_book.proofs.Booking.{counted, full_stays, full_told, next_seen, reading_stays}
+use Rattle.trlab_sequential_book.proofs.Booking.{same_jobs, told_made, told_seen}
 use Rattle.trlab_sequential_book.proofs.book.Book.read.Goals as goal
 
 pub returns-then-has_full_history-clause-reply : goal.returns-then-has_full_history-clause-reply

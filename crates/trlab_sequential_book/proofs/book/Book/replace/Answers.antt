@@ -1,7 +1,6 @@
 use Rattle.std.proofs.Common.{sym, ◌∙◌}
 use Rattle.trlab_sequential_book.specs.declared.event.Call.TheVariants.{Replace}
-use Rattle.trlab_sequential_book.specs.Answers.{is_memory, number_reply}
-use Rattle.trlab_sequential_book.specs.Machine.{BookState}
+use Rattle.trlab_sequential_book.specs.{Histories.{is_memory, number_reply}, Machine.BookState}
 use Rattle.trlab_sequential_book.proofs.Booking.{counted, full_stays, full_told, next_number, told_made}
 use Rattle.trlab_sequential_book.proofs.book.Book.replace.Goals as goal
 

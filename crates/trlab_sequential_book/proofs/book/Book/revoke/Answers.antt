@@ -1,6 +1,5 @@
 use Rattle.std.proofs.Common.{false, refl, sym, ◌∙◌}
-use Rattle.trlab_sequential_book.specs.declared.event.Call.TheVariants.{Revoke}
-use Rattle.trlab_sequential_book.specs.Answers.{done_reply}
+use Rattle.trlab_sequential_book.specs.{declared.event.Call.TheVariants.Revoke, Histories.done_reply}
 use Rattle.trlab_sequential_book.specs.Machine.{BookState}
 use Rattle.trlab_sequential_book.proofs.Booking.{full_stays, full_told, leads_made, next_done, told_made}
 use Rattle.trlab_sequential_book.proofs.book.Book.revoke.Goals as goal

@@ -1,10 +1,8 @@
 use Rattle.std.proofs.Common.{◌≡◌, true, ap, refl, subst, sym, ◌∙◌}
 use Rattle.trlab_step.specs.Run.{IsReachedByRun}
-use Rattle.trlab_sequential_book.specs.Comparison.{offered}
-use Rattle.trlab_sequential_book.specs.Jobs.{progress_of}
+use Rattle.trlab_sequential_book.specs.Comparison.{offered, progress_of}
 use Rattle.trlab_sequential_book.specs.Machine.{JobState, JobOutcome, accepts_lease}
-use Rattle.trlab_sequential_book.proofs.Booking.{job_state}
-use Rattle.trlab_sequential_book.proofs.Booking.{back_made, back_refused, back_taken, own_parts}
+use Rattle.trlab_sequential_book.proofs.Booking.{job_state, back_made, back_refused, back_taken, own_parts}
 use Rattle.trlab_sequential_book.proofs.job.JobRecord.give_back.Goals as goal
 
 pub returns-then-not-accepts_lease-clause-reply : goal.returns-then-not-accepts_lease-clause-reply

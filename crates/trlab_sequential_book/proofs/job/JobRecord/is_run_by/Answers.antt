@@ -1,11 +1,7 @@
-use Rattle.std.proofs.Common.{ap, subst, sym, ◌∙◌}
-use Rattle.std.proofs.lemmas.Bool.{false≢true}
+use Rattle.std.proofs.{Common.{ap, subst, sym, ◌∙◌}, lemmas.Bool.{false≢true}}
 use Rattle.trlab_step.specs.Run.{IsReachedByRun}
-use Rattle.trlab_sequential_book.specs.declared.seed.Seed.{Seed}
-use Rattle.trlab_sequential_book.specs.Jobs.{progress_of}
-use Rattle.trlab_sequential_book.specs.Machine.{JobState}
-use Rattle.trlab_sequential_book.proofs.Booking.{job_state}
-use Rattle.trlab_sequential_book.proofs.Booking.{runs_not, runs_where}
+use Rattle.trlab_sequential_book.specs.{declared.seed.Seed.Seed, Comparison.progress_of, Machine.JobState}
+use Rattle.trlab_sequential_book.proofs.Booking.{job_state, runs_not, runs_where}
 use Rattle.trlab_sequential_book.proofs.job.JobRecord.is_run_by.Goals as goal
 
 pub returns-then-not-equals : goal.returns-then-not-equals

@@ -1,9 +1,7 @@
 use Rattle.std.proofs.Common.{refl, subst}
 use Rattle.trlab_step.specs.Run.{IsReachedByRun}
-use Rattle.trlab_sequential_book.specs.Jobs.{progress_of}
-use Rattle.trlab_sequential_book.specs.Machine.{JobState}
-use Rattle.trlab_sequential_book.proofs.Booking.{job_state}
-use Rattle.trlab_sequential_book.proofs.Booking.{lent}
+use Rattle.trlab_sequential_book.specs.{Comparison.progress_of, Machine.JobState}
+use Rattle.trlab_sequential_book.proofs.Booking.{job_state, lent}
 use Rattle.trlab_sequential_book.proofs.job.JobRecord.lend.Goals as goal
 
 pub returns-clause-lease : goal.returns-clause-lease

@@ -1,12 +1,8 @@
 use Rattle.std.proofs.Common.{arith, rules, ◌≡◌, ap, sym, ◌∙◌, subst, true, Some}
 use Rattle.trlab_step.specs.Run.{in_force}
-use Rattle.trlab_sequential_book.specs.Machine.{JobState, accepts_lease}
-use Rattle.trlab_sequential_book.proofs.Booking.{job_state}
-use Rattle.trlab_sequential_book.specs.Comparison.{offered}
-use Rattle.trlab_sequential_book.proofs.Booking.{own_parts}
-use Rattle.trlab_sequential_book.proofs.Entering.{begin_more}
+use Rattle.trlab_sequential_book.specs.{Machine.{JobState, accepts_lease}, Comparison.{offered, run_seed}}
+use Rattle.trlab_sequential_book.proofs.{Booking.{job_state, own_parts}, Entering.begin_more}
 use Rattle.trlab_sequential_book.proofs.LeaseRuns.{way_begins, way_suits}
-use Rattle.trlab_sequential_book.specs.Jobs.{run_start}
 use Rattle.trlab_sequential_book.proofs.job.JobRecord.order.Goals as goal
 
 pub invariant_of-self : goal.invariant_of-self
@@ -48,5 +44,5 @@ returns-clause-fits c =
       job = search rules;
       number = search rules;
       step = search rules;
-      rule = way_suits (run_start c.args.self.now.seed) c.args.self.now.sheet j.done _ j.tally l.applied l.road _ way (returns-clause-rule c);
+      rule = way_suits (run_seed c.args.self.now.seed) c.args.self.now.sheet j.done _ j.tally l.applied l.road _ way (returns-clause-rule c);
     }

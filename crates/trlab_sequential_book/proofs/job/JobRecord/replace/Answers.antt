@@ -1,7 +1,6 @@
 use Rattle.std.proofs.Common.{rules, ap, length, subst, sym}
 use Rattle.trlab_step.specs.Run.{IsRuleFor, IsSheet}
-use Rattle.trlab_sequential_book.specs.Machine.{JobState, JobOutcome}
-use Rattle.trlab_sequential_book.specs.Jobs.{run_start}
+use Rattle.trlab_sequential_book.specs.{Machine.{JobState, JobOutcome}, Comparison.run_seed}
 use Rattle.trlab_sequential_book.proofs.Entering.{begin_entered, rule_taken, underway_entered}
 use Rattle.trlab_sequential_book.proofs.job.JobRecord.replace.Goals as goal
 
@@ -15,7 +14,7 @@ invariant_of-self-2 c =
       ordered = i.ordered;
       within = i.within;
       begin = begin_entered j.high c.args.rule j.sheet;
-      run = underway_entered (run_start j.seed) j.sheet j.high c.args.rule j.done _ j.tally i.ordered rule is i.run;
+      run = underway_entered (run_seed j.seed) j.sheet j.high c.args.rule j.done _ j.tally i.ordered rule is i.run;
     })
 
 pub enter-requires : goal.enter-requires

@@ -1,12 +1,7 @@
-use Rattle.std.proofs.Common.{◌≡◌, ◌∙◌, ap, arith}
-use Rattle.std.proofs.lemmas.Bool.{le-leb, lt-leb}
-use Rattle.std.specs.Prelude.{nat_le, if◌then◌else◌}
+use Rattle.std.proofs.{Common.{◌≡◌, ◌∙◌, ap, arith, le-leb, nat_le, if◌then◌else◌}, lemmas.Bool.lt-leb}
 use Rattle.trlab_step.specs.Run.{tally_sum}
-use Rattle.trlab_sequential_book.specs.Jobs.{run_start}
-use Rattle.trlab_sequential_book.specs.declared.seed.Seed.{Seed}
-use Rattle.trlab_sequential_book.specs.Machine.{JobState}
-use Rattle.trlab_sequential_book.proofs.Booking.{job_state}
-use Rattle.trlab_sequential_book.proofs.LeaseRuns.{go_on_at, way_begins}
+use Rattle.trlab_sequential_book.specs.{Comparison.run_seed, declared.seed.Seed.Seed, Machine.JobState}
+use Rattle.trlab_sequential_book.proofs.{Booking.job_state, LeaseRuns.{go_on_at, way_begins}}
 use Rattle.trlab_sequential_book.proofs.job.JobRecord.tally_with.Goals.{then-seed-step, else-seed-step}
 use Rattle.trlab_sequential_book.proofs.job.JobRecord.tally_with.Goals as goal
 
@@ -21,7 +16,7 @@ loop-ran-init c =
 pub tally_sum-sum-requires-clause-distance : goal.tally_sum-sum-requires-clause-distance
 tally_sum-sum-requires-clause-distance c =
     let below = rw c.applied-ran-items.ensures.value at c.loop-ran-test.true in
-    let on = go_on_at (run_start c.args.self.now.seed) c.args.self.now.sheet c.loop-ran.step c.loop-ran.sum c.args.lease.now.applied c.loop-ran.ran-index c.ran-item.result c.args.lease.now.road below (rw c.applied-ran-items.ensures.value at c.ran-item.is) c.loop-ran.invariant.1 in
+    let on = go_on_at (run_seed c.args.self.now.seed) c.args.self.now.sheet c.loop-ran.step c.loop-ran.sum c.args.lease.now.applied c.loop-ran.ran-index c.ran-item.result c.args.lease.now.road below (rw c.applied-ran-items.ensures.value at c.ran-item.is) c.loop-ran.invariant.1 in
     let few = on.small.distance in
     let early = c.loop-ran.auto.step-fits in
     omega arith
@@ -29,7 +24,7 @@ tally_sum-sum-requires-clause-distance c =
 pub tally_sum-sum-requires-clause-stopped : goal.tally_sum-sum-requires-clause-stopped
 tally_sum-sum-requires-clause-stopped c =
     let below = rw c.applied-ran-items.ensures.value at c.loop-ran-test.true in
-    let on = go_on_at (run_start c.args.self.now.seed) c.args.self.now.sheet c.loop-ran.step c.loop-ran.sum c.args.lease.now.applied c.loop-ran.ran-index c.ran-item.result c.args.lease.now.road below (rw c.applied-ran-items.ensures.value at c.ran-item.is) c.loop-ran.invariant.1 in
+    let on = go_on_at (run_seed c.args.self.now.seed) c.args.self.now.sheet c.loop-ran.step c.loop-ran.sum c.args.lease.now.applied c.loop-ran.ran-index c.ran-item.result c.args.lease.now.road below (rw c.applied-ran-items.ensures.value at c.ran-item.is) c.loop-ran.invariant.1 in
     let few = on.small.stopped in
     let early = c.loop-ran.auto.step-fits in
     omega arith
@@ -37,7 +32,7 @@ tally_sum-sum-requires-clause-stopped c =
 pub tally_sum-sum-requires-clause-changes : goal.tally_sum-sum-requires-clause-changes
 tally_sum-sum-requires-clause-changes c =
     let below = rw c.applied-ran-items.ensures.value at c.loop-ran-test.true in
-    let on = go_on_at (run_start c.args.self.now.seed) c.args.self.now.sheet c.loop-ran.step c.loop-ran.sum c.args.lease.now.applied c.loop-ran.ran-index c.ran-item.result c.args.lease.now.road below (rw c.applied-ran-items.ensures.value at c.ran-item.is) c.loop-ran.invariant.1 in
+    let on = go_on_at (run_seed c.args.self.now.seed) c.args.self.now.sheet c.loop-ran.step c.loop-ran.sum c.args.lease.now.applied c.loop-ran.ran-index c.ran-item.result c.args.lease.now.road below (rw c.applied-ran-items.ensures.value at c.ran-item.is) c.loop-ran.invariant.1 in
     let few = on.small.changes in
     let early = c.loop-ran.auto.step-fits in
     omega arith
@@ -45,7 +40,7 @@ tally_sum-sum-requires-clause-changes c =
 pub loop-ran-preserved : goal.loop-ran-preserved
 loop-ran-preserved c =
     let below = rw c.applied-ran-items.ensures.value at c.loop-ran-test.true in
-    let on = go_on_at (run_start c.args.self.now.seed) c.args.self.now.sheet c.loop-ran.step c.loop-ran.sum c.args.lease.now.applied c.loop-ran.ran-index c.ran-item.result c.args.lease.now.road below (rw c.applied-ran-items.ensures.value at c.ran-item.is) c.loop-ran.invariant.1 in
+    let on = go_on_at (run_seed c.args.self.now.seed) c.args.self.now.sheet c.loop-ran.step c.loop-ran.sum c.args.lease.now.applied c.loop-ran.ran-index c.ran-item.result c.args.lease.now.road below (rw c.applied-ran-items.ensures.value at c.ran-item.is) c.loop-ran.invariant.1 in
     let at = c.loop-ran.invariant.0 in
     let warm = ap (λ (s : JobState). s.seed.warm) c.self.view_is in
     let seen = ap (λ (s : Seed). s.warm) c.get-seed.ensures in

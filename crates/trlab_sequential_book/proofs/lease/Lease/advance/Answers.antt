@@ -1,7 +1,5 @@
-use Rattle.std.proofs.Common.{◌≡◌, ◌∙◌, refl, sym}
-use Rattle.std.proofs.lemmas.Bool.{false≢true}
+use Rattle.std.proofs.{Common.{◌≡◌, ◌∙◌, refl, sym, Result, Ok, Err, OnOk, OnErr}, lemmas.Bool.{false≢true}}
 use Rattle.std.proofs.lemmas.Result.{err_from_is_err_and}
-use Rattle.std.specs.Prelude.{Result, Ok, Err, OnOk, OnErr}
 use Rattle.trlab_sequential_book.specs.declared.lease.LeaseFault.{LeaseFault}
 use Rattle.trlab_sequential_book.specs.declared.lease.LeaseFault.TheVariants.{Memory, WrongOrder}
 use Rattle.trlab_sequential_book.proofs.lease.Lease.advance.Goals as goal

@@ -1,10 +1,7 @@
-use Rattle.std.proofs.Common.{Bool, List, ◌≡◌, ◌∙◌, ◌∷◌, [], ◌++◌, ap, refl, subst, sym}
-use Rattle.std.proofs.lemmas.Bool.{false≢true}
-use Rattle.std.specs.Arc.{arc_value}
-use Rattle.std.specs.Prelude.{Result, Ok, Err, IsErr, IsTrue, OnErr, OnOk}
+use Rattle.std.proofs.Common.{Bool, List, ◌≡◌, ◌∙◌, ◌∷◌, [], ◌++◌, ap, refl, subst, sym, Result, Ok, Err}
+use Rattle.std.{proofs.{Common.{IsErr, IsTrue, OnErr, OnOk}, lemmas.Bool.{false≢true}}, specs.Arc.arc_value}
 use Rattle.std.specs.declared.alloc.AllocError.{AllocError}
-use Rattle.trlab_sequential_book.specs.declared.lease.ExecutedStep.{ExecutedStep}
-use Rattle.trlab_sequential_book.specs.Leases.{IsSteady}
+use Rattle.trlab_sequential_book.specs.{declared.lease.ExecutedStep.ExecutedStep, Leases.IsSteady}
 use Rattle.trlab_sequential_book.proofs.LeaseRuns.{has_stepped, lease_grows, still, still_lease}
 use Rattle.trlab_sequential_book.proofs.lease.Lease.run.Goals as goal
 
@@ -63,7 +60,7 @@ pub invariant_of-self-2 : goal.invariant_of-self-2
 invariant_of-self-2 g c = (
   lease_grows _ c.in_ok-shared.shared c.in_ok-tally.tally (arc_value c.step_unshared.new.road) _ _ c.new-dice.ensures.key c.new-dice.ensures.road c.new-dice.ensures.step (rw (c.in_ok-shared.ensures, ← c.get-rule.ensures) c.in_ok-tally.ensures.next)
       (grown _ _ _ _ c.push_reserved.ensures.items c.reserve.ensures.items) c.self.invariant.0,
-  λ is. rw (c.push_reserved.ensures.items, c.in_ok-shared.ensures, ← c.deref.ensures.value) (c.stays_steady-is_steady.ensures is c.in_ok-tally.tally),
+  λ is. rw (c.push_reserved.ensures.items, c.in_ok-shared.ensures, ← c.deref.ensures.value) (c.is_still_steady-is_steady.ensures is c.in_ok-tally.tally),
 )
 
 pub returns-clause-ok : goal.returns-clause-ok

@@ -1,5 +1,4 @@
-use Rattle.std.proofs.Common.{rules, ◌≡◌, ◌∙◌, sym}
-use Rattle.std.specs.Prelude.{IsTrue}
+use Rattle.std.proofs.Common.{rules, ◌≡◌, ◌∙◌, sym, IsTrue}
 use Rattle.trlab_sequential_book.proofs.EncodedRules.{same_bytes, same_rule}
 use Rattle.trlab_sequential_book.proofs.rule.EncodedRule.equals.Goals as goal
 

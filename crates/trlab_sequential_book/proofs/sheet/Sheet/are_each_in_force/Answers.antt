@@ -1,6 +1,5 @@
-use Rattle.std.proofs.Common.{◌≡◌, ◌∙◌, ap, arith, refl, subst}
+use Rattle.std.proofs.Common.{◌≡◌, ◌∙◌, ap, arith, refl, subst, Some}
 use Rattle.trlab_step.specs.Run.{in_force}
-use Rattle.std.specs.Prelude.{Some}
 use Rattle.trlab_sequential_book.proofs.InForce.{all_in_force, one_more_in_force}
 use Rattle.trlab_sequential_book.proofs.sheet.Sheet.are_each_in_force.Goals as goal
 

@@ -13,7 +13,7 @@ returns-then-from-first c =
     let sheet = c.args.self.now in
     let is = c.len.ensures.rules in
     let long = length_is sheet (c.len.result - 1) is (ap (λ (n : ℕ). n - 1) c.len.ensures.value) in (
-      λ same. steady_in_force sheet c.args.first _ _ _ c.args.applied.now is c.boxed_entry-from.ensures long c.if-from-first.true
+      λ same. steady_in_force sheet c.args.first _ _ _ c.args.applied.now is c.shared_entry-from.ensures long c.if-from-first.true
           (c.requires.steady c.if-is_steady.true) (sym c.in-Some.ensures.value) (c.equals.ensures.0 same),
-      λ all. c.equals.ensures.1 (first_in_force sheet c.args.first _ _ _ c.args.applied.now is c.boxed_entry-from.ensures long c.if-from-first.true (sym c.in-Some.ensures.value) all),
+      λ all. c.equals.ensures.1 (first_in_force sheet c.args.first _ _ _ c.args.applied.now is c.shared_entry-from.ensures long c.if-from-first.true (sym c.in-Some.ensures.value) all),
     )

@@ -1,6 +1,5 @@
 use Rattle.std.proofs.Common.{ap}
-use Rattle.trlab_step.specs.Run.{Progress}
-use Rattle.trlab_step.proofs.OnTheWay.{like_start}
+use Rattle.trlab_step.{specs.Run.Progress, proofs.OnTheWay.like_start}
 use Rattle.trlab_sequential_book.proofs.snapshot.Snapshot.road.Goals as goal
 
 pub returns-clause-run : goal.returns-clause-run

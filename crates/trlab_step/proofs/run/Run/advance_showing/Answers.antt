@@ -1,17 +1,12 @@
 use Rattle.std.proofs.Common.{◌≡◌, ◌∙◌, ℕ, List, ap, refl, arith, add-one, subst, nat_le, if◌then◌else◌}
-use Rattle.trlab_step.specs.Run.{Progress, tally_sum}
-use Rattle.trlab_step.proofs.OnTheWay.{rule_here, room_for, counts_fit}
-use Rattle.std.proofs.lemmas.Result.{err_from_is_err_and}
-use Rattle.std.proofs.lemmas.Bool.{le-leb, lt-leb}
+use Rattle.std.proofs.{Common.le-leb, lemmas.{Result.err_from_is_err_and, Bool.lt-leb}}
+use Rattle.trlab_step.specs.{Run.{Progress, tally_sum}, Answers.dice_of, declared.tally.StepTally.StepTally}
+use Rattle.trlab_step.{specs.Next.IsNext, proofs.OnTheWay.{rule_here, room_for, counts_fit}}
+use Rattle.trlab_step.proofs.{AskedCars.same_dice, run.Run.advance_showing.Goals.{then-self, else-self}}
+use Rattle.trlab_step.proofs.run.Run.advance_showing.Goals as goal
 use Rattle.trlab_machine.specs.declared.dice.Dice.{Dice}
 use Rattle.trlab_road.specs.Cells.{Cells}
 use Rattle.trlab_rules.specs.Rules.{Programs}
-use Rattle.trlab_step.specs.Answers.{dice_of}
-use Rattle.trlab_step.specs.declared.tally.StepTally.{StepTally}
-use Rattle.trlab_step.specs.Next.{IsNext}
-use Rattle.trlab_step.proofs.AskedCars.{same_dice}
-use Rattle.trlab_step.proofs.run.Run.advance_showing.Goals.{then-self, else-self}
-use Rattle.trlab_step.proofs.run.Run.advance_showing.Goals as goal
 
 -- the step with the dice of the run
 by_dice_of : (dice : Dice) (key : List ℕ) (number step : ℕ) (rule : Programs) (road next : Cells) (tally : StepTally) → dice.key ≡ key → dice.road ≡ number → dice.step ≡ step

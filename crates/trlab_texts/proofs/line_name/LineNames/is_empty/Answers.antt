@@ -1,6 +1,6 @@
-use Rattle.std.proofs.Common.{◌≡◌, ℕ, zero, suc, Bool, true, false, not, ◌||◌, List, [], ◌∷◌, slice_index_or, refl, sym, ◌∙◌}
-use Rattle.std.specs.List.{list_any}
-use Rattle.trlab_texts.specs.LineNames.{name_number}
+use Rattle.std.proofs.Common.{◌≡◌, ℕ, zero, suc, Bool, true, false, not, ◌||◌, List, [], ◌∷◌, slice_index_or}
+use Rattle.std.{proofs.Common.{refl, sym, ◌∙◌}, specs.List.list_any}
+use Rattle.trlab_texts.specs.Words.{name_number}
 use Rattle.trlab_texts.proofs.line_name.LineNames.is_empty.Goals as goal
 
 is_false : (b : Bool) → not b ≡ true → b ≡ false

@@ -1,6 +1,6 @@
 -- `add` has an empty body: the borrow is opened, and closed at the ghost value with the bytes of the call.
 -- Assumes `Logic`.
-use Rattle.std.proofs.Common.{ℕ, ◌<◌, ◌^◌, List, [], ◌∷◌, ◌++◌, length, refl, MutBor}
+use Rattle.std.proofs.Common.{ℕ, ◌<◌, ◌^◌, List, [], ◌∷◌, ◌++◌, length, refl, MutBor, Bor}
 use seplogic.Ra.Ura.{Ura}
 use mir.Syntax.{named}
 use mir.Val.{Val, vunit, vptr}
@@ -12,7 +12,8 @@ use prog.Wp.{Calls, Loops, WpFn, Tables}
 use types.Logic.{Logic, sem}
 use contract.Monad.{Fun}
 use contract.Running.{tables, tables_of}
-use types.Kit.{‵, ◌⊛◌, ◌$◌, ◌∵◌, !, qed, by, move, keep, drop, use1, split, join, fsplit, fsplit3, fjoin, fjoin3, feq_i, suffices, frame, done}
+use types.Kit.{‵, ◌⊛◌, ◌$◌, ◌∵◌, !, qed, by, move, keep, drop, use1, split, join, fsplit, fsplit3, fjoin}
+use types.Kit.{fjoin3, feq_i, suffices, frame, done}
 use types.Run.{unit_lit, of_opd, returns, enter}
 use types.SemTy.{Body}
 use types.ByLocal.{alloc_all, pass_all, free_all, look_at, sets}
@@ -21,17 +22,16 @@ use denote.RattleType.{owns}
 use denote.Builtin.{u8}
 use denote.Exit.{yes}
 use denote.Memory.{mem}
-use denote.Ref.{Bor, MutRef, mut_vals, mut_Tells}
+use denote.Ref.{MutRef, mut_vals, mut_Tells}
 use denote.Signature.{plain}
 use denote.Slice.{ShrSlice, slice_val, shr_slice_vals, shr_slice_Tells}
 use denote.Steps.{opens, closes}
-use denote.Triple.Entry.{on_entry}
-use denote.Triple.Spec.{Meets, triple_of}
-use denote.Triple.Table.{entered}
-use denote.Triple.Walked.{says, Stays, stay_ref, stay_none_slice, walk_of, AllGo, Goes-ref, Goes-none_slice, Walks, ends_at, walked, walk_Meets}
+use denote.Triple.{Entry.on_entry, Spec.{Meets, triple_of}, Table.entered}
+use denote.Triple.Walked.{says, Stays, stay_ref, stay_none_slice, walk_of, AllGo, Goes-ref, Goes-none_slice}
+use denote.Triple.Walked.{Walks, ends_at, walked, walk_Meets}
 use Rattle.trlab_campaign.specs.declared.device.watched.Transcript.{Transcript}
-use Rattle.trlab_campaign.specs.contracts.device.watched.Transcript as T
 use Rattle.trlab_campaign.specs.contracts.device.watched.Transcript.add.Key.{name as #it}
+use Rattle.trlab_campaign.specs.contracts.device.watched.Transcript as T
 use Rattle.trlab_campaign.specs.contracts.device.watched.Transcript.add as it
 use Rattle.trlab_campaign.proofs.device.watched.Transcript.add.Statement as stated
 use Rattle.trlab_campaign.proofs.device.watched.Transcript.add.Code as code

@@ -11,7 +11,8 @@ use contract.Monad.{Fun}
 use contract.Running.{tables, tables_of}
 use sound.WpLaws.{WpFn-mono}
 use types.Logic.{Logic}
-use types.Kit.{Goal, Step, step, Item, ‵, raw, ◌⊛◌, ◌$◌, ◌∵◌, !, qed, move, keep, drop, split, fjoin, fpack, feq_i, suffices, done}
+use types.Kit.{Goal, Step, step, Item, ‵, raw, ◌⊛◌, ◌$◌, ◌∵◌, !, qed, move, keep, drop, split, fjoin, fpack}
+use types.Kit.{feq_i, suffices, done}
 use types.Part.{agg}
 use types.Run.{enter, returns, no_more}
 use types.ByLocal.{alloc_all, pass_all, free_all, look_at, sets}
@@ -19,14 +20,11 @@ use denote.RattleType.{RattleType, Valss, owns}
 use denote.Signature.{types_at}
 use denote.Steps.{nothing}
 use denote.Struct.Struct.{Struct, within}
-use denote.Triple.Clauses.{Clauses, Ended, closing}
-use denote.Triple.Entry.{alive}
-use denote.Triple.Spec.{Meets, triple_of}
-use denote.Triple.Table.{entered}
+use denote.Triple.{Clauses.{Clauses, Ended, closing}, Entry.alive, Spec.{Meets, triple_of}, Table.entered}
 use denote.Triple.Walked.{says, Stays, walk_of, ends_at, walk_Meets}
+use Rattle.trlab_campaign.specs.contracts.device.watched.Transcript.new.Key.{name as #self}
 use Rattle.trlab_campaign.specs.contracts.device.watched.Transcript as Transcript
 use Rattle.trlab_campaign.specs.contracts.device.watched.Transcript.new as F
-use Rattle.trlab_campaign.specs.contracts.device.watched.Transcript.new.Key.{name as #self}
 use Rattle.trlab_campaign.proofs.device.watched.Transcript.new.Statement as stated
 use Rattle.trlab_campaign.proofs.device.watched.Transcript.new.Code as code
 

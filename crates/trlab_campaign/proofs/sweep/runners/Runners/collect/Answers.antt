@@ -1,4 +1,4 @@
-use Rattle.std.proofs.Common.{arith, ◌∷◌, [], ◌<◌, length, length-append, refl}
+use Rattle.std.proofs.Common.{arith, ◌∷◌, [], ◌<◌, ◌-◌, length, length-append, refl}
 use Rattle.trlab_campaign.proofs.Points.{one_more}
 use Rattle.trlab_campaign.proofs.sweep.runners.Runners.collect.Goals as goal
 
@@ -13,3 +13,12 @@ loop-number-preserved g c =
       first = rw pushed (one_more c.args.self.now.sweep.now c.loop-number.points.items c.loop-number.number _ point here.first here.count inside refl c.in_ok-point.ensures.is c.in_ok-point.ensures.measured);
       count = rw pushed (omega (arith, more, here.count));
     }
+
+pub point-requires-clause-even : goal.point-requires-clause-even
+point-requires-clause-even g c =
+    let seed = c.index-seeds-index.result in
+    let number = c.loop-number.number in
+    let inside = c.loop-number-test.true in
+    let all = c.requires.one_each in
+    let start = c.requires.seeds number (number - c.args.batch.first) seed (omega arith) (omega (arith, inside, all)) in
+    λ lifetimes outlive. rw (c.get.ensures, c.index-seeds-index.is) start

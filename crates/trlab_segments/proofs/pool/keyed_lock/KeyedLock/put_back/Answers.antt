@@ -1,7 +1,6 @@
 use Rattle.std.proofs.Common.{rules, subst, sym}
 use Rattle.atomic_table.specs.Table.{Allows}
-use Rattle.trlab_segments.specs.KeyedLocks.{SatisfiesLockInvariant}
-use Rattle.trlab_segments.proofs.Locks.{releases}
+use Rattle.trlab_segments.{specs.KeyedLocks.SatisfiesLockInvariant, proofs.Locks.releases}
 use Rattle.trlab_segments.proofs.pool.keyed_lock.KeyedLock.put_back.Goals as goal
 
 pub store-requires : goal.store-requires

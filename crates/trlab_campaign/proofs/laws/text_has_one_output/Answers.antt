@@ -1,6 +1,0 @@
-use Rattle.trlab_campaign.proofs.OneOutput.{one_output}
-use Rattle.trlab_campaign.proofs.SomeOutput.{some_output}
-use Rattle.trlab_campaign.proofs.laws.text_has_one_output.Goals as goal
-
-pub returns : goal.returns
-returns c = record { some_output = some_output; one_output = one_output }

@@ -1,5 +1,0 @@
-use Rattle.trlab_jobs.proofs.OneCheck.{one_thing, something}
-use Rattle.trlab_jobs.proofs.laws.check_says_one_thing.Goals as goal
-
-pub returns : goal.returns
-returns c = record { something = something; one_thing = one_thing }

@@ -1,8 +1,0 @@
-use Rattle.trlab_segments.proofs.Steps.{bounded, all_tickets}
-use Rattle.trlab_segments.proofs.laws.counter_says_what_was_drawn.Goals as goal
-
-pub returns-clause-bounded : goal.returns-clause-bounded
-returns-clause-bounded c = bounded
-
-pub returns-clause-all : goal.returns-clause-all
-returns-clause-all c = all_tickets

@@ -1,5 +1,0 @@
-use Rattle.trlab_step.proofs.NextLaws.{next_road_is_one}
-use Rattle.trlab_step.proofs.laws.next_road_is_one.Goals as goal
-
-pub returns : goal.returns
-returns c = next_road_is_one

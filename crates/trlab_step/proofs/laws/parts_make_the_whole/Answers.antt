@@ -1,5 +1,0 @@
-use Rattle.trlab_step.proofs.PartLaws.{speeds_are_one, speeds_join}
-use Rattle.trlab_step.proofs.laws.parts_make_the_whole.Goals as goal
-
-pub returns : goal.returns
-returns c = record { one = speeds_are_one; join = speeds_join }

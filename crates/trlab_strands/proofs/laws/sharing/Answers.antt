@@ -1,5 +1,0 @@
-use Rattle.std.proofs.Common.{refl}
-use Rattle.trlab_strands.proofs.laws.sharing.Goals as goal
-
-pub returns : goal.returns
-returns c = record { parts = refl }

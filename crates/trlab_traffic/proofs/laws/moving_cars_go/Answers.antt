@@ -1,5 +1,0 @@
-use Rattle.trlab_traffic.proofs.Moving.{run_goes_by_moving_cars, step_goes_by_moving_cars}
-use Rattle.trlab_traffic.proofs.laws.moving_cars_go.Goals as goal
-
-pub returns : goal.returns
-returns c = record { step = step_goes_by_moving_cars; run = run_goes_by_moving_cars }
