@@ -7,11 +7,13 @@ from typing import Any, TypeVar
 from trlab import Job, Nasch, Rickert, Rule, SlowToStart, random_cells
 
 Test = TypeVar("Test", bound=Callable[..., Any])
+Decorator = Callable[[Callable[..., None]], Callable[..., None]]
+"""A decorator of tests: one of hypothesis, or `needs_hypothesis`."""
 
 if importlib.util.find_spec("hypothesis"):
     from hypothesis import settings, strategies as some
 
-    EXAMPLES = settings(max_examples=60, deadline=None, database=None, derandomize=True)
+    EXAMPLES: Decorator = settings(max_examples=60, deadline=None, database=None, derandomize=True)
 
     @some.composite
     def jobs(draw: Callable[[Any], Any], steps: int) -> Job:
@@ -28,5 +30,12 @@ if importlib.util.find_spec("hypothesis"):
         )
 
 
+def length_of(job: Job) -> int:
+    """The length of a job's lanes. Every job has one after its construction, also if it was made without `length`."""
+    assert job.length is not None
+    return job.length
+
+
 def needs_hypothesis(test: Test) -> Test:
+    """Skip a test, or all tests of a class, if hypothesis is not installed."""
     return unittest.skipUnless(importlib.util.find_spec("hypothesis"), "hypothesis is not installed")(test)

@@ -5,11 +5,13 @@ import os
 import subprocess
 import sys
 import unittest
+from collections.abc import Callable, Iterator, Sequence
 from fractions import Fraction
 from pathlib import Path
+from typing import Union
 
 import trlab
-from tests.random_jobs import needs_hypothesis
+from tests.random_jobs import Decorator, length_of, needs_hypothesis
 from tests.skips import needs
 from trlab import Job, Nasch, ParameterError, Rickert, Snapshot, Snapshots, SnapshotsError, random_cells
 
@@ -17,24 +19,26 @@ if importlib.util.find_spec("hypothesis"):
     from hypothesis import given, strategies as some
     from tests.random_jobs import EXAMPLES, jobs
 
-    ROADS = given(jobs(27), some.integers(0, 3))
+    # Jobs of 27 steps, of which at most 3 are left out, so that at least 24 remain.
+    ROADS: Decorator = given(jobs(27), some.integers(0, 3))
 else:
     ROADS = EXAMPLES = needs_hypothesis
 
 
-def cell_by_cell(snapshots):
+def cell_by_cell(snapshots: Sequence[Snapshot]) -> Iterator[tuple[int, int, int, int]]:
     """The step, cell, lane and speed of each car that passes the end of a cell, from the path of each car in each
     step."""
     for snapshot in snapshots[1:]:
         length = len(snapshot.lanes[0])
         for lane, cells in enumerate(snapshot.speeds()):
-            for cell, speed in enumerate(cells):
-                for _ in range(speed or 0):
+            for cell, speed in enumerate(speed or 0 for speed in cells):
+                for _ in range(speed):
                     cell = (cell - 1) % length
                     yield snapshot.step, cell, lane, speed
 
 
-def mean(values):
+def mean(values: Sequence[Union[int, Fraction]]) -> Union[Fraction, float]:
+    """The exact mean, or NaN if there are no values."""
     return sum(map(Fraction, values)) / len(values) if values else math.nan
 
 
@@ -42,13 +46,13 @@ def mean(values):
 class Detectors(unittest.TestCase):
     @EXAMPLES
     @ROADS
-    def test_passages_are_those_of_each_car(self, job, first):
-        snapshots, cells = job.run(first=first), [*range(job.length)]
+    def test_passages_are_those_of_each_car(self, job: Job, first: int) -> None:
+        snapshots, cells = job.run(first=first), [*range(length_of(job))]
         passings = trlab.passings(iter(snapshots), cells)
         expected = sorted(cell_by_cell(snapshots))
         self.assertEqual([*passings[["step", "cell", "lane", "speed"]].itertuples(index=False, name=None)], expected)
         self.assertEqual(len({row[:3] for row in expected}), len(expected))  # at most one car in a step
-        before = {}
+        before: dict[tuple[int, int], int] = {}
         for step, cell, lane, _, headway in passings.itertuples(index=False):
             if (cell, lane) in before:
                 self.assertEqual(headway, step - before[cell, lane])
@@ -58,8 +62,9 @@ class Detectors(unittest.TestCase):
 
     @EXAMPLES
     @ROADS
-    def test_windows_are_sums_over_passages(self, job, first):
-        snapshots, cells = job.run(first=first)[:25], [*{0, job.length // 2, job.length - 1}]
+    def test_windows_are_sums_over_passages(self, job: Job, first: int) -> None:
+        # 24 steps, which are whole windows of 1, 6 and 24 steps.
+        snapshots, cells = job.run(first=first)[:25], [*{0, length_of(job) // 2, length_of(job) - 1}]
         passed = [*cell_by_cell(snapshots)]
         for every in 1, 6, 24:
             table = trlab.detectors(iter(snapshots), cells, every)
@@ -72,7 +77,7 @@ class Detectors(unittest.TestCase):
                 ]
                 headways = [after - then for then, after in zip(before, before[1:]) if after > end - every]
                 steps = snapshots[end - every - first + 1:end - first + 1]
-                expected = {
+                expected: dict[str, Union[Fraction, float]] = {
                     "count": len(speeds), "flow": Fraction(len(speeds), every), "time_mean_speed": mean(speeds),
                     "harmonic_mean_speed": 1 / mean([Fraction(1, speed) for speed in speeds]),
                     "mean_time_headway": mean(headways),
@@ -86,15 +91,15 @@ class Detectors(unittest.TestCase):
 
     @EXAMPLES
     @ROADS
-    def test_headways_are_those_of_trajectories(self, job, first):
+    def test_headways_are_those_of_trajectories(self, job: Job, first: int) -> None:
         snapshots = job.run(first=first)
-        paths, passed = snapshots.trajectories(), trlab.passings(snapshots, [*range(job.length)])
-        for cell in range(job.length):
+        paths, passed = snapshots.trajectories(), trlab.passings(snapshots, [*range(length_of(job))])
+        for cell in range(length_of(job)):
             for lane in range(job.lanes):
                 here = passed[(passed.cell == cell) & (passed.lane == lane)]
                 self.assertEqual(paths.time_headways(cell, lane).tolist(), here.time_headway[1:].tolist())
 
-    def test_all_cells_together_count_the_distance_and_the_cars(self):
+    def test_all_cells_together_count_the_distance_and_the_cars(self) -> None:
         job = Job(
             limit=5, length=60, lanes=2, density=0.3, rule=Rickert("1/4", 1), start=random_cells(1), steps=90, key=2
         )
@@ -107,7 +112,7 @@ class Detectors(unittest.TestCase):
             self.assertEqual(here.xs(1, level="lane")["count"].sum(), window.distance1)
         self.assertEqual(sorted({*table.index.get_level_values("step")}), [60, 90])
 
-    def test_a_road_without_cars(self):
+    def test_a_road_without_cars(self) -> None:
         (row,) = Job(limit=5, length=9, cars=0, rule=Nasch(0), steps=4).detectors([3], every=4).itertuples(index=False)
         self.assertEqual(row.count, 0)
         self.assertEqual(row.flow, 0)
@@ -117,10 +122,12 @@ class Detectors(unittest.TestCase):
         self.assertEqual(len(empty), 0)
         self.assertEqual(empty.dtypes["step"], "int64")
 
-    def test_one_snapshot_is_kept(self):
-        job, taken = Job(limit=5, length=9, cars=3, rule=Nasch(0), steps=400), []
+    def test_one_snapshot_is_kept(self) -> None:
+        job = Job(limit=5, length=9, cars=3, rule=Nasch(0), steps=400)
+        taken: list[Snapshot] = []
 
-        def snapshots():
+        def snapshots() -> Iterator[Snapshot]:
+            """The snapshots of the job one by one, of which `taken` has only the last one."""
             for snapshot in job.snapshots():
                 taken.append(snapshot)
                 del taken[:-1]
@@ -128,7 +135,7 @@ class Detectors(unittest.TestCase):
 
         self.assertEqual(len(trlab.detectors(snapshots(), [0], every=100)), 4)
 
-    def test_wrong_cells_windows_and_snapshots(self):
+    def test_wrong_cells_windows_and_snapshots(self) -> None:
         snapshots = Job(limit=5, length=20, cars=5, rule=Nasch("1/4"), steps=30).run()
         for cells in [20], [-1], [], [1, 1], [1.5], ["1"]:
             self.assertRaisesRegex(
@@ -154,7 +161,10 @@ class Detectors(unittest.TestCase):
             (Snapshots(), "no snapshots"),
             (Snapshots([Snapshot(0, (".0",)), Snapshot(1, (".?",))]), "neither a speed nor a dot"),
         ):
-            for call in lambda: trlab.detectors(wrong_snapshots, [0], 1), lambda: trlab.passings(wrong_snapshots, [0]):
+            calls: list[Callable[[], object]] = [
+                lambda: trlab.detectors(wrong_snapshots, [0], 1), lambda: trlab.passings(wrong_snapshots, [0]),
+            ]
+            for call in calls:
                 with self.assertRaisesRegex(SnapshotsError, message):
                     call()
 
@@ -179,19 +189,19 @@ for call in (
 print(table[-1].flow, table.drift().is_drifting, len(table.text()))
 print("<html" in snapshots.html(), "41 snap" in snapshots._repr_html_())
 """
+ENVIRONMENT = {**os.environ, "PYTHONPATH": str(Path(trlab.__file__).parents[1])}
+JOB = Job(limit=5, length=9, cars=2, rule=Nasch(0), steps=40)
+"""The job of this script."""
 
 
 class MissingLibraries(unittest.TestCase):
-    def test_each_call_names_the_missing_library(self):
+    def test_each_call_names_the_missing_library(self) -> None:
         command = [sys.executable, "-c", WITHOUT_LIBRARIES]
         process = subprocess.run(command, capture_output=True, text=True, env=ENVIRONMENT, check=True)
         *errors, numbers, pages = process.stdout.splitlines()
-        self.assertEqual(len(errors), 11)
+        self.assertEqual(len(errors), 11)  # one for each call of the script
         for error in errors:
             self.assertRegex(error, r"^this needs numpy\b.*: pip install .+$")
+        # At the end the two cars move through all 7 empty cells in each step.
         self.assertEqual(numbers, f"{7 / 9} True {len(JOB.series().text())}")
         self.assertEqual(pages, "True True")
-
-
-JOB = Job(limit=5, length=9, cars=2, rule=Nasch(0), steps=40)
-ENVIRONMENT = {**os.environ, "PYTHONPATH": str(Path(trlab.__file__).parents[1])}

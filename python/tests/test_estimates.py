@@ -3,15 +3,19 @@ rejected."""
 import contextlib
 import math
 import unittest
+from collections.abc import Callable, Mapping, Sequence
+from typing import Any
 from unittest import mock
 
 import trlab
 from tests.libraries import numpy, pandas
 from trlab import EstimateError, FrameError, Grid, Job, Nasch, SlowToStart, moving, random_cells
+from trlab._analysis.columns import Array
+from trlab._analysis.peak import Peak
 
 
-def runs_of(rows, levels):
-    """A frame of runs, each with its own key."""
+def runs_of(rows: Sequence[Mapping[str, object]], levels: list[str]) -> pandas.DataFrame:
+    """A frame of runs, each with its own key. Runs that differ in their seed only belong to one ensemble."""
     frame = pandas.DataFrame(rows)
     if "key" not in frame:
         frame["key"] = [f"{number:064x}" for number in range(len(frame))]
@@ -19,9 +23,9 @@ def runs_of(rows, levels):
     return frame.assign(road=0, ensemble=others.agg("/".join, axis=1) if len(others.columns) else "e").set_index(levels)
 
 
-def autoregressive(noise, memory=0.9):
+def autoregressive(noise: Array, memory: float = 0.9) -> Array:
     """Series with correlations memory**k and the mean 0, one in each row."""
-    series = numpy.empty_like(noise)
+    series: Array = numpy.empty_like(noise)
     series[:, 0] = noise[:, 0] / math.sqrt(1 - memory**2)
     for place in range(1, noise.shape[1]):
         series[:, place] = memory * series[:, place - 1] + noise[:, place]
@@ -29,18 +33,20 @@ def autoregressive(noise, memory=0.9):
 
 
 class Blocking(unittest.TestCase):
-    def setUp(self):
+    def setUp(self) -> None:
         self.numbers = numpy.random.default_rng(1)
 
-    def test_the_error_covers_correlated_series(self):
+    def test_the_error_covers_correlated_series(self) -> None:
         estimates, naive_hits = [], 0
         for series in autoregressive(self.numbers.normal(size=(400, 4096))):
             try:
                 estimates.append(trlab.blocking(series))
             except EstimateError:
                 continue
+            # As if the values were independent: 64 is the root of their number.
             naive_hits += abs(estimates[-1].mean) < 2 * series.std(ddof=1) / 64
         self.assertGreater(len(estimates), 380)
+        # Of normal errors 95 percent are below two standard errors, and here the standard error is an estimate, too.
         self.assertGreater(numpy.mean([abs(estimate.mean) < 2 * estimate.sem for estimate in estimates]), 0.90)
         self.assertLess(naive_hits / len(estimates), 0.5)
         # The variance of the mean is (1 + 0.9) / (1 - 0.9) = 19 times that of independent values; blocks find a little
@@ -50,13 +56,13 @@ class Blocking(unittest.TestCase):
         self.assertLess(abs(frame["sem"].mean() / frame["mean"].std(ddof=0) - 1), 0.12)
         self.assertLess(abs(frame["sem"].std(ddof=0) / frame.sem_error.mean() - 1), 0.4)
 
-    def test_independent_values_need_no_blocks(self):
+    def test_independent_values_need_no_blocks(self) -> None:
         series = self.numbers.normal(size=1024)
         blocks = [trlab.blocking(self.numbers.normal(size=1024)).block for _ in range(50)]
         self.assertLessEqual(numpy.median(blocks), 16)
         self.assertAlmostEqual(trlab.blocking(series).mean, series.mean())
 
-    def test_the_formulas(self):
+    def test_the_formulas(self) -> None:
         # 64 values, which are 0 or 1 in pairs: blocks of 2 lose nothing, and blocks of 16 are the first that are long
         # enough.
         pairs = numpy.repeat(self.numbers.integers(0, 2, size=32), 2).astype(float)
@@ -65,7 +71,7 @@ class Blocking(unittest.TestCase):
         self.assertAlmostEqual(estimate.sem, level.std(ddof=1) / math.sqrt(len(level)))
         self.assertAlmostEqual(estimate.sem_error, estimate.sem / math.sqrt(2 * (len(level) - 1)))
 
-    def test_values_after_the_last_whole_block_count_in_the_mean(self):
+    def test_values_after_the_last_whole_block_count_in_the_mean(self) -> None:
         series = [*self.numbers.normal(size=64), 1000.0]
         self.assertAlmostEqual(trlab.blocking([*numpy.zeros(40), *numpy.ones(41)] * 30).mean, 41 / 81)
         try:
@@ -73,7 +79,7 @@ class Blocking(unittest.TestCase):
         except EstimateError:
             pass
 
-    def test_equal_values(self):
+    def test_equal_values(self) -> None:
         for value in 0, 0.1, 7:
             expected = trlab.Blocking(mean=value, sem=0.0, sem_error=0.0, block=1, inefficiency=1.0)
             self.assertEqual(trlab.blocking([value] * 40), expected)
@@ -81,7 +87,7 @@ class Blocking(unittest.TestCase):
         self.assertEqual(alternating.mean, 0.5)
         self.assertEqual(alternating.sem, 0.0)
 
-    def test_series_without_an_error(self):
+    def test_series_without_an_error(self) -> None:
         walk = self.numbers.normal(size=512).cumsum()
         for values, message in (
             ([0.0] * 31, "at least 32 values"), ([[0.0] * 40] * 2, "one list of numbers"),
@@ -90,16 +96,19 @@ class Blocking(unittest.TestCase):
         ):
             self.assertRaisesRegex(EstimateError, message, trlab.blocking, values)
 
-    def test_one_run_of_a_grid(self):
-        def make(density, seed, key):
+    def test_one_run_of_a_grid(self) -> None:
+        def make(density: float, seed: int, key: int) -> Job:
             start = random_cells(key)
             return Job(limit=5, length=50, density=density, rule=Nasch(0.25), steps=20000, key=key, start=start)
 
         grid = Grid(make, density=[0.2, 0.3], seed=range(2))
         flow = grid.run(call=lambda job: job.series(every=50)).flow
         self.assertRaisesRegex(EstimateError, "several values of .*density.*seed", trlab.blocking, flow)
+        # The frame has the windows of four runs, and `table` those of one.
         flow_of_run = flow.xs((0.2, 1), level=("density", "seed"))
-        table = grid.inputs[0.2, 1].series(every=50).to_pandas().flow
+        job = grid.inputs[0.2, 1]
+        assert isinstance(job, Job)
+        table = job.series(every=50).to_pandas().flow
         self.assertEqual(trlab.blocking(flow_of_run), trlab.blocking(table))
         self.assertEqual(len(flow.groupby(["density", "seed"]).apply(trlab.blocking)), 4)
         twice, shuffled = pandas.concat([flow_of_run, flow_of_run]), flow_of_run.sample(frac=1, random_state=1)
@@ -113,12 +122,17 @@ TOP, HEIGHT = 0.086, 0.318
 
 
 class Peaks(unittest.TestCase):
-    AT = numpy.linspace(0.05, 0.13, 9)
+    AT: Array = numpy.linspace(0.05, 0.13, 9)
 
-    def setUp(self):
+    def setUp(self) -> None:
         self.numbers = numpy.random.default_rng(1)
 
-    def curve(self, flow, densities=AT, runs=10, noise=0.002, shared=0.0):
+    def curve(
+        self, flow: Callable[[float], float], densities: Array = AT, runs: int = 10, noise: float = 0.002,
+        shared: float = 0.0,
+    ) -> pandas.DataFrame:
+        """Runs whose flow is a function of the density, with the standard deviation `noise`. If `shared` is not 0, runs
+        with the same seed have the same key, and errors with this standard deviation in common."""
         common = self.numbers.normal(size=runs) * shared
         rows = [
             {"density": x, "seed": seed, "flow": flow(x) + noise * self.numbers.normal() + common[seed],
@@ -128,12 +142,13 @@ class Peaks(unittest.TestCase):
         return runs_of(rows, ["density", "seed"])
 
     @staticmethod
-    def parabola(x):
+    def parabola(x: float) -> float:
+        """The flow at the density x. At the ends of `AT` it is 8 and 12 percent below the peak."""
         return HEIGHT - 20 * (x - TOP) ** 2
 
-    def test_the_errors_cover_a_parabola_also_with_shared_keys(self):
+    def test_the_errors_cover_a_parabola_also_with_shared_keys(self) -> None:
         for shared, runs in (0.0, 10), (0.002, 30):
-            z = []
+            z: list[tuple[float, float]] = []
             for _ in range(80):
                 try:
                     peak = trlab.peak(self.curve(self.parabola, runs=runs, shared=shared), over="seed")
@@ -141,12 +156,13 @@ class Peaks(unittest.TestCase):
                     continue
                 z.append(((peak.y - HEIGHT) / peak.y_sem, (peak.x - TOP) / peak.x_sem))
             self.assertGreater(len(z), 65)
+            # Normal errors have the mean 0 and the standard deviation 1, and 95 percent of them are below 2.
             for deviations in numpy.array(z).T:
                 self.assertGreater((abs(deviations) < 2).mean(), 0.87)
                 self.assertLess(abs(deviations.mean()), 0.4)
                 self.assertLess(abs(deviations.std() - 1), 0.3)
 
-    def test_the_peak_is_nearer_to_the_maximum_than_the_highest_mean(self):
+    def test_the_peak_is_nearer_to_the_maximum_than_the_highest_mean(self) -> None:
         frames = [self.curve(self.parabola, runs=5, noise=0.004) for _ in range(40)]
         highest = numpy.mean([trlab.means(frame, "seed").flow.max() for frame in frames])
         fitted = []
@@ -157,37 +173,43 @@ class Peaks(unittest.TestCase):
                 continue
         self.assertGreater(highest - HEIGHT, 2 * abs(numpy.mean(fitted) - HEIGHT))
 
-    def peaks(self, count, *curve, within=0.05, **options):
+    def peaks(
+        self, count: int, flow: Callable[[float], float], densities: Array = AT, runs: int = 10, noise: float = 0.002,
+        within: float = 0.05,
+    ) -> list[Peak]:
         """The peaks of a number of curves, without those that are rejected."""
         peaks = []
         for _ in range(count):
             with contextlib.suppress(EstimateError):
-                peaks.append(trlab.peak(self.curve(*curve, **options), over="seed", within=within))
+                peaks.append(trlab.peak(self.curve(flow, densities, runs, noise), over="seed", within=within))
         return peaks
 
-    def test_chi2_is_about_the_degrees_of_freedom(self):
+    def test_chi2_is_about_the_degrees_of_freedom(self) -> None:
         peaks = self.peaks(60, self.parabola, runs=5)
         self.assertGreater(len(peaks), 48)
         # Less than 1, because the degree is the best of four.
         self.assertTrue(0.4 < numpy.mean([peak.chi2 / peak.dof for peak in peaks]) < 1.2)
 
-    def test_a_flat_curve_has_no_peak(self):
-        peaks = self.peaks(40, lambda x: 0.318 - (x - 0.09) ** 2, runs=5, noise=0.01)
+    def test_a_flat_curve_has_no_peak(self) -> None:
+        peaks = self.peaks(40, lambda x: HEIGHT - (x - 0.09) ** 2, runs=5, noise=0.01)
         self.assertLess(len(peaks), 2)
 
-    def test_a_peak_next_to_a_plateau(self):
-        def flow(x):
-            return 0.318 - (20 * (x - 0.086) ** 2 if x < 0.086 else 0.006 * (1 - math.exp(-((x - 0.086) / 0.015) ** 2)))
+    def test_a_peak_next_to_a_plateau(self) -> None:
+        def flow(x: float) -> float:
+            """The parabola below its top, and above it a fall by 0.006 to a plateau."""
+            return HEIGHT - (20 * (x - TOP) ** 2 if x < TOP else 0.006 * (1 - math.exp(-((x - TOP) / 0.015) ** 2)))
 
         peaks = self.peaks(20, flow)
         self.assertGreater(len(peaks), 15)
-        self.assertLess(abs(numpy.mean([peak.y for peak in peaks]) - 0.318), 0.001)
+        self.assertLess(abs(numpy.mean([peak.y for peak in peaks]) - HEIGHT), 0.001)
 
-    def test_a_plateau_has_no_peak(self):
-        def rising(x):
-            return 0.318 - (20 * (x - 0.086) ** 2 if x < 0.086 else 0.0)
+    def test_a_plateau_has_no_peak(self) -> None:
+        def rising(x: float) -> float:
+            """The parabola below its top, and above it its height."""
+            return HEIGHT - (20 * (x - TOP) ** 2 if x < TOP else 0.0)
 
-        def falling(x):
+        def falling(x: float) -> float:
+            """The curve `rising`, mirrored at the middle of the densities `AT`, which is 0.09."""
             return rising(0.18 - x)
 
         for flow in rising, falling:
@@ -195,7 +217,7 @@ class Peaks(unittest.TestCase):
         # Here noise ends the part that is fitted, and not a fall of the curve.
         self.assertLess(len(self.peaks(40, lambda x: 0.3, numpy.linspace(0.05, 0.13, 60), within=0.006)), 3)
 
-    def test_the_fields_of_a_peak(self):
+    def test_the_fields_of_a_peak(self) -> None:
         frame = self.curve(self.parabola, runs=7, noise=1e-4)
         peak = trlab.peak(frame, over="seed", within=0.05)
         self.assertEqual(peak.n, 7)
@@ -208,13 +230,15 @@ class Peaks(unittest.TestCase):
             rtol=1e-6,
         )
 
-    def test_a_bad_fit_has_larger_errors(self):
-        from trlab._analysis.peak import _fit as fit
+    def test_a_bad_fit_has_larger_errors(self) -> None:
+        from trlab._analysis.peak import _Fit, _fit as fit
 
         frame = self.curve(self.parabola, runs=7, noise=1e-4)
 
-        def errors(ratio):
-            def fitted(t, mean, covariance, n):
+        def errors(ratio: float) -> tuple[float, float]:
+            """The errors of the peak if chi2 is this many times the degrees of freedom."""
+
+            def fitted(t: Array, mean: Array, covariance: Array, n: int) -> _Fit:
                 best = fit(t, mean, covariance, n)
                 return best._replace(chi2=ratio * (len(t) - best.degree - 1))
 
@@ -222,9 +246,10 @@ class Peaks(unittest.TestCase):
                 peak = trlab.peak(frame, over="seed")
             return peak.x_sem, peak.y_sem
 
+        # Errors grow with the root of the ratio if it is above 1, and a ratio below 1 does not make them smaller.
         numpy.testing.assert_allclose(errors(4.0), numpy.multiply(2, errors(0.5)))
 
-    def test_curves_without_a_peak(self):
+    def test_curves_without_a_peak(self) -> None:
         densities = numpy.linspace(0.13, 0.21, 12)
         for message, frame in (
             ("kink", self.curve(lambda x: min(5 * x, 1 - x), densities, 8, 0.0005)),
@@ -237,7 +262,7 @@ class Peaks(unittest.TestCase):
         ):
             self.assertRaisesRegex(EstimateError, message, trlab.peak, frame, over="seed")
 
-    def test_frames_that_are_not_a_curve(self):
+    def test_frames_that_are_not_a_curve(self) -> None:
         frame = self.curve(self.parabola)
         two_curves = pandas.concat({0.1: frame, 0.2: frame.assign(ensemble="x")}, names=["p"])
         self.assertRaisesRegex(
@@ -258,20 +283,22 @@ class Peaks(unittest.TestCase):
 
 
 class Lifetimes(unittest.TestCase):
-    def test_the_formula(self):
+    def test_the_formula(self) -> None:
         estimate = trlab.lifetime([3, 5, 2, 10], [True, True, False, False])
         self.assertEqual(estimate, trlab.Lifetime(mean=10.0, sem=10 / math.sqrt(2), observed=2, censored=2))
 
-    def test_half_may_be_cut_off(self):
-        numbers, z = numpy.random.default_rng(1), []
+    def test_half_may_be_cut_off(self) -> None:
+        numbers = numpy.random.default_rng(1)
+        z: list[float] = []
         for _ in range(200):
+            # The share exp(-0.7) of the lives, which is about a half, is longer than 700 steps.
             times = numbers.exponential(1000, size=60)
             estimate = trlab.lifetime(numpy.minimum(times, 700), times <= 700)
             z.append((estimate.mean - 1000) / estimate.sem)
         self.assertLess(abs(numpy.mean(z)), 0.3)
         self.assertGreater((abs(numpy.array(z)) < 2).mean(), 0.9)
 
-    def test_survival_of_a_worked_example(self):
+    def test_survival_of_a_worked_example(self) -> None:
         # At 2 one of 5 lives ends, at 3 one of 4 ends and one is cut off, at 5 one of 2 ends.
         curve = trlab.survival([2, 3, 3, 5, 8], [True, True, False, True, False])
         self.assertEqual(list(curve.index), [0, 2, 3, 5, 8])
@@ -280,7 +307,7 @@ class Lifetimes(unittest.TestCase):
         greenwood = numpy.cumsum([0, 1 / (5 * 4), 1 / (4 * 3), 1 / (2 * 1), 0])
         numpy.testing.assert_allclose(curve.survival_sem, curve.survival * numpy.sqrt(greenwood))
 
-    def test_survival_without_cuts_is_the_share_of_longer_lives(self):
+    def test_survival_without_cuts_is_the_share_of_longer_lives(self) -> None:
         times = numpy.random.default_rng(2).integers(1, 30, size=50)
         curve = trlab.survival(times, [True] * 50)
         for time, row in curve.iterrows():
@@ -290,13 +317,13 @@ class Lifetimes(unittest.TestCase):
                 self.assertAlmostEqual(row.survival_sem, math.sqrt(share * (1 - share) / 50))
         self.assertTrue(math.isnan(curve.survival_sem.iloc[-1]))
 
-    def test_survival_of_an_exponential_law(self):
+    def test_survival_of_an_exponential_law(self) -> None:
         times = numpy.random.default_rng(3).exponential(100, size=2000)
         curve = trlab.survival(numpy.minimum(times, 150), times < 150)
         inside = abs(curve.survival - numpy.exp(-curve.index / 100)) < 3 * curve.survival_sem + 0.01
         self.assertTrue(inside[curve.index < 140].all())
 
-    def test_lives_without_information(self):
+    def test_lives_without_information(self) -> None:
         for call in trlab.lifetime, trlab.survival:
             for message, times, observed in (
                 ("above 0", [0, 5], [True, True]),
@@ -317,7 +344,7 @@ class Lifetimes(unittest.TestCase):
         self.assertRaisesRegex(EstimateError, "no life ended in 7 steps", trlab.lifetime, [3, 4], [False, False])
         self.assertEqual(list(trlab.survival([3, 4], [False, False]).survival), [1, 1, 1])
 
-    def test_lives_of_several_inputs(self):
+    def test_lives_of_several_inputs(self) -> None:
         index = pandas.MultiIndex.from_product([[0.1, 0.2], [0, 1]], names=["density", "seed"])
         lives = pandas.DataFrame({"time": [3, 5, 4, 4], "observed": [True, False, True, True]}, index=index)
         for call in trlab.lifetime, trlab.survival:
@@ -330,11 +357,12 @@ class Lifetimes(unittest.TestCase):
             )
             self.assertRaisesRegex(EstimateError, "same runs", call, lives.time, lives.observed[::-1])
             self.assertRaisesRegex(EstimateError, "one column", call, lives, lives.observed)
+        # The sum of the times, divided by the number of observed ends.
         means = {density: trlab.lifetime(runs.time, runs.observed).mean for density, runs in lives.groupby("density")}
         self.assertEqual(means, {0.1: 8, 0.2: 4})
 
-    def test_the_lifetime_of_free_flow(self):
-        ring = dict(limit=5, length=500, density=0.18, rule=SlowToStart("1/64", "3/4"), start=moving, steps=500)
+    def test_the_lifetime_of_free_flow(self) -> None:
+        ring: dict[str, Any] = dict(limit=5, length=500, density=0.18, rule=SlowToStart("1/64", "3/4"), start=moving, steps=500)
         grid = Grid(lambda seed, key: Job(**ring, key=key), seed=range(12))
         lives = grid.run(call=lambda job: job.time_until(lambda window: window.stopped > 0, every=10))
         estimate = trlab.lifetime(lives.time, lives.observed)
@@ -342,7 +370,7 @@ class Lifetimes(unittest.TestCase):
         self.assertEqual(estimate.mean, lives.time.sum() / lives.observed.sum())
         self.assertEqual(estimate.observed + estimate.censored, 12)
 
-    def test_a_mean_of_censored_times_is_rejected(self):
+    def test_a_mean_of_censored_times_is_rejected(self) -> None:
         lives = runs_of([{"seed": 0, "time": 3, "observed": True}, {"seed": 1, "time": 5, "observed": False}], ["seed"])
         self.assertRaisesRegex(FrameError, "trlab.lifetime", trlab.means, lives, "seed")
         self.assertEqual(trlab.means(lives.assign(observed=True), "seed").time[0], 4)

@@ -8,14 +8,16 @@ import statistics
 import subprocess
 import sys
 import unittest
+from collections.abc import Callable, Mapping, Sequence
 from pathlib import Path
+from typing import Optional
 
 import trlab
 from tests.libraries import hypothesis, numpy, pandas
-from tests.studies_for_tests import NO_CARS, known, studies
-from trlab import FrameError, Grid, Job, Nasch, ParameterError, random_cells
+from tests.studies_for_tests import NO_CARS, Study, known, studies
+from trlab import FrameError, Grid, Job, Nasch, ParameterError, Table, Window, random_cells
 from trlab._analysis.columns import COUNTS, LANE_SUMS
-from trlab._analysis.frames import tidy
+from trlab._analysis.frames import Place, tidy
 from trlab._analysis.means import mean_and_sem
 
 given, st = hypothesis.given, hypothesis.strategies
@@ -23,27 +25,36 @@ given, st = hypothesis.given, hypothesis.strategies
 MANY = hypothesis.settings(max_examples=25, deadline=None, database=None, derandomize=True)
 FEW = hypothesis.settings(max_examples=12, deadline=None, database=None, derandomize=True)
 
+Call = tuple[Callable[[], pandas.DataFrame], bool]
+"""A call, and whether it is harmless."""
 
-def as_dict(means, column="flow"):
+
+def as_dict(means: pandas.DataFrame, column: str = "flow") -> dict[Place, Sequence[float]]:
     """The number, mean and standard error of a column by place, which is a tuple of the parameters."""
     rows = means[["n", column, f"{column}_sem"]].itertuples(name=None)
     return {(place if isinstance(place, tuple) else (place,)): numbers for place, *numbers in rows}
 
 
-def runs_by_seed(**columns):
+def runs_by_seed(**columns: Sequence[object]) -> pandas.DataFrame:
     """A frame of two repetitions with these columns."""
-    identity = {"key": ["a", "b"], "road": 0, "ensemble": "e"}
-    return pandas.DataFrame({"seed": [0, 1], **identity, **columns}).set_index("seed")
+    identity: dict[str, object] = {"seed": [0, 1], "key": ["a", "b"], "road": 0, "ensemble": "e"}
+    return pandas.DataFrame({**identity, **columns}).set_index("seed")
 
 
-def window_until(step):
+def window_until(step: int) -> Window:
     """The 10 steps until this one, of one car on 10 cells."""
-    return trlab.Window(
+    return Window(
         step=step, cars=1, cells=10, steps=10, distance=5, stopped=0, changes=0, flow_millionths=0, **NO_CARS
     )
 
 
-def at_random(frame, order):
+def frame_of(rows: Sequence[Window]) -> pandas.DataFrame:
+    """The frame of the windows of one run."""
+    results: dict[Place, object] = {(0,): Table(Window, rows)}
+    return tidy(results, ["seed"], {(0,): known(0)})
+
+
+def at_random(frame: pandas.DataFrame, order: random.Random) -> pandas.DataFrame:
     """The rows of a frame in a random order."""
     rows = list(range(len(frame)))
     order.shuffle(rows)
@@ -51,25 +62,28 @@ def at_random(frame, order):
 
 
 class Defects:
-    """Wrong calls for the runs of a study, in some of which one row is wrong: each call by its name, and whether it is harmless."""
+    """Wrong calls for the runs of a study, in some of which one row is wrong: each call by its name, and whether it is
+    harmless."""
 
-    def __init__(self, study, row):
-        self.study, self.row, self.frame, self.group = study, row, study.frame, study.names
+    def __init__(self, study: Study, row: int) -> None:
+        self.study, self.row, self.frame, self.group = study, row, study.frame, list(study.names)
         self.runs = trlab.per_run(study.frame)
         self.is_one, self.is_one_seed = len(self.runs) == 1, study.seeds == 1
         self.level = self.group[0] if self.group else "seed"
 
-    def in_row(self, wrong, right):
+    def in_row(self, wrong: object, right: object) -> list[object]:
+        """The values of a column that is wrong in this row."""
         return [wrong if number == self.row else right for number in range(len(self.runs))]
 
-    def with_row(self, column, wrong, right):
+    def with_row(self, column: str, wrong: object, right: object) -> pandas.DataFrame:
         """The means of runs of which one has a wrong value."""
         return trlab.means(self.runs.assign(**{column: self.in_row(wrong, right)}), "seed")
 
-    def all(self):
+    def all(self) -> dict[str, Call]:
         return {**self.of_calls(), **self.of_values(), **self.of_columns(), **self.of_rows(), **self.of_parameters()}
 
-    def of_calls(self):
+    def of_calls(self) -> dict[str, Call]:
+        """Means over wrong rows or levels."""
         frame, runs = self.frame, self.runs
         return {
             "windows": (lambda: trlab.means(frame.droplevel("step"), "seed"), len(frame) == len(runs)),
@@ -85,7 +99,8 @@ class Defects:
             "no such column": (lambda: trlab.means(runs, "seed", of=["flw"]), False),
         }
 
-    def of_values(self):
+    def of_values(self) -> dict[str, Call]:
+        """Values that have no mean."""
         runs = self.runs
         flows = runs.flow.where(numpy.arange(len(runs)) != self.row)
         return {
@@ -101,7 +116,8 @@ class Defects:
             ),
         }
 
-    def of_columns(self):
+    def of_columns(self) -> dict[str, Call]:
+        """Columns that identify a run, and columns that means would replace."""
         runs = self.runs
         return {
             "same keys": (lambda: trlab.means(runs.assign(key="0" * 64), "seed"), self.is_one_seed),
@@ -114,7 +130,8 @@ class Defects:
             "other cars": (lambda: self.with_row("cars", 1, 2), self.is_one_seed),
         }
 
-    def of_rows(self):
+    def of_rows(self) -> dict[str, Call]:
+        """Runs that are missing, and runs that are there twice."""
         runs, others = self.runs, [number for number in range(len(self.runs)) if number != self.row]
         is_group_lost = self.is_one_seed and not self.is_one
         return {
@@ -127,7 +144,7 @@ class Defects:
             ),
         }
 
-    def of_parameters(self):
+    def of_parameters(self) -> dict[str, Call]:
         """Parameters that are lost: harmless only if they have one value."""
         runs, group = self.runs, self.group
         is_harmless = not group or len({place[0] for place in self.study.results}) == 1
@@ -143,7 +160,8 @@ class Defects:
 
 
 class Means(unittest.TestCase):
-    def same(self, result, expected):
+    def same(self, result: Mapping[Place, Sequence[float]], expected: Mapping[Place, Sequence[float]]) -> None:
+        """Two results of `as_dict` are equal up to rounding. Without parameters the only place is ()."""
         if set(expected) == {()}:
             result = {(): next(iter(result.values()))}
         self.assertEqual(set(result), set(expected))
@@ -152,13 +170,13 @@ class Means(unittest.TestCase):
 
     @MANY
     @given(studies(), st.randoms())
-    def test_equal_plain_python_in_any_order(self, study, order):
+    def test_equal_plain_python_in_any_order(self, study: Study, order: random.Random) -> None:
         runs = trlab.per_run(at_random(study.frame, order))
         self.same(as_dict(trlab.means(at_random(runs, order), over="seed")), study.expected())
 
     @MANY
     @given(studies(), st.randoms())
-    def test_equal_plain_pandas(self, study, order):
+    def test_equal_plain_pandas(self, study: Study, order: random.Random) -> None:
         runs = at_random(trlab.per_run(study.frame), order)
         means = trlab.means(runs, over="seed", of=["speed", "stopped", "windows"])
         groups = runs.groupby(study.names) if study.names else runs.groupby(lambda _: 0)
@@ -170,11 +188,12 @@ class Means(unittest.TestCase):
 
     @MANY
     @given(studies(), st.data())
-    def test_some_missing_runs_change_nothing_else(self, study, data):
+    def test_some_missing_runs_change_nothing_else(self, study: Study, data: "st.DataObject") -> None:
         runs = trlab.per_run(study.frame)
         rest = runs[[data.draw(st.booleans()) for _ in range(len(runs))]]
         if not len(rest):
-            return self.assertRaisesRegex(FrameError, "no rows", trlab.means, rest, "seed")
+            self.assertRaisesRegex(FrameError, "no rows", trlab.means, rest, "seed")
+            return
         sizes = set(rest.groupby(study.names).size()) if study.names else {len(rest)}
         if len(sizes) > 1:
             self.assertRaisesRegex(FrameError, "groups have", trlab.means, rest, "seed")
@@ -187,7 +206,7 @@ class Means(unittest.TestCase):
 
     @FEW
     @given(studies(), st.data())
-    def test_a_defect_is_an_error_or_makes_no_difference(self, study, data):
+    def test_a_defect_is_an_error_or_makes_no_difference(self, study: Study, data: "st.DataObject") -> None:
         row = data.draw(st.integers(0, len(trlab.per_run(study.frame)) - 1))
         defects = Defects(study, row).all()
         for name, (defect, is_harmless) in defects.items():
@@ -199,10 +218,11 @@ class Means(unittest.TestCase):
 
     @FEW
     @given(studies(), st.data())
-    def test_a_failed_choice_is_reported(self, study, data):
+    def test_a_failed_choice_is_reported(self, study: Study, data: "st.DataObject") -> None:
         place = data.draw(st.sampled_from(list(study.results)))
-        others = {other: rows for other, rows in study.results.items() if other != place}
-        for failed in {**others, place: OSError("gone")}, others:
+        others: dict[Place, object] = {other: rows for other, rows in study.results.items() if other != place}
+        with_an_error: dict[Place, object] = {**others, place: OSError("gone")}
+        for failed in with_an_error, others:
             frame = tidy(failed, study.fields, study.runs, keep=True)
             (error,) = frame["error"].dropna()
             self.assertIn(error, ("OSError: gone", "no result yet"))
@@ -211,7 +231,7 @@ class Means(unittest.TestCase):
 
     @FEW
     @given(studies())
-    def test_lanes_and_counts_are_added_up(self, study):
+    def test_lanes_and_counts_are_added_up(self, study: Study) -> None:
         runs = trlab.per_run(study.frame)
         for (_, run), rows in zip(runs.iterrows(), study.results.values()):
             for name in COUNTS[2:] + LANE_SUMS:
@@ -219,15 +239,15 @@ class Means(unittest.TestCase):
             self.assertEqual(run.windows, len(rows))
             self.assertEqual(run.cars, rows[0].cars)
 
-    def test_a_missing_window_is_an_error(self):
+    def test_a_missing_window_is_an_error(self) -> None:
         rows = [window_until(step) for step in (10, 20, 30)]
-        frame = tidy({(0,): trlab.Table(trlab.Window, rows)}, ["seed"], {(0,): known(0)})
+        frame = frame_of(rows)
         self.assertRaisesRegex(FrameError, "do not follow each other at step 30", trlab.per_run, frame.iloc[[0, 2]])
         self.assertEqual(list(trlab.per_run(frame.iloc[1:]).steps), [20])
 
-    def test_windows_that_cannot_be_added_up(self):
+    def test_windows_that_cannot_be_added_up(self) -> None:
         rows = [window_until(step) for step in (10, 20, 30, 40)]
-        frame = tidy({(0,): trlab.Table(trlab.Window, rows)}, ["seed"], {(0,): known(0)})
+        frame = frame_of(rows)
         self.assertRaisesRegex(FrameError, r"cannot add up \['gap'\]", trlab.per_run, frame.assign(gap=1))
         self.assertRaisesRegex(FrameError, "cannot add up", trlab.per_run, frame.drop(columns="distance"))
         for name in "distance", "stopped0", "cars":
@@ -238,49 +258,51 @@ class Means(unittest.TestCase):
         of_two_keys = frame.assign(key=["a", "a", "b", "b"])
         self.assertRaisesRegex(FrameError, "windows of different steps", trlab.per_run, of_two_keys)
 
-    def test_without_cars_only_values_per_car_are_missing(self):
+    def test_without_cars_only_values_per_car_are_missing(self) -> None:
         frame = runs_by_seed(cars=[0, 0], flow=[0.0, math.nan], speed=[math.nan, math.nan])
         self.assertRaisesRegex(FrameError, "`flow` has 1 values", trlab.means, frame, "seed")
         self.assertTrue(math.isnan(trlab.means(frame, "seed", of="speed").speed[0]))
 
-    def test_the_missing_run_is_named(self):
+    def test_the_missing_run_is_named(self) -> None:
         frame = pandas.DataFrame(
             {"p": [1, 1, 2], "seed": [0, 1, 0], "key": list("abc"), "road": 0, "ensemble": list("xxy"), "x": 0.0}
         )
         with self.assertRaisesRegex(FrameError, r"p=2 \(without seed=1\)"):
             trlab.means(frame.set_index(["p", "seed"]), "seed")
 
-    def test_counts_are_averaged_on_request(self):
+    def test_counts_are_averaged_on_request(self) -> None:
         frame = runs_by_seed(distance=[4, 6], distance0=[1, 3], windows=[2, 2], x=[1.0, 1.0])
         self.assertEqual(list(trlab.means(frame, "seed")), ["n", "x", "x_sem"])
         self.assertEqual(
             trlab.means(frame, "seed", of="distance").iloc[0].to_dict(), {"n": 2, "distance": 5, "distance_sem": 1}
         )
 
-    def test_runs_with_one_name(self):
+    def test_runs_with_one_name(self) -> None:
         frame = pandas.DataFrame(
             {"seed": [0, 0], "key": list("ab"), "road": 0, "ensemble": "e", "x": [1.0, 2.0]}
         ).set_index("seed")
         self.assertRaisesRegex(FrameError, "two rows are seed=0", trlab.means, frame, "seed")
 
-    def test_a_level_may_have_missing_values(self):
-        columns = {"p": [None, None, 1.0, 1.0], "seed": [0, 1] * 2, "key": list("abcd"), "x": [1.0, 3.0, 5.0, 7.0]}
+    def test_a_level_may_have_missing_values(self) -> None:
+        columns: dict[str, object] = {
+            "p": [None, None, 1.0, 1.0], "seed": [0, 1] * 2, "key": list("abcd"), "x": [1.0, 3.0, 5.0, 7.0],
+        }
         frame = pandas.DataFrame({**columns, "road": 0, "ensemble": "e"}).set_index(["p", "seed"])
         self.assertEqual(list(trlab.means(frame, "seed").x), [2, 6])
 
-    def test_a_frame_without_rows_or_numbers(self):
+    def test_a_frame_without_rows_or_numbers(self) -> None:
         frame = runs_by_seed(x=["a", "a"])
         self.assertRaisesRegex(FrameError, "no rows", trlab.means, frame[:0], "seed")
         self.assertRaisesRegex(FrameError, "no column of numbers", trlab.means, frame, "seed")
         self.assertRaisesRegex(FrameError, "`over` is the name", trlab.means, frame, [])
 
-    def test_equal_values_have_no_error(self):
+    def test_equal_values_have_no_error(self) -> None:
         mean, sem = mean_and_sem(numpy.array([0.1, 7.0, 0.1, 0.1]), numpy.array([0, 1, 0, 0]))
         self.assertEqual(list(mean), [0.1, 7.0])
         self.assertEqual(sem[0], 0.0)
         self.assertTrue(math.isnan(sem[1]))
 
-    def test_a_large_offset_costs_no_digits(self):
+    def test_a_large_offset_costs_no_digits(self) -> None:
         mean, sem = mean_and_sem(1e9 + numpy.array([0.0, 1.0] * 50), numpy.zeros(100, dtype=int))
         self.assertEqual(mean[0], 1e9 + 0.5)
         self.assertEqual(round(sem[0], 12), round(statistics.stdev([0.0, 1.0] * 50) / 10, 12))
@@ -289,23 +311,28 @@ class Means(unittest.TestCase):
 class Misreadings(unittest.TestCase):
     """Calls that used to return a wrong number without an error."""
 
-    def job(self, density, seed, key):
+    def job(self, density: float, seed: int, key: int) -> Job:
         return Job(limit=5, length=50, density=density, rule=Nasch(0.25), start=random_cells(key), steps=40, key=key)
 
-    def frame(self, call=lambda job: job.series(every=10), **parameters):
-        return Grid(self.job, **{"density": [0.2], "seed": range(4), **parameters}).run(call=call)
+    def frame(
+        self, call: Callable[[Job], object] = lambda job: job.series(every=10), **parameters: Sequence[float]
+    ) -> pandas.DataFrame:
+        """The results of these jobs: four repetitions at density 0.2, unless `parameters` has others."""
+        choices: dict[str, Sequence[float]] = {"density": [0.2], "seed": range(4), **parameters}
+        return Grid(self.job, **choices).run(call=call)
 
-    def test_the_error_of_a_mean_is_that_over_runs(self):
+    def test_the_error_of_a_mean_is_that_over_runs(self) -> None:
         frame = self.frame()
         self.assertRaisesRegex(FrameError, "windows of one run are correlated", trlab.means, frame, "step")
         means = trlab.means(trlab.per_run(frame), "seed").iloc[0]
-        flows = [job.series(every=40)[0].flow for job in Grid(self.job, density=[0.2], seed=range(4)).inputs.values()]
+        jobs = Grid(self.job, density=[0.2], seed=range(4)).inputs.values()
+        flows = [job.series(every=40)[0].flow for job in jobs if isinstance(job, Job)]
         self.assertEqual(means.n, 4)
         self.assertEqual(round(means.flow_sem, 12), round(statistics.stdev(flows) / 2, 12))
         by_window = trlab.means(frame, "seed")
         self.assertRaisesRegex(FrameError, "are they means already", trlab.means, by_window, "step")
 
-    def test_columns_of_a_result_are_not_replaced(self):
+    def test_columns_of_a_result_are_not_replaced(self) -> None:
         frame = self.frame(lambda job: {"count": 7, "x": 1.0, "x_sem": 0.001})
         self.assertEqual(list(frame["count"]), [7] * 4)
         self.assertRaisesRegex(FrameError, "`x_sem` would be overwritten", trlab.means, frame, "seed")
@@ -313,25 +340,25 @@ class Misreadings(unittest.TestCase):
             FrameError, "`n` would be overwritten", trlab.means, frame.rename(columns={"count": "n"}), "seed", of="n"
         )
 
-    def test_a_parameter_and_a_result_of_one_name(self):
+    def test_a_parameter_and_a_result_of_one_name(self) -> None:
         self.assertRaisesRegex(
             FrameError, "give measured values another name", self.frame, lambda job: {"density": 0.9999}
         )
         self.assertRaisesRegex(FrameError, "give it another name", self.frame, lambda job: {"seed": 1})
 
-    def test_the_density_is_that_of_the_road(self):
+    def test_the_density_is_that_of_the_road(self) -> None:
         frame = self.frame(density=[0.011, 0.2])
         self.assertEqual(sorted(set(frame.index.get_level_values("density"))), [0.02, 0.2])
         self.assertTrue((frame.flow <= 5 * frame.index.get_level_values("density")).all())
         self.assertRaisesRegex(ParameterError, "both 1 cars", self.frame, density=[0.011, 0.02, 0.029])
 
-    def test_arithmetic_with_speeds_does_not_overflow(self):
+    def test_arithmetic_with_speeds_does_not_overflow(self) -> None:
         speeds = Job(limit=20, length=200, cars=2, rule=Nasch(0), steps=50).run().speeds()
         self.assertEqual(numpy.nanmax(speeds * speeds), 400)
         self.assertGreater(numpy.nanmean(speeds * speeds), 0)
         self.assertTrue(math.isnan(speeds.mean()))
 
-    def test_numbers_of_numpy_and_missing_ones(self):
+    def test_numbers_of_numpy_and_missing_ones(self) -> None:
         frame = self.frame(
             lambda job: {"x": numpy.int64(job.count()), "y": numpy.nan, "z": None, "flag": numpy.bool_(True)}
         )
@@ -342,14 +369,15 @@ class Misreadings(unittest.TestCase):
             )
         self.assertRaisesRegex(FrameError, "missing or not finite", trlab.means, frame, "seed")
 
-    def test_one_value_does_not_remove_a_column(self):
-        for odd in {"x": None}, {}, {"x": "a"}:
-            frame = self.frame(lambda job: {"x": 1.0} if job.key % 3 else {"y": 0, **odd}, seed=range(9))
+    def test_one_value_does_not_remove_a_column(self) -> None:
+        odd_results: list[dict[str, object]] = [{"y": 0, "x": None}, {"y": 0}, {"y": 0, "x": "a"}]
+        for odd in odd_results:
+            frame = self.frame(lambda job: {"x": 1.0} if job.key % 3 else odd, seed=range(9))
             frame = frame.drop(columns="y")
             self.assertRaisesRegex(FrameError, "missing or not finite|not numbers", trlab.means, frame, "seed")
 
-    def test_a_choice_without_rows_does_not_vanish(self):
-        def windows(job):
+    def test_a_choice_without_rows_does_not_vanish(self) -> None:
+        def windows(job: Job) -> Table[Window]:
             return job.series(every=10)[:0 if job.key % 2 else 4]
 
         self.assertRaisesRegex(FrameError, "the result has no rows", self.frame, windows, seed=range(9))
@@ -357,18 +385,20 @@ class Misreadings(unittest.TestCase):
         self.assertEqual(set(frame.index.get_level_values("seed")), set(range(9)))
         self.assertRaisesRegex(FrameError, "there is no result", trlab.per_run, frame)
 
-    def test_repetitions_of_one_key(self):
-        def forgets(seed, key):
+    def test_repetitions_of_one_key(self) -> None:
+        def forgets(seed: int, key: int) -> Job:
+            """A job that ignores the seed and the key."""
             return Job(limit=5, length=50, density=0.2, rule=Nasch(0.25), steps=40)
 
-        def starts(seed, key):
+        def starts(seed: int, key: int) -> Job:
+            """A job whose seed decides only where the cars start."""
             return Job(limit=5, length=50, density=0.2, rule=Nasch(0.25), steps=40, start=random_cells(seed))
 
         self.assertRaisesRegex(ParameterError, "the same run", Grid, forgets, seed=range(5))
         frame = Grid(starts, seed=range(5)).run(call=lambda job: job.series(every=40))
         self.assertRaisesRegex(FrameError, "the same key", trlab.means, frame, "seed")
 
-    def test_the_error_of_one_long_run(self):
+    def test_the_error_of_one_long_run(self) -> None:
         flows, naive, blocks = [], [], []
         for key in range(20):
             table = Job(
@@ -384,14 +414,14 @@ class Misreadings(unittest.TestCase):
         self.assertGreater(len(blocks), 15)
         self.assertTrue(0.7 < statistics.fmean(blocks) / spread < 1.4, (statistics.fmean(blocks), spread))
 
-    def test_a_row_and_its_fields_have_one_flow(self):
+    def test_a_row_and_its_fields_have_one_flow(self) -> None:
         rows = self.frame(lambda job: job.series(every=40)[0])
         pandas.testing.assert_frame_equal(self.frame(lambda job: job.series(every=40)[0]._asdict()), rows)
         self.assertTrue((rows.flow <= 1).all())
 
 
 class NumpyTwo(unittest.TestCase):
-    def test_means_by_the_promotion_of_numpy_2(self):
+    def test_means_by_the_promotion_of_numpy_2(self) -> None:
         command = [
             sys.executable, "-B", "-m", "unittest", "-q",
             "tests.test_frames.Means.test_equal_plain_python_in_any_order",
@@ -407,20 +437,21 @@ class NumpyTwo(unittest.TestCase):
 class Strangers(unittest.TestCase):
     """Misreadings that a first-time user made."""
 
-    def roads(self, start, seed, key):
+    def roads(self, start: str, seed: int, key: int) -> Job:
+        """A job on 100 cells, whose 8 cars begin in a jam or drive freely."""
         road = {"jam": "0" * 8 + "." * 92, "free": ("5" + "." * 9) * 8 + "." * 20}[start]
         return Job(limit=5, rule=Nasch(0.25), start=road, steps=40, key=key)
 
-    def test_roads_with_different_cells_are_not_repetitions(self):
+    def test_roads_with_different_cells_are_not_repetitions(self) -> None:
         frame = Grid(self.roads, start=["jam", "free"], seed=range(3)).run(call=lambda job: job.series(every=40))
         runs = trlab.per_run(frame)
         self.assertEqual(list(trlab.means(runs, over="seed").n), [3, 3])
         with self.assertRaisesRegex(FrameError, "roads with different cells .* drawn=True"):
             trlab.means(runs, over=["start", "seed"])
 
-    def test_roads_that_were_drawn_are_repetitions(self):
-        def make(seed, key):
-            cells = [None] * 100
+    def test_roads_that_were_drawn_are_repetitions(self) -> None:
+        def make(seed: int, key: int) -> Job:
+            cells: list[Optional[int]] = [None] * 100
             for cell in random.Random(seed).sample(range(100), 20):
                 cells[cell] = 0
             return Job(limit=5, rule=Nasch(0.25), start=cells, steps=40, key=key)
@@ -429,14 +460,14 @@ class Strangers(unittest.TestCase):
         self.assertRaisesRegex(FrameError, "drawn=True", trlab.means, runs, over="seed")
         self.assertEqual(list(trlab.means(runs, over="seed", drawn=True).n), [4])
 
-    def test_a_file_that_pandas_reads_is_in_other_units(self):
+    def test_a_file_that_pandas_reads_is_in_other_units(self) -> None:
         table = Job(limit=5, length=100, cars=20, rule=Nasch(0.25), steps=40).series(every=40)
         read = pandas.read_csv(io.StringIO(table.text()))
         self.assertRaisesRegex(FrameError, "`flow` .* millionths", trlab.to_si, read)
         self.assertEqual(list(trlab.to_si(table.to_pandas()).flow_per_h), [3600 * table[0].flow])
 
-    def test_values_that_contradict_their_counts(self):
-        def make(seed, key):
+    def test_values_that_contradict_their_counts(self) -> None:
+        def make(seed: int, key: int) -> Job:
             return Job(limit=5, length=100, cars=20, rule=Nasch(0.25), steps=40, key=key)
 
         frame = Grid(make, seed=range(3)).run(call=lambda job: job.series(every=20))
@@ -451,8 +482,8 @@ class Strangers(unittest.TestCase):
         if best_windows.index.get_level_values("step").nunique() > 1:
             self.assertRaisesRegex(FrameError, "windows of different steps", trlab.per_run, best_windows)
 
-    def test_repetitions_without_random_numbers_are_all_the_same(self):
-        def make(rule, start, seed, key):
+    def test_repetitions_without_random_numbers_are_all_the_same(self) -> None:
+        def make(rule: str, start: str, seed: int, key: int) -> Job:
             state = trlab.even if start == "even" else random_cells(key)
             used = {"0": Nasch(0), "1": Nasch(1), "p": Nasch(0.5)}[rule]
             return Job(limit=5, length=100, cars=20, rule=used, steps=9, key=key, start=state)
@@ -463,8 +494,8 @@ class Strangers(unittest.TestCase):
             self.assertEqual(len(Grid(make, rule=[rule], start=["random"], seed=range(2)).inputs), 2)
         self.assertEqual(len(Grid(make, rule=["p"], start=["even"], seed=range(2)).inputs), 2)
 
-    def test_a_parameter_that_is_not_that_of_the_input(self):
-        def make(limit, seed, key):
+    def test_a_parameter_that_is_not_that_of_the_input(self) -> None:
+        def make(limit: int, seed: int, key: int) -> Job:
             return Job(limit=5, length=100, cars=20, rule=Nasch(0.25), steps=40, key=key)
 
         self.assertRaisesRegex(

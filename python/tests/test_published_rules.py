@@ -2,17 +2,18 @@
 formula."""
 import os
 import unittest
+from random import Random
 
 from tests.random_functions import random_view, run_program
-from random import Random
-from trlab import Grid, Job, Nasch, Own, Rickert, SlowToStart, check, jammed, moving, random_cells
+from trlab import Grid, Job, Nasch, Own, Rickert, Rule, SlowToStart, check, jammed, moving, random_cells
 from trlab._rules.functions import rules_in
 
 EXAMPLES = os.path.join(os.path.dirname(os.path.dirname(os.path.dirname(os.path.abspath(__file__)))), "examples")
 DENSITIES = 0.05, 0.15, 0.4, 0.9
 
 
-def example(name):
+def example(name: str) -> str:
+    """The text of a file of the examples."""
     with open(os.path.join(EXAMPLES, name), encoding="utf-8") as file:
         return file.read()
 
@@ -20,14 +21,15 @@ def example(name):
 RULES = rules_in(example("published_rules.py"))
 
 
-def snapshots(rule, lanes=1, density=0.3, limit=5, seed=3):
+def snapshots(rule: Rule, lanes: int = 1, density: float = 0.3, limit: int = 5, seed: int = 3) -> str:
+    """The output of a short run on a road with random cars."""
     job = Job(
         limit=limit, length=80, lanes=lanes, density=density, start=random_cells(seed), rule=rule, steps=30, key=seed
     )
     return job.run().text()
 
 
-def late_starts(limit, road, steps):
+def late_starts(limit: int, road: str, steps: int) -> list[list[int]]:
     """The cells of the cars by step, if a car that had no gap in a step waits once more. Whether it had one is
     remembered."""
     cells = [cell for cell, sign in enumerate(road) if sign != "."]
@@ -42,19 +44,20 @@ def late_starts(limit, road, steps):
 
 
 class PublishedRules(unittest.TestCase):
-    def assert_alike(self, ours, theirs, lanes=1):
+    def assert_alike(self, ours: Rule, theirs: Rule, lanes: int = 1) -> None:
+        """Both rules give the same snapshots, for several densities and limits."""
         for density in DENSITIES:
             for limit in 1, 5, 20:
                 with self.subTest(density=density, limit=limit):
                     self.assertEqual(snapshots(ours, lanes, density, limit), snapshots(theirs, lanes, density, limit))
 
-    def test_nagel_schreckenberg(self):
+    def test_nagel_schreckenberg(self) -> None:
         self.assert_alike(Own(RULES["nasch"](p="1/3")), Nasch("1/3"))
 
-    def test_slow_to_start(self):
+    def test_slow_to_start(self) -> None:
         self.assert_alike(Own(RULES["slow_to_start"](p="1/64", p0=0.75)), SlowToStart("1/64", 0.75))
 
-    def test_takayasu_by_its_definition(self):
+    def test_takayasu_by_its_definition(self) -> None:
         program, dice, waits = RULES["takayasu"](ps=1), Random(3), 0
         for _ in range(2000):
             view = random_view(dice)
@@ -65,7 +68,7 @@ class PublishedRules(unittest.TestCase):
         self.assertGreater(waits, 10)
         self.assert_alike(Own(RULES["takayasu"](ps=0)), Nasch(0))
 
-    def test_benjamin_needs_no_memory(self):
+    def test_benjamin_needs_no_memory(self) -> None:
         for limit in 1, 5:
             for seed in range(20):
                 rule = Own(RULES["benjamin"](ps=1))
@@ -74,13 +77,13 @@ class PublishedRules(unittest.TestCase):
                 self.assertEqual(cells_by_step, late_starts(limit, job.run()[0].lanes[0], 60))
         self.assert_alike(Own(RULES["benjamin"](ps=0, p=0.5)), Own(RULES["takayasu"](ps=0, p=0.5)))
 
-    def test_symmetric_lane_changes(self):
+    def test_symmetric_lane_changes(self) -> None:
         self.assert_alike(Own(RULES["nasch"](p=0.25), RULES["symmetric"](p="2/3")), Rickert(0.25, "2/3"), lanes=2)
 
-    def test_anticipating_is_the_program_of_the_examples(self):
+    def test_anticipating_is_the_program_of_the_examples(self) -> None:
         self.assert_alike(Own(RULES["anticipating"]()), Own(example("anticipating.rule")))
 
-    def test_cruise_control_keeps_free_traffic_free(self):
+    def test_cruise_control_keeps_free_traffic_free(self) -> None:
         # Up to density 1 / (limit + 1) all cars drive at the limit for ever if they do so at first.
         for cars, is_free in (16, True), (17, False):
             job = Job(
@@ -91,10 +94,10 @@ class PublishedRules(unittest.TestCase):
         # Without random braking it is the model of Nagel and Schreckenberg.
         self.assert_alike(Own(RULES["cruise_control"](p=0)), Nasch(0))
 
-    def test_comfortable_driving_without_near_cars_is_slow_to_start(self):
+    def test_comfortable_driving_without_near_cars_is_slow_to_start(self) -> None:
         self.assert_alike(Own(RULES["comfortable"](p=0.1, p0=0.5, h=0)), SlowToStart(0.1, 0.5))
 
-    def test_comfortable_driving_by_its_definition(self):
+    def test_comfortable_driving_by_its_definition(self) -> None:
         program, dice, followers = RULES["comfortable"](p=0, p0=0, pb=1, h=6), Random(1), 0
         for _ in range(2000):
             view = random_view(dice)
@@ -105,7 +108,7 @@ class PublishedRules(unittest.TestCase):
             self.assertEqual(run_program(program, view), expected)
         self.assertGreater(followers, 100)
 
-    def test_asymmetric_lane_changes(self):
+    def test_asymmetric_lane_changes(self) -> None:
         program, symmetric, dice = RULES["asymmetric"](p=1), RULES["symmetric"](p=1), Random(2)
         for _ in range(2000):
             view = random_view(dice)
@@ -120,7 +123,7 @@ class PublishedRules(unittest.TestCase):
         )
         self.assertTrue(all(cell == "." for cell in job.run()[-1].lanes[1]))
 
-    def test_keep_distance(self):
+    def test_keep_distance(self) -> None:
         # Without random braking the flow is the smaller of limit x density and 1 - (1 + g) x density (docs/STUDIES.md).
         rule = rules_in(example("keep_distance.py"))["keep_distance"]
         for g in 0, 1, 3:
@@ -130,14 +133,14 @@ class PublishedRules(unittest.TestCase):
                 density = cars / 240
                 self.assertAlmostEqual(window.flow, max(min(5 * density, 1 - (1 + g) * density), 0), 3)
 
-    def test_the_program_of_the_page(self):
+    def test_the_program_of_the_page(self) -> None:
         with open(os.path.join(EXAMPLES, os.pardir, "docs", "PROGRAMS.md"), encoding="utf-8") as file:
             self.assertIn(f"```text\n{rules_in(example('keep_distance.py'))['keep_distance'](g=2)}```", file.read())
 
-    def test_a_grid_over_parameters_of_a_rule(self):
+    def test_a_grid_over_parameters_of_a_rule(self) -> None:
         rule = rules_in(example("keep_distance.py"))["keep_distance"]
 
-        def make(g, density, key):
+        def make(g: int, density: float, key: int) -> Job:
             return Job(limit=5, length=50, density=density, rule=Own(rule(g=g)), steps=5, key=key)
 
         inputs = Grid(make, g=[0, 1, 2], density=[0.1, 0.2]).named_inputs()
@@ -145,7 +148,7 @@ class PublishedRules(unittest.TestCase):
         self.assertIn("; keep_distance(g=2, p=0.25)", inputs["g_2_density_0.2"].text())
         self.assertEqual(len({job.key for job in inputs.values()}), 6)
 
-    def test_all_are_accepted(self):
+    def test_all_are_accepted(self) -> None:
         for rule in RULES.values():
             check(rule())
 

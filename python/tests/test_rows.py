@@ -4,16 +4,19 @@ import math
 import pickle
 import sys
 import unittest
+from contextlib import AbstractContextManager
+from typing import Union
 from unittest import mock
 
 from tests.by_pictures import windows
-from tests.random_jobs import needs_hypothesis
+from tests.random_jobs import length_of, needs_hypothesis
 from tests.skips import needs
 from trlab import (
     Job, Nasch, OutputFormatError, Point, RenamedError, Rickert, Snapshots, SnapshotsError, Sweep, Table, Window,
+    random_cells,
 )
-from trlab import random_cells
 from trlab._results import possible
+from trlab._results.tables import Row
 
 if importlib.util.find_spec("numpy"):
     # Tables are checked by numpy if it is imported.
@@ -23,30 +26,30 @@ CHANGES = Window._fields.index("changes")
 POINTS = "cars,cells,steps,distance,stopped,changes,flow\n"
 WINDOWS = "step,cars,cells,steps,distance,stopped,changes,flow,cars0,distance0,stopped0,cars1,distance1,stopped1\n"
 ROW = "4,20,10,60,8,0,300000\n"  # of POINTS
-TWO_ROWS = "15,4,20,10,60,8,5,300000,30,40,3,10,20,5\n25,4,20,10,50,18,5,250000,30,30,13,10,20,5\n"
-
+TWO_ROWS = "15,4,20,10,60,8,5,300000,30,40,3,10,20,5\n25,4,20,10,50,18,5,250000,30,30,13,10,20,5\n"  # of WINDOWS
 
 LARGEST = 10**18 - 1
 """The largest number that a table can have."""
 
 
-def changed(heading, row, **columns):
+def changed(heading: str, row: str, **columns: int) -> str:
     """A row with other values in these columns."""
-    values = dict(zip(heading.rstrip().split(","), row.rstrip().split(",")))
+    values: dict[str, object] = dict(zip(heading.rstrip().split(","), row.rstrip().split(",")))
     return ",".join(map(str, {**values, **columns}.values())) + "\n"
 
 
-def without_numpy():
+def without_numpy() -> AbstractContextManager[object]:
+    """Checks tables without numpy, as if it were not installed."""
     return mock.patch.dict(sys.modules, numpy=None)
 
 
-def with_numpy():
+def with_numpy() -> AbstractContextManager[object]:
     """Checks short tables by numpy too, if it is there."""
     return mock.patch.object(possible, "_FEW", 1)
 
 
 class Values(unittest.TestCase):
-    def test_each_value_is_the_ratio_of_its_formula(self):
+    def test_each_value_is_the_ratio_of_its_formula(self) -> None:
         point = Point(cars=4, cells=20, steps=10, distance=60, stopped=8, changes=10, flow_millionths=300000)
         self.assertEqual(point.density, 4 / 20)
         self.assertEqual(point.flow, 60 / (20 * 10))
@@ -55,25 +58,27 @@ class Values(unittest.TestCase):
         self.assertEqual(point.change_rate, 10 / (4 * 10))
         self.assertAlmostEqual(point.flow, point.density * point.speed)
 
-    def test_flow_is_exact_and_that_of_the_file_is_rounded_down(self):
+    def test_flow_is_exact_and_that_of_the_file_is_rounded_down(self) -> None:
         for row in Sweep(limit=5, length=7, rule=Nasch(0), warm=5, measure=9, cars=[1, 3, 5]).sweep():
+            # 7 cells in 9 steps
             self.assertEqual(row.flow, row.distance / 63)
             self.assertEqual(row.flow_millionths, row.distance * 10**6 // 63)
 
-    def test_without_cars_there_is_no_speed(self):
-        for row in (
+    def test_without_cars_there_is_no_speed(self) -> None:
+        rows: list[Union[Point, Window]] = [
             Sweep(limit=5, length=7, rule=Nasch(0), warm=5, measure=9, cars=[0]).sweep()[0],
             Job(limit=5, length=7, cars=0, rule=Nasch(0), steps=3).series()[0],
-        ):
+        ]
+        for row in rows:
             self.assertEqual(row.density, 0)
             self.assertEqual(row.flow, 0)
             self.assertTrue(all(map(math.isnan, (row.speed, row.stopped_share, row.change_rate))))
 
-    def test_windows_are_those_of_the_snapshots(self):
+    def test_windows_are_those_of_the_snapshots(self) -> None:
         job = Job(limit=5, length=30, lanes=2, cars=20, start=random_cells(4), rule=Rickert(0.25, 1), steps=60, key=2)
         self.assertEqual(job.series(every=7, first=4), [*windows(job.run(), 7, 4)])
 
-    def test_millionths_are_never_called_flow(self):
+    def test_millionths_are_never_called_flow(self) -> None:
         table = Table.read(Point, POINTS + ROW)
         (point,) = table
         self.assertEqual(point._asdict()["flow_millionths"], 300000)
@@ -82,12 +87,15 @@ class Values(unittest.TestCase):
         self.assertNotIn("<td>flow</td>", table._repr_html_())
 
     @needs("pandas")
-    def test_millionths_are_never_called_flow_in_arrays(self):
-        for table in Table.read(Point, POINTS + ROW), Table.read(Window, WINDOWS + TWO_ROWS):
+    def test_millionths_are_never_called_flow_in_arrays(self) -> None:
+        tables: list[Union[Table[Point], Table[Window]]] = [
+            Table.read(Point, POINTS + ROW), Table.read(Window, WINDOWS + TWO_ROWS),
+        ]
+        for table in tables:
             self.assertNotIn("flow", table.to_numpy().dtype.names)
             self.assertEqual(table.to_pandas()["flow"].tolist(), [row.flow for row in table])
 
-    def test_old_names(self):
+    def test_old_names(self) -> None:
         table = Table.read(Point, POINTS + ROW)
         (point,) = table
         for value, name, new in (
@@ -103,13 +111,14 @@ class Values(unittest.TestCase):
 
 
 class Impossible(unittest.TestCase):
-    def reject(self, kind, text, line, message):
+    def reject(self, kind: type[Row], text: str, line: int, message: str) -> None:
+        """A table is rejected because of this line, with numpy and without it."""
         for is_without in True, False:
             with without_numpy() if is_without else with_numpy():
                 with self.assertRaisesRegex(OutputFormatError, f"^line {line} of the table is impossible: .*{message}"):
                     Table.read(kind, text)
 
-    def test_impossible_points(self):
+    def test_impossible_points(self) -> None:
         self.assertEqual(len(Table.read(Point, POINTS + 2 * ROW)), 2)
         no_cars, no_motion = {"cars": 0, "distance": 0, "stopped": 0, "flow": 0}, {"distance": 0, "flow": 0}
         for columns, message in (
@@ -137,7 +146,7 @@ class Impossible(unittest.TestCase):
             self.reject(Point, POINTS + row + ROW, 2, message)
             self.reject(Point, POINTS + 3 * ROW + row, 5, message)
 
-    def test_impossible_windows(self):
+    def test_impossible_windows(self) -> None:
         self.assertEqual(len(Table.read(Window, WINDOWS + TWO_ROWS)), 2)
         first, second = TWO_ROWS.splitlines(True)
         for columns, message in (
@@ -159,7 +168,7 @@ class Impossible(unittest.TestCase):
             self.reject(Window, WINDOWS + first + row, 3, message)
             self.reject(Window, WINDOWS + first + row + second, 3, message)
 
-    def test_forms_of_numbers(self):
+    def test_forms_of_numbers(self) -> None:
         for row in (
             "04,20,10,60,8,0,300000", "4,20,10,60,8,00,300000", "4,20,10,60,8,0,0300000",
             "4,20,10,60,8,0," + 5000 * "3",
@@ -184,13 +193,13 @@ class Impossible(unittest.TestCase):
 class OfTheProgram(unittest.TestCase):
     """Tables that the program writes are read, and changed ones are not."""
 
-    def test_series_are_read(self):
+    def test_series_are_read(self) -> None:
         from hypothesis import given, strategies as some
         from tests.random_jobs import EXAMPLES, jobs
 
         @EXAMPLES
         @given(jobs(15), some.sampled_from([(1, 9), (2, 7), (3, 3), (5, 0)]), some.data())
-        def read(job, window, data):
+        def read(job: Job, window: tuple[int, int], data: "some.DataObject") -> None:
             every, first = window
             table = job.series(every=every, first=first)
             text = table.text()
@@ -217,22 +226,22 @@ class OfTheProgram(unittest.TestCase):
 
         read()
 
-    def test_sweeps_are_read(self):
+    def test_sweeps_are_read(self) -> None:
         from hypothesis import given, strategies as some
         from tests.random_jobs import EXAMPLES, jobs
 
         @EXAMPLES
         @given(some.lists(jobs(0), min_size=1, max_size=4), some.integers(0, 9), some.integers(1, 20))
-        def read(roads, warm, measure):
+        def read(roads: list[Job], warm: int, measure: int) -> None:
             first = roads[0]
-            cars = [road.cars for road in roads if road.cars <= first.length * first.lanes]
-            sweep = Sweep(
-                limit=first.limit, length=first.length, lanes=first.lanes, cars=cars, rule=first.rule, warm=warm,
-                measure=measure,
-                key=first.key,
-            )
+            length = length_of(first)
+            cars = [road.count() for road in roads if road.count() <= length * first.lanes]
             # On two lanes some evenly spaced initial states have all cars on one lane, with a warning.
             with mock.patch("warnings.warn"):
+                sweep = Sweep(
+                    limit=first.limit, length=length, lanes=first.lanes, cars=cars, rule=first.rule, warm=warm,
+                    measure=measure, key=first.key,
+                )
                 table = sweep.sweep()
             with without_numpy():
                 self.assertEqual(Table.read(Point, table.text()), table)
@@ -243,19 +252,19 @@ class OfTheProgram(unittest.TestCase):
 
 
 class InNotebooks(unittest.TestCase):
-    def test_a_table_shows_its_first_rows(self):
+    def test_a_table_shows_its_first_rows(self) -> None:
         table = Job(limit=5, length=9, cars=2, rule=Nasch(0), steps=40).series()
         shown = table._repr_html_()
         self.assertEqual(shown.count("<tr>"), 11)
         self.assertIn("table of 40 Windows", shown)
 
-    def test_snapshots_show_their_first_cells(self):
+    def test_snapshots_show_their_first_cells(self) -> None:
         shown = Job(limit=5, length=300, cars=2, rule=Nasch(0), steps=40).run()._repr_html_()
         self.assertEqual(shown.count("\n"), 20)
         self.assertIn("&lt;41 snapshots of 1 x 300 cells", shown)
         self.assertLess(max(map(len, shown.splitlines())), 120)
 
-    def test_a_page_plays_all_steps(self):
+    def test_a_page_plays_all_steps(self) -> None:
         snapshots = Job(limit=5, length=30, cars=2, rule=Nasch(0), steps=40).run()
         self.assertIn("<html", snapshots.html())
         for part, step in (snapshots[:9] + snapshots[20:], 9), (snapshots[::2], 1), (snapshots[1:], 0):
