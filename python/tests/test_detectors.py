@@ -5,6 +5,7 @@ import os
 import subprocess
 import sys
 import unittest
+import weakref
 from collections.abc import Callable, Iterator, Sequence
 from fractions import Fraction
 from pathlib import Path
@@ -23,6 +24,10 @@ if importlib.util.find_spec("hypothesis"):
     ROADS: Decorator = given(jobs(27), some.integers(0, 3))
 else:
     ROADS = EXAMPLES = needs_hypothesis
+
+
+class Lane(str):
+    """A lane of which a test can see whether it still exists."""
 
 
 def cell_by_cell(snapshots: Sequence[Snapshot]) -> Iterator[tuple[int, int, int, int]]:
@@ -122,18 +127,21 @@ class Detectors(unittest.TestCase):
         self.assertEqual(len(empty), 0)
         self.assertEqual(empty.dtypes["step"], "int64")
 
-    def test_one_snapshot_is_kept(self) -> None:
+    def test_few_snapshots_are_kept(self) -> None:
+        """Of the snapshots of a long run the detectors keep the last one at most, and not all."""
         job = Job(limit=5, length=9, cars=3, rule=Nasch(0), steps=400)
-        taken: list[Snapshot] = []
+        lanes: list[weakref.ref[Lane]] = []
+        kept: list[int] = []
 
         def snapshots() -> Iterator[Snapshot]:
-            """The snapshots of the job one by one, of which `taken` has only the last one."""
             for snapshot in job.snapshots():
-                taken.append(snapshot)
-                del taken[:-1]
-                yield snapshot
+                kept.append(sum(lane() is not None for lane in lanes))
+                lane = Lane(snapshot.lanes[0])
+                lanes.append(weakref.ref(lane))
+                yield snapshot._replace(lanes=(lane,))
 
         self.assertEqual(len(trlab.detectors(snapshots(), [0], every=100)), 4)
+        self.assertEqual(max(kept), 1)
 
     def test_wrong_cells_windows_and_snapshots(self) -> None:
         snapshots = Job(limit=5, length=20, cars=5, rule=Nasch("1/4"), steps=30).run()
