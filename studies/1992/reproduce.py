@@ -8,7 +8,7 @@ import trlab
 from trlab import Nasch, Point, Sweep
 
 from ..random_starts import from_random, last_steps
-from ..study import Study, difference, frame_of, means, page_row, read_tables, signed
+from ..study import Study, difference, frame_of, means, page_row, read_tables, signed, with_error
 
 LENGTH, BRAKE, WARM, MEASURE = 10000, "1/2", 10000, 20000
 DENSITIES = [0.02, 0.04, 0.06, 0.07, 0.075, 0.08, 0.0825, 0.085, 0.0875, 0.09, 0.095, 0.1, 0.11, 0.12, 0.15]
@@ -61,7 +61,7 @@ def print_comparison(even, at_random, long):
     """Prints rows of the page: both means, z of the difference, and the mean of the long runs from even initial states."""
     z = difference(even, at_random).z
     for density in SHOWN:
-        flows = [f"{its.flow[density]:.6f} ± {its.flow_sem[density]:.6f}" for its in (even, at_random, long)]
+        flows = [with_error(its.flow[density], its.flow_sem[density]) for its in (even, at_random, long)]
         print(page_row([density, *flows[:2], signed(z[density]), flows[2]]))
 
 
