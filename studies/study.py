@@ -158,6 +158,14 @@ def signed(z: float) -> str:
     return "" if numpy.isnan(z) else f"{z:+.1f}"
 
 
+def with_error(mean: float, sem: float, places: int = 6) -> str:
+    """A mean with its standard error in brackets, in units of the last digit: 0.2406(26). It has at most `places` decimal
+    places, and fewer if the error would have more than two digits."""
+    while places and round(sem * 10**places) >= 100:
+        places -= 1
+    return f"{mean:.{places}f}({round(sem * 10**places)})"
+
+
 def page_row(cells: Iterable[object]) -> str:
     """A row of a table of a page."""
     return "|" + "".join(f" {cell} |" if cell != "" else " |" for cell in cells)

@@ -8,7 +8,7 @@ import trlab
 from trlab import Nasch, Point, Sweep
 
 from ..random_starts import from_random, last_steps
-from ..study import Study, difference, frame_of, means, page_row, read_tables, signed
+from ..study import Study, difference, frame_of, means, page_row, read_tables, signed, with_error
 
 LENGTH, BRAKE, WARM, MEASURE = 10000, "1/2", 10000, 20000
 DENSITIES = [0.02, 0.04, 0.06, 0.07, 0.075, 0.08, 0.0825, 0.085, 0.0875, 0.09, 0.095, 0.1, 0.11, 0.12, 0.15]
@@ -46,18 +46,23 @@ def full_frame(file, all_inputs):
     return frame_of({name: all_inputs[name] for name in tables}, tables)
 
 
-def compare(study, even, at_random, name):
-    """Writes a row for each density: both means with their standard errors, and z of the difference. Prints some of them as
-    rows of the page."""
+def write_comparison(study, even, at_random, name):
+    """Writes a row for each density: both means with their standard errors, and z of the difference."""
     z = difference(even, at_random).z
     rows = []
     for density in even.index:
         known = [its.loc[density] if density in its.index else None for its in (even, at_random)]
         flows = [("", "") if its is None else (f"{its.flow:.6f}", f"{its.flow_sem:.6f}") for its in known]
         rows.append([density, *flows[0], *flows[1], signed(z[density])])
-        if density in SHOWN:
-            print(page_row([density, *(" ± ".join(flow) if all(flow) else "" for flow in flows), rows[-1][-1]]))
     study.write_means("density even even_sem random random_sem z", rows, name)
+
+
+def print_comparison(even, at_random, long):
+    """Prints rows of the page: both means, z of the difference, and the mean of the long runs from even initial states."""
+    z = difference(even, at_random).z
+    for density in SHOWN:
+        flows = [with_error(its.flow[density], its.flow_sem[density]) for its in (even, at_random, long)]
+        print(page_row([density, *flows[:2], signed(z[density]), flows[2]]))
 
 
 def maximum(name, frame):
@@ -91,14 +96,18 @@ def main():
     even = study.frame("table.csv", Point, inputs(study.is_full), Sweep.sweep)
     short = study.frame("dots.csv", Point, dots(), Sweep.sweep)
     at_random = study.frame("random.csv", Point, random_inputs(study.is_full), last_steps(MEASURE))
-    compare(study, means(even, "density"), means(at_random, "density"), "means.csv")
+    even_means, random_means = means(even, "density"), means(at_random, "density")
+    write_comparison(study, even_means, random_means, "means.csv")
+    long_means = even_means
     if not study.is_full:
         full = {"full_table.csv": inputs(True), "full_random.csv": random_inputs(True)}
         frames = [full_frame(study.folder / file, all_inputs) for file, all_inputs in full.items()]
-        compare(study, *(means(frame, "density") for frame in frames), "full_means.csv")
+        long_means, long_random_means = (means(frame, "density") for frame in frames)
+        write_comparison(study, long_means, long_random_means, "full_means.csv")
+    print_comparison(even_means, random_means, long_means)
     for name, frame in ("even", even), ("random", at_random):
         print(maximum(f"{name}, {len(frame) // len(DENSITIES) * MEASURE:,} steps", frame))
-    draw(study, short, means(at_random, "density"))
+    draw(study, short, random_means)
 
 
 if __name__ == "__main__":

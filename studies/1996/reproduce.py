@@ -9,7 +9,7 @@ import trlab
 from trlab import Nasch, Point, Rickert, Sweep
 
 from ..random_starts import from_random, last_steps, sweep_of
-from ..study import Study, difference, draw_z, largest, means, page_row, signed
+from ..study import Study, difference, draw_z, largest, means, page_row, signed, with_error
 
 LENGTH, BRAKE = 5000, "1/2"  # cells of each of two lanes; the road of one lane has as many cells as both together
 WARM, MEASURE = 4000, 6000
@@ -68,18 +68,18 @@ def print_maxima(found):
 
 
 def columns(found):
-    """The columns of means, and the gain of a second lane in percent, as text by density."""
+    """The columns of means and standard errors, and the gain of a second lane in percent, by density."""
     on_two = list(found)[1:]
     for density in found["one_lane"].index:
-        flows = [shown(found[name], density) for name in found]
+        flows = [mean_and_error(found[name], density) for name in found]
         gain = 100 * (found["two_lanes"].flow[density] / found["one_lane"].flow[density] - 1)
-        changes = [shown(found[name], density, of="change_rate") for name in on_two]
+        changes = [mean_and_error(found[name], density, of="change_rate") for name in on_two]
         yield f"{density:.4f}", flows, f"{gain:.1f}", changes
 
 
-def shown(found, density, of="flow"):
+def mean_and_error(found, density, of="flow"):
     """The mean at a density and its standard error."""
-    return f"{found[of][density]:.5f}", f"{found[f'{of}_sem'][density]:.5f}"
+    return found[of][density], found[f"{of}_sem"][density]
 
 
 def report_means(study, kinds):
@@ -87,9 +87,10 @@ def report_means(study, kinds):
     rows = []
     for start, found in kinds.items():
         for density, flows, gain, changes in columns(found):
-            rows.append([start, density, *sum(flows + changes, ()), gain])
+            rows.append([start, density, *(f"{number:.5f}" for both in flows + changes for number in both), gain])
             if start == "random" and density in SHOWN:
-                print(page_row([density, *map(" ± ".join, flows), f"{gain} %", *map(" ± ".join, changes)]))
+                shown = [[with_error(*both, 5) for both in numbers] for numbers in (flows, changes)]
+                print(page_row([density, *shown[0], f"{gain} %", *shown[1]]))
     on_two = [f"{name}_changes" for name in list(found)[1:]]
     names = " ".join(f"{name} {name}_sem" for name in [*found, *on_two])
     study.write_means(f"start density {names} gain_percent", rows)

@@ -9,7 +9,7 @@ import pandas
 import trlab
 from trlab import Job, SlowToStart, Window
 
-from ..study import Study, write_rows
+from ..study import Study, with_error, write_rows
 
 LIMIT, LENGTH, BRAKE, STOPPED_BRAKE = 5, 10000, 1 / 64, 3 / 4
 RULE = SlowToStart(BRAKE, STOPPED_BRAKE)
@@ -71,7 +71,7 @@ def shown(runs):
     mean = trlab.means(runs.set_index("input"), over="input", of=["flow"]).iloc[0]
     if runs.flow.max() - runs.flow.min() > 0.06 * mean.flow:
         return "each: " + ", ".join(f"{flow:.4f}" for flow in runs.flow)
-    return f"{mean.flow:.6f} ± {mean.flow_sem:.6f}"
+    return with_error(mean.flow, mean.flow_sem)
 
 
 def print_branches(runs):

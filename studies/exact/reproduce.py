@@ -11,7 +11,7 @@ import trlab
 from trlab import Point, Sweep
 
 from ..random_starts import from_random, last_steps, sweep_of
-from ..study import Study, means, read_rows, write_rows
+from ..study import Study, means, read_rows, with_error, write_rows
 from .chain import MAX_STATES, Means, chain, first_state, stationary
 from .closed import flow_of_long_ring, flow_of_ring
 from .inputs import CHANCES, early_rings, from_stationary, inputs, long_rings, sweeps, walks
@@ -81,7 +81,7 @@ def print_small_rings(folder):
         distance, error = total.mean("distance")
         exact = f"{fraction} = " if 0 < len(fraction) < 20 else ""
         cells = [ring.name, states, f"{exact}{ring.flow(solution.distance):.7f}"]
-        cells.append(f"{ring.flow(distance):.7f} ± {ring.flow(error):.7f}")
+        cells.append(with_error(ring.flow(distance), ring.flow(error), 7))
         found = [total.z(name, getattr(solution, name)) for name in Means._fields]
         cells += ["" if z is None else f"{z:+.1f}" for z in found]
         print("|", " | ".join(map(str, cells)), "|")
@@ -117,7 +117,7 @@ def print_long_rings(asked, found):
         cells = [name, f"{infinite:.6f}", f"{exact:.6f}"]
         for its in found.values():
             flow, sem = its.flow[name], its.flow_sem[name]
-            cells.append(f"{flow:.6f} ± {sem:.6f} | {(flow - exact) / sem:+.1f}")
+            cells.append(f"{with_error(flow, sem)} | {(flow - exact) / sem:+.1f}")
         print("|", " | ".join(cells), "|")
 
 

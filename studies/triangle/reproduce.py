@@ -9,7 +9,7 @@ import trlab
 from trlab import Nasch, Point, Sweep, even, random_cells
 
 from ..random_starts import from_random, jobs_of, last_steps, sweep_of
-from ..study import Study, difference, draw_z, means, page_row, signed
+from ..study import Study, difference, draw_z, means, page_row, signed, with_error
 
 LIMIT = 5
 # A multiple of 6, so that the top of the triangle, at density 1/6, is a whole number of cars.
@@ -88,7 +88,7 @@ def print_settling(frame):
         if name.endswith("_even"):
             _, top, bottom, _, warm, _ = name.split("_")
             both = [found.loc[name], found.loc[f"{name[:-5]}_random"]]
-            flows = [f"{its.flow:.7f} ± {its.flow_sem:.7f}" for its in both]
+            flows = [with_error(its.flow, its.flow_sem, 7) for its in both]
             print(page_row([f"{top}/{bottom}", f"{both[0].density:.4f}", warm, *flows]))
 
 
