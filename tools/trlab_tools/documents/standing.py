@@ -47,7 +47,7 @@ MAX_WORDS = {
     "docs/dev/ARCHITECTURE.md": 2270,
     "docs/dev/CALLS.md": 720,
     "docs/dev/BOOK.md": 1300,
-    "docs/dev/DECISIONS.md": 2650,
+    "docs/dev/DECISIONS.md": 2970,
     "docs/dev/EMBEDDING.md": 690,
     "docs/dev/EXTENDING.md": 1190,
     "docs/dev/GLOSSARY.md": 710,
