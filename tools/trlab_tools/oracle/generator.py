@@ -7,7 +7,7 @@ from collections.abc import Callable, Iterator, Sequence
 from typing import TypeVar
 
 from ..worked import examples
-from .programs import FORMS, INPUTS, KINDS, Instruction, encode
+from .programs import FORMS, KINDS, Instruction, encode, operand_text
 from .reader import Job, Sweep
 
 Dice = random.Random
@@ -82,13 +82,9 @@ RISKY = ("side", "cross", "stay", "go", "sub", "add", "mul", "and", "or", "not")
 
 def operand_word(dice: Dice, form: str, number: int) -> str:
     """An operand as people write it."""
-    if form in "dr":
-        return f"r{number}"
-    if form == "i":
-        return INPUTS[number]
-    if form == "l":
-        return f"@{number}"
-    return dice.choice(("", "", "", "0")) + str(number)
+    # The canonical text has `@` before a target outside the program, and people may write it before any target.
+    is_number = form not in "dril"
+    return (dice.choice(("", "", "", "0")) if is_number else "") + operand_text(form, number, count=0)
 
 
 def instruction_line(dice: Dice, name: str, operands: Sequence[int]) -> bytes:
