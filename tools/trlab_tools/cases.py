@@ -6,6 +6,9 @@ from typing import NamedTuple, Optional, Union
 
 from . import TOP
 
+# A line in which each backslash but the last begins an escape; an escape; and an end with a backslash of its own, after which the
+# line has no line feed.
+WELL_FORMED, ESCAPE, OPEN_END = re.compile(r"([^\\]|\\[strk0\\])*\\?"), re.compile(r"\\(.)"), re.compile(r"(?<!\\)(\\\\)*\\$")
 ESCAPES = {"s": " ", "t": "\t", "r": "\r", "0": "\0", "\\": "\\"}
 SIXTEEN = {"run": "--workers 16", "sweep": "--runners 16 --workers 16"}
 EXPLAINED = ("explain", "explain run", "explain sweep", "explain check")
@@ -24,6 +27,21 @@ class Part(NamedTuple):
     text: Optional[str]
 
 
+class Calls(NamedTuple):
+    """Command lines, and their input."""
+
+    lines: list[list[str]]
+    given: str
+
+
+class Expected(NamedTuple):
+    """An exit status, an output, and how much of the output this is: "all", its "first lines", or "nothing"."""
+
+    status: int
+    output: bytes
+    extent: str
+
+
 class Case(NamedTuple):
     """A case: its place, its command lines, and for each of them the same input, exit status and output."""
 
@@ -32,20 +50,20 @@ class Case(NamedTuple):
     given: bytes
     status: int
     output: bytes
-    # How much of the output the case has: "all", its "first lines", or "nothing".
-    extent: str
+    extent: str  # as in `Expected`
 
     def is_met(self, status: Union[int, str], output: bytes) -> bool:
+        """Whether a status and an output are those of the case."""
         is_output = {"all": output == self.output, "first lines": output.startswith(self.output), "nothing": True}
         return status == self.status and is_output[self.extent]
 
 
 def line_of(text: str, number: int) -> Optional[str]:
     """A line of a part, with this number among repeated lines; None if it is malformed."""
-    if not re.fullmatch(r"([^\\]|\\[strk0\\])*\\?", text):
+    if not WELL_FORMED.fullmatch(text):
         return None
-    written = re.sub(r"\\(.)", lambda escape: str(number) if escape[1] == "k" else ESCAPES[escape[1]], text)
-    return written[:-1] if re.search(r"(?<!\\)(\\\\)*\\$", text) else written + "\n"
+    written = ESCAPE.sub(lambda escape: str(number) if escape[1] == "k" else ESCAPES[escape[1]], text)
+    return written[:-1] if OPEN_END.search(text) else written + "\n"
 
 
 def lines_of(text: str, count: int) -> Optional[str]:
@@ -73,29 +91,29 @@ def parts_of(content: str) -> list[Part]:
     return parts
 
 
-def calls_of(part: Part, front: str) -> Optional[tuple[list[list[str]], str]]:
+def calls_of(part: Part, front: str) -> Optional[Calls]:
     """The command lines of a part and their input; None if its words are not a command."""
     words, text = part.words, part.text or ""
     if words == "words":
-        return [line.split() for line in text.split("\n")[:-1]], front
+        return Calls([line.split() for line in text.split("\n")[:-1]], front)
     if words in SIXTEEN:
-        return [[words], [words, *SIXTEEN[words].split()]], front + text
+        return Calls([[words], [words, *SIXTEEN[words].split()]], front + text)
     if words == "check" or words in EXPLAINED:
-        return [words.split()], front + text
+        return Calls([words.split()], front + text)
     if words in NUMBERED:
-        return [[*words.split(), text.strip()]], ""
+        return Calls([[*words.split(), text.strip()]], "")
     return None
 
 
-def expected_by(part: Part) -> Optional[tuple[int, bytes, str]]:
-    """The status, the output and its extent that a part requires; None if it is not an answer."""
+def expected_by(part: Part) -> Optional[Expected]:
+    """The answer that a part requires; None if it is not an answer."""
     if part.words == "status" and part.text and part.text.strip().isdigit():
-        return int(part.text), b"", "nothing"
+        return Expected(int(part.text), b"", "nothing")
     ends = {"done": (0, "all"), "refused": (1, "all"), "begins": (0, "first lines")}
     if part.words not in ends or part.text is None:
         return None
     status, extent = ends[part.words]
-    return status, part.text.encode(), extent
+    return Expected(status, part.text.encode(), extent)
 
 
 def cases_of(name: str, content: str) -> Iterator[Case]:
@@ -103,6 +121,7 @@ def cases_of(name: str, content: str) -> Iterator[Case]:
     title, front, command = "", "", None
     for part in parts_of(content):
         if command:
+            # The part before was a command, so that this one is the expected answer.
             expected = expected_by(part)
             line, (calls, given) = command
             if not expected or not calls:

@@ -96,6 +96,7 @@ class Checkout:
         return self
 
     def without_rt(self) -> "Checkout":
+        """Continues without rt."""
         os.remove(os.path.join(self.bin, "rt"))
         return self
 
@@ -144,15 +145,18 @@ class Checkout:
 
 
 def end(started: Process) -> Ended:
+    """How ./trlab ends, after it has got its input."""
     output, messages = started.communicate(b"text", timeout=program.LONGEST)
     return (output, started.returncode), messages.decode()
 
 
 def append(path: str, text: str = "//\n") -> None:
+    """Write a text at the end of a file."""
     with open(path, "a", encoding="utf-8") as file:
         file.write(text)
 
 
 def overwrite(path: str, content: bytes) -> None:
+    """Write the whole content of a file."""
     with open(path, "wb") as file:
         file.write(content)

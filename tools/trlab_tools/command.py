@@ -18,6 +18,7 @@ class Count:
         self.passed = self.failed = self.skipped = 0
 
     def note(self, holds: object, message: object) -> None:
+        """Record a check, and print the message if it failed."""
         if holds:
             self.passed += 1
             return
@@ -26,10 +27,12 @@ class Count:
             print(message, flush=True)
 
     def note_all(self, verdicts: Iterable[tuple[object, object]]) -> None:
+        """Record several checks."""
         for holds, message in verdicts:
             self.note(holds, message)
 
     def skip(self, message: str) -> None:
+        """Record a skipped check, and print the reason."""
         self.skipped += 1
         print(f"skipped: {message}", flush=True)
 

@@ -31,6 +31,8 @@ class Call(NamedTuple):
 
 
 class Ended(NamedTuple):
+    """How a call ended: its exit status, its output and its standard error."""
+
     status: int
     output: bytes
     error: bytes
@@ -45,6 +47,7 @@ def calls_of(texts: Iterable[tuple[str, list[str], bytes]]) -> Iterator[Call]:
 
 
 def by_program(program: str, call: Call) -> Ended:
+    """How a call ends in the native program."""
     process = subprocess.run([program, *call.words], input=call.text, capture_output=True)
     return Ended(process.returncode, process.stdout, process.stderr)
 
@@ -57,6 +60,7 @@ def by_node(page: Union[str, PathLike[str]], calls: Iterable[Call]) -> Iterator[
         questions, answers = running.stdin, running.stdout
 
         def send() -> None:
+            """Send all calls, one JSON object per line."""
             with questions:
                 for call in calls:
                     print(json.dumps({"words": call.words, "input": base64.b64encode(call.text).decode()}), file=questions)
@@ -68,6 +72,7 @@ def by_node(page: Union[str, PathLike[str]], calls: Iterable[Call]) -> Iterator[
 
 
 def has_node() -> bool:
+    """Whether Node is installed."""
     return shutil.which("node") is not None
 
 

@@ -42,22 +42,24 @@ def blocking(values: Union[Iterable[float], Array, pandas.Series]) -> Blocking:
     must be those of one run. Raises `EstimateError` if it is not such a series, or if fewer than 16 blocks would be
     left, because the series is then too short for its correlations, or drifts (see `Table.drift`)."""
     series = _series(values)
-    n, block, level = len(series), 1, series
+    # `level` has the means of the blocks of this length.
+    count, block, level = len(series), 1, series
     mean, naive = _mean_and_sem(series)
     if (series == series[0]).all():
         return Blocking(mean, 0.0, 0.0, 1, 1.0)
     while len(level) >= LEAST_BLOCKS:
         _, sem = _mean_and_sem(level)
-        if block**3 > 2 * n * (sem / naive) ** 4:
+        if block**3 > 2 * count * (sem / naive) ** 4:
             return Blocking(mean, sem, sem / math.sqrt(2 * (len(level) - 1)), block, (sem / naive) ** 2)
         level = level[:len(level) // 2 * 2].reshape(-1, 2).mean(axis=1)
         block *= 2
     raise EstimateError(
-        f"the series of {n} values is too short for its correlations, or drifts: run longer, or repeat the run"
+        f"the series of {count} values is too short for its correlations, or drifts: run longer, or repeat the run"
     )
 
 
 def _mean_and_sem(values: Array) -> tuple[float, float]:
+    """The mean of the values, and its standard error if all were independent."""
     (mean,), (sem,) = mean_and_sem(values, numpy.zeros(len(values), dtype=numpy.int64))
     return float(mean), float(sem)
 

@@ -33,10 +33,9 @@ def passings(snapshots: Iterable[Snapshot], cells: Sequence[int]) -> pandas.Data
     `snapshots` are those of consecutive steps, for example `job.snapshots(first=1000)`; the first only gives the
     initial places of the cars. Raises `SnapshotsError` if they are not, and `ParameterError` for cells that the road
     does not have."""
-    rows = [
-        (step, seen.cell, seen.lane, seen.speed)
-        for step, observations in _observed(snapshots, cells) for seen in observations if seen.speed
-    ]
+    rows: list[tuple[int, int, int, int]] = []
+    for step, observations in _observed(snapshots, cells):
+        rows += [(step, seen.cell, seen.lane, seen.speed) for seen in observations if seen.speed]
     frame = pandas.DataFrame(rows, columns=["step", "cell", "lane", "speed"], dtype="int64")
     frame = frame.sort_values(["step", "cell", "lane"], ignore_index=True)
     frame["time_headway"] = frame.groupby(["cell", "lane"])["step"].diff()
@@ -144,6 +143,7 @@ class _Road:
 
 
 def _cars_on(snapshot: Snapshot) -> int:
+    """The number of cars on the lanes of a snapshot."""
     return sum(len(lane) - lane.count(".") for lane in snapshot.lanes)
 
 

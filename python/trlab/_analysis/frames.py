@@ -125,8 +125,8 @@ def _arranged(
     choice_of_row["ensemble"] = [ensemble for _, ensemble in roads]
     # Only columns of the road can be in both, and are equal.
     repeated = [name for name in OF_THE_ROAD if name in choice_of_row]
-    own = measured.reset_index(drop=True).drop(columns=repeated, errors="ignore")
-    frame = pandas.concat([own, choice_of_row], axis=1)
+    without_repeated = measured.reset_index(drop=True).drop(columns=repeated, errors="ignore")
+    frame = pandas.concat([without_repeated, choice_of_row], axis=1)
     inner = list(dict.fromkeys(name for rows in rows_by_choice.values() for name in rows.levels))
     if (frame["road"] > 0).any() and "density" not in names:
         inner.append("density")

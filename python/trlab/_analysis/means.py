@@ -16,11 +16,11 @@ def mean_and_sem(values: Array, group: Array) -> tuple[Array, Array]:
     # Differences from a value of the group, so that equal values have exactly their mean, and an error of 0.
     first = numpy.zeros(group.max() + 1)
     first[group[::-1]] = values[::-1]
-    n = numpy.bincount(group)
-    mean = first + numpy.bincount(group, values - first[group]) / n
+    count = numpy.bincount(group)
+    mean = first + numpy.bincount(group, values - first[group]) / count
     squares = numpy.bincount(group, (values - mean[group]) ** 2)
     with numpy.errstate(invalid="ignore"):
-        return mean, numpy.sqrt(squares / (n - 1) / n)
+        return mean, numpy.sqrt(squares / (count - 1) / count)
 
 
 def means(
@@ -50,14 +50,16 @@ def means(
     that are censored (see `lifetime`), for groups of different size unless `unequal`, and for different roads that you
     gave cell by cell, unless you confirm with `drawn` that you drew them at random."""
     groups = repetitions(frame, over, unequal, drawn)
-    chosen = _measured(frame) if of is None else [of] if isinstance(of, str) else list(of)
+    if of is None:
+        chosen = _measured(frame)
+    else:
+        chosen = [of] if isinstance(of, str) else list(of)
     _check_columns(frame, chosen)
     _need_ends(frame, chosen)
     columns: dict[str, Array] = {}
-    if "density" in frame and "density" not in chosen:
-        columns["density"] = groups.first["density"].to_numpy()
-    if "requested_density" in frame and "requested_density" not in chosen:
-        columns["requested_density"] = groups.first["requested_density"].to_numpy()
+    for name in "density", "requested_density":
+        if name in frame and name not in chosen:
+            columns[name] = groups.first[name].to_numpy()
     columns["n"] = numpy.bincount(groups.group_of_row)
     for name in chosen:
         columns[name], columns[f"{name}_sem"] = mean_and_sem(numbers(groups, name), groups.group_of_row)
@@ -69,15 +71,19 @@ _NOT_AVERAGED = {*IDENTITY, *COUNTS, *LANE_SUMS, "windows", "requested_density",
 
 def _measured(frame: pandas.DataFrame) -> list[str]:
     """The columns to average: all but the identity of a run, its counts, and texts."""
-    skipped = {*_NOT_AVERAGED, *(["density"] if "cars" in (*frame, *frame.index.names) else [])}
+    skipped = set(_NOT_AVERAGED)
+    if "cars" in (*frame, *frame.index.names):
+        skipped.add("density")
 
     def is_of_texts(name: str) -> bool:
+        """Whether a column has only strings."""
         return bool(frame[name].map(lambda value: isinstance(value, str)).all())
 
     return [name for name in frame if name not in skipped and not is_of_texts(name)]
 
 
 def _check_columns(frame: pandas.DataFrame, chosen: Sequence[str]) -> None:
+    """Raises `FrameError` unless the chosen columns are there, and the names of the new ones are free."""
     if not chosen:
         raise FrameError(f"this frame has no column of numbers to average: its columns are {list(frame)}")
     for name in chosen:
@@ -92,6 +98,7 @@ def _check_columns(frame: pandas.DataFrame, chosen: Sequence[str]) -> None:
 
 
 def _need_ends(frame: pandas.DataFrame, chosen: Sequence[str]) -> None:
+    """Raises `FrameError` for the mean of times of which some are censored."""
     if "time" in chosen and "observed" in frame and not frame["observed"].eq(True).all():
         raise FrameError(
             "some times are censored, so that their mean is too short: use `trlab.lifetime(times, observed)`"

@@ -65,10 +65,11 @@ def peak(frame: pandas.DataFrame, over: str, x: str = "density", y: str = "flow"
     runs = _one_curve(frame, over, x, y)
     curve = means(runs, over=over, of=[y]).sort_index()
     part = _top(curve, y, within)
-    at = part.index.to_numpy(dtype=float)
-    middle, width = (at[0] + at[-1]) / 2, (at[-1] - at[0]) / 2
+    places = part.index.to_numpy(dtype=float)
+    middle, width = (places[0] + places[-1]) / 2, (places[-1] - places[0]) / 2
     n, covariance = int(part["n"].min()), _covariance(runs, over, x, y, part)
-    fit = _fit((at - middle) / width, part[y].to_numpy(), covariance, n)
+    # The places of the fit are from -1 to 1.
+    fit = _fit((places - middle) / width, part[y].to_numpy(), covariance, n)
     dof = len(part) - fit.degree - 1
     scatter = max(1.0, fit.chi2 / dof)
     coefficients = fit.solve @ part[y].to_numpy()
@@ -105,7 +106,9 @@ def _top(curve: pandas.DataFrame, y: str, within: float) -> pandas.DataFrame:
     top = int(values.argmax())
     low = values < values[top] - within * abs(values[top])
     before, after = numpy.flatnonzero(low[:top]), numpy.flatnonzero(low[top:])
-    part = curve.iloc[before[-1] + 1 if len(before) else 0:top + after[0] if len(after) else len(values)]
+    first = before[-1] + 1 if len(before) else 0
+    end = top + after[0] if len(after) else len(values)
+    part = curve.iloc[first:end]
     if not 0 < top < len(values) - 1 or len(part) < LEAST_POINTS:
         raise EstimateError(
             f"{len(part)} of {len(values)} points are within {within:g} of the highest one, which is point {top + 1} "
@@ -142,19 +145,19 @@ class _Fit(NamedTuple):
     solve: Array
 
 
-def _fit(t: Array, mean: Array, covariance: Array, n: int) -> _Fit:
-    """The best polynomial."""
+def _fit(places: Array, mean: Array, covariance: Array, n: int) -> _Fit:
+    """The best polynomial through the means of n runs at these places."""
     # With few runs the errors are uncertain too: the mean of Student's t**2 is (n - 1) / (n - 3) for n - 1 degrees of
     # freedom.
     scale = (n - 3) / (n - 1)
     fits = []
-    for degree in range(2, min(MAX_DEGREE, len(t) - 2) + 1):
-        design = numpy.vander(t, degree + 1, increasing=True)
+    for degree in range(2, min(MAX_DEGREE, len(places) - 2) + 1):
+        design = numpy.vander(places, degree + 1, increasing=True)
         solve = numpy.linalg.pinv(design)
         chi2 = float(((mean - design @ (solve @ mean)) ** 2 / numpy.diag(covariance)).sum()) * scale
         fits.append(_Fit(degree, chi2, solve))
     best = min(fits, key=lambda fit: fit.chi2 + 2 * fit.degree)
-    dof = len(t) - best.degree - 1
+    dof = len(places) - best.degree - 1
     # The mean of chi2 is dof, and its standard deviation sqrt(2 dof).
     if best.chi2 > dof + 3 * math.sqrt(2 * dof):
         raise EstimateError(
@@ -172,6 +175,7 @@ def _has_fallen(curve: pandas.DataFrame, part: pandas.DataFrame, y: str) -> tupl
     top = first + int(part[y].to_numpy().argmax())
 
     def is_lower(at: int) -> bool:
+        """Whether the point with this number is there, and significantly lower than the highest one."""
         if not 0 <= at < len(curve):
             return False
         return bool(values[top] - values[at] >= SIGNIFICANT * math.hypot(errors[top], errors[at]))
@@ -197,13 +201,13 @@ def _maximum(coefficients: Array, covariance: Array, has_fallen: tuple[bool, boo
     top = max(roots, key=fitted, default=1.0)
     powers = numpy.arange(len(coefficients))
     # The derivatives of the powers at the maximum: with the covariance they give the errors of its height and slope.
-    at, slopes = top**powers, powers * top ** numpy.maximum(powers - 1, 0)
-    height_sem, slope_sem = (math.sqrt(row @ covariance @ row) for row in (at, slopes))
+    heights, slopes = top**powers, powers * top ** numpy.maximum(powers - 1, 0)
+    height_sem, slope_sem = (math.sqrt(row @ covariance @ row) for row in (heights, slopes))
     top_sem = slope_sem / abs(float(bend(top))) if bend(top) else math.inf
-    falls = [at - end**powers for end in (-1.0, 1.0)]
-    errors = [0 if is_sure else SIGNIFICANT for is_sure in has_fallen]
+    falls = [heights - end**powers for end in (-1.0, 1.0)]
+    min_errors = [0 if is_sure else SIGNIFICANT for is_sure in has_fallen]
     is_flat = any(
-        fall @ coefficients < count * math.sqrt(fall @ covariance @ fall) for count, fall in zip(errors, falls)
+        fall @ coefficients < errors * math.sqrt(fall @ covariance @ fall) for errors, fall in zip(min_errors, falls)
     )
     if not roots or bend(top) >= 0 or is_flat or top_sem > MAX_X_SEM:
         raise EstimateError(_FLAT)

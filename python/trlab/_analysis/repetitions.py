@@ -1,8 +1,8 @@
 """The rows of a frame in groups of independent repetitions, or an error that says why they are not independent."""
 from __future__ import annotations
 
-from collections.abc import Sequence
-from typing import NamedTuple, Union
+from collections.abc import Iterator, Sequence
+from typing import Any, NamedTuple, Union
 
 from .columns import IDENTITY, PER_CAR, RUN, Array, as_numbers, place_shown, wrong_unit
 from .required import numpy, pandas
@@ -114,6 +114,7 @@ def repetitions(
 
 
 def _need_independent(groups: Repetitions, levels: Sequence[str]) -> None:
+    """Raises `FrameError` if a run is repeated, or if repetitions have the same key."""
     rows = groups.rows
     doubled = rows.duplicated([*levels, "road"])
     if doubled.any():
@@ -146,20 +147,22 @@ def _need_same(groups: Repetitions) -> None:
 
 def _need_complete(groups: Repetitions, levels: Sequence[str]) -> None:
     """Raises `FrameError` if groups have different sizes, with an example of a missing run."""
-    n = numpy.bincount(groups.group_of_row)
-    if n.min() == n.max():
+    sizes = numpy.bincount(groups.group_of_row)
+    if sizes.min() == sizes.max():
         return
-    most, least = int(n.argmax()), int(n.argmin())
+    largest, smallest = int(sizes.argmax()), int(sizes.argmin())
     levels_of_rows = groups.rows[[name for name in levels if name != "road"]]
-    present = set(levels_of_rows[groups.group_of_row == least].itertuples(index=False, name=None))
-    missing = [
-        row
-        for row in levels_of_rows[groups.group_of_row == most].itertuples(index=False, name=None) if row not in present
-    ]
+
+    def runs_of(group: int) -> Iterator[tuple[Any, ...]]:
+        """The levels of the runs of a group."""
+        return iter(levels_of_rows[groups.group_of_row == group].itertuples(index=False, name=None))
+
+    present = set(runs_of(smallest))
+    missing = [run for run in runs_of(largest) if run not in present]
     example = f" (without {place_shown(levels_of_rows, missing[0])})" if missing and missing[0] else ""
     raise FrameError(
-        f"groups have {n.min()} to {n.max()} runs; the fewest are at {groups.place(least)}{example}. Run the missing "
-        "ones, or pass unequal=True if it does not matter why they are missing"
+        f"groups have {sizes.min()} to {sizes.max()} runs; the fewest are at {groups.place(smallest)}{example}. Run "
+        "the missing ones, or pass unequal=True if it does not matter why they are missing"
     )
 
 

@@ -52,6 +52,7 @@ def rows_of(result: object, names: Sequence[str], roads: KnownRoads) -> Rows:
 
 
 def _read(result: object) -> Rows:
+    """The rows of a result of any kind."""
     if isinstance(result, pandas.DataFrame):
         return _of_frame(result)
     if isinstance(result, (Mapping, pandas.Series)) or hasattr(result, "_fields"):
@@ -66,6 +67,7 @@ def _read(result: object) -> Rows:
 
 
 def _of_table(table: Table[Any]) -> Rows:
+    """The rows of a table."""
     return Rows(table.kind, table.to_numpy(), ["step"] if table.kind is Window else [])
 
 
@@ -98,6 +100,7 @@ def _plain(value: object) -> object:
 
 
 def _of_frame(frame: pandas.DataFrame) -> Rows:
+    """The rows of a frame, whose index has the levels if it has names."""
     levels = [_name(name) for name in frame.index.names if name is not None]
     flat = frame.reset_index(drop=not levels) if len(levels) == frame.index.nlevels else frame
     if len(set(flat)) < len(flat.columns):
@@ -108,12 +111,14 @@ def _of_frame(frame: pandas.DataFrame) -> Rows:
 
 
 def _name(name: Hashable) -> str:
+    """The name of a column; raises `FrameError` if it is not a string."""
     if not isinstance(name, str):
         raise FrameError(f"the columns of a result have names, and {name!r} is not a string")
     return name
 
 
 def columns_of(rows: Rows) -> list[str]:
+    """The names of the columns."""
     if isinstance(rows.content, list):
         return list(dict.fromkeys(name for record in rows.content for name in record))
     return list(rows.content) if isinstance(rows.content, pandas.DataFrame) else list(rows.content.dtype.names or ())
@@ -168,6 +173,7 @@ def _check_levels(rows: Rows) -> None:
 
 
 def _values(rows: Rows, name: str) -> list[Any]:
+    """The values of a column; None if a row does not have it."""
     if isinstance(rows.content, list):
         return [record.get(name) for record in rows.content]
     values: list[Any] = rows.content[name].tolist()
@@ -175,6 +181,7 @@ def _values(rows: Rows, name: str) -> list[Any]:
 
 
 def _column(rows: Rows, name: str) -> Array:
+    """The values of a column as floats."""
     try:
         return numpy.asarray(_values(rows, name), dtype=float)
     except (TypeError, ValueError):

@@ -78,6 +78,7 @@ def positions(job: Job, step: Optional[int] = None) -> list[int]:
 
 
 def _cells_of(lane: str) -> list[int]:
+    """The cells of the cars on a lane."""
     return [cell for cell, character in enumerate(lane) if character != "."]
 
 
@@ -96,9 +97,8 @@ def _driven(lanes: Sequence[str]) -> list[_Car]:
         # A car at speed v came from the cell v behind it.
         speeds = {cell: SPEEDS.index(lane[cell]) for cell in _cells_of(lane)}
         speed_from = {(cell - speed) % length: speed for cell, speed in speeds.items()}
-        cars = [
-            _Car((car.cell + speed_from[car.cell]) % length, car.distance + speed_from[car.cell]) for car in cars
-        ]
+        moves = [(car, speed_from[car.cell]) for car in cars]
+        cars = [_Car((car.cell + speed) % length, car.distance + speed) for car, speed in moves]
     return cars
 
 
@@ -114,13 +114,14 @@ def _distances_on(lane: str, limit: int, time: int) -> list[int]:
     gaps = [(after - cell - 1) % len(lane) for cell, after in zip(cells, cells[1:] + cells[:1])]
     sums = [0, *accumulate(gaps[:-1])]
 
-    def height(i: int) -> int:
-        return i // cars * empty + sums[i % cars] - limit * i
+    def height(place: int) -> int:
+        """P(i) - limit * i, for i as the place."""
+        return place // cars * empty + sums[place % cars] - limit * place
 
     # A lap adds the same to every height, so only the first lap of a window counts, or the last one.
     first, last = (0, min(time, cars - 1)) if empty >= limit * cars else (max(0, time - cars + 1), time)
-    lowest = _minima([height(i) for i in range(first, cars + last)], last - first + 1)
-    return [limit * (time + x) - sums[x] + low for x, low in enumerate(lowest)]
+    lowest = _minima([height(place) for place in range(first, cars + last)], last - first + 1)
+    return [limit * (time + car) - sums[car] + low for car, low in enumerate(lowest)]
 
 
 def _minima(values: Sequence[int], size: int) -> Iterator[int]:

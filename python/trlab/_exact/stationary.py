@@ -132,11 +132,13 @@ class _Ring(NamedTuple):
 
     @classmethod
     def of(cls, length: int, cars: int, brake: Probability) -> _Ring:
+        """A ring of numbers as users give them. Raises `ParameterError` if one is out of range."""
         cells = checked_int("length", length, 1, MAX_CELLS)
         return cls(cells, checked_int("cars", cars, 0, cells), braking_probability(brake))
 
     @property
     def empty(self) -> int:
+        """The number of empty cells."""
         return self.length - self.cars
 
     def need_weight(self) -> None:
@@ -173,8 +175,11 @@ class _Ring(NamedTuple):
         """The k for which C(N - 1, k - 1) * C(E - 1, k - 1) / q**k is largest: terms grow up to it, and then fall."""
         low, high = 1, min(self.cars, self.empty)
         while low < high:
-            k = (low + high) // 2
-            low, high = (k + 1, high) if self.growth(k) > 1 else (low, k)
+            middle = (low + high) // 2
+            if self.growth(middle) > 1:
+                low = middle + 1
+            else:
+                high = middle
         return low
 
     def growth(self, k: int) -> float:

@@ -10,6 +10,7 @@ from .numbers import MAX_STEPS, MAX_THREADS, checked_int
 
 
 def input_text(lines: Sequence[str]) -> str:
+    """The text of an input file with these lines."""
     return "".join(line + "\n" for line in lines)
 
 

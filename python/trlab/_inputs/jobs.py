@@ -227,17 +227,14 @@ class Job:
             )
         past_steps = checked_int("the step of the snapshot", snapshot.step, 0, self.steps)
         further_steps = self.steps if steps is None else checked_int("steps", steps, 0, MAX_ALL_STEPS)
+        end = past_steps + further_steps
         return Job(
             limit=self.limit,
             rule=self._rule_at(past_steps),
             steps=further_steps,
             start=tuple(snapshot.lanes),
             key=derived_key("continued", self.key, past_steps) if key is None else key,
-            at={
-                step - past_steps: rule
-                for step, rule in self.at.items()
-                if past_steps < step < past_steps + further_steps
-            },
+            at={step - past_steps: rule for step, rule in self.at.items() if past_steps < step < end},
         )
 
     if not TYPE_CHECKING:

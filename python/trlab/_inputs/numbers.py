@@ -100,6 +100,7 @@ def _real(number: Any) -> Union[None, int, float, Fraction]:
 
 
 def _fraction(written: str) -> Optional[Fraction]:
+    """A number that is written as a string; None if it is not one."""
     if len(written) > _MAX_CHARACTERS or not _NUMBER.fullmatch(written):
         return None
     try:

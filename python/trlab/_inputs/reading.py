@@ -16,6 +16,8 @@ _MODELS: dict[str, Any] = {"nasch": Nasch, "vdr": SlowToStart, "rickert": Ricker
 
 
 class _Input(Protocol):
+    """A job or a sweep."""
+
     def text(self) -> str: ...
 
 
@@ -88,6 +90,7 @@ class Lines:
         self._next = 0
 
     def is_left(self) -> bool:
+        """Whether there is a next line."""
         return self._next < len(self._lines)
 
     def line(self) -> str:
@@ -109,6 +112,7 @@ class Lines:
         return rest
 
     def number(self, word: str) -> int:
+        """The number on the next line, which begins with this word."""
         return _number(self.take(word))
 
     def key(self) -> Union[int, str]:
@@ -145,6 +149,7 @@ class Lines:
 
 
 def _number(digits: str, base: int = 10) -> int:
+    """The number with these digits; raises `ParameterError` if they are none."""
     try:
         return int(digits, base)
     except ValueError:

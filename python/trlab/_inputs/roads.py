@@ -56,6 +56,7 @@ def roads_of(roads: object, length: int, lanes: int, limit: int) -> tuple[tuple[
 
 
 def _road_of(number: int, road: object, length: int, lanes: int, limit: int) -> tuple[str, ...]:
+    """The road of a point. Raises `ParameterError`, with the number of the road, if it is not one of this shape."""
     try:
         lane_texts = lanes_of(road, limit)
     except ParameterError as error:
@@ -96,6 +97,7 @@ def _items(road: Any) -> Union[str, Sequence[Any]]:
 
 
 def _lane_text(cells: Union[str, Sequence[Any]], limit: int) -> str:
+    """A lane in the characters of a file. Raises `ParameterError` if a cell is not a speed up to the limit."""
     if isinstance(cells, str):
         others = set(cells) - set(SPEEDS[: limit + 1] + ".")
         if others:

@@ -155,6 +155,7 @@ def warn_of_uneven_lanes(start: object, counts: Iterable[int], length: int, lane
 
 
 def _cars_by_lane(cars: int, length: int) -> str:
+    """How evenly spaced cars are distributed over two lanes, as a part of a sentence."""
     difference = surplus(cars, length)
     return f"{cars} cars are {(cars + difference) // 2} on lane 0 and {(cars - difference) // 2} on lane 1"
 

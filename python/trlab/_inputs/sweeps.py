@@ -186,6 +186,7 @@ class Sweep:
         from .._runs.many import run_all
 
         def point(job: Job) -> Point:
+            """The row of a point."""
             (window,) = job.series(every=self.measure, first=self.warm, workers=workers)
             return point_of(window)
 

@@ -94,6 +94,7 @@ def follow(snapshots: Iterable[Snapshot]) -> Iterator[Cars]:
 
 
 def _first(snapshot: Snapshot) -> Cars:
+    """The cars of the first snapshot, numbered by lane and cell."""
     lanes, length = len(snapshot.lanes), len(snapshot.lanes[0]) if snapshot.lanes else 0
     if not 1 <= lanes <= 2 or not length:
         raise SnapshotsError(

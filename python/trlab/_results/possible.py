@@ -12,6 +12,8 @@ from .._inputs.numbers import MAX_CELLS, MAX_SPEED
 
 MILLION = 1000000
 
+# A row contradicts itself if one of these rules is broken. The first ones are for all rows, the next ones for those of
+# a series, and the last ones for two rows of a series in succession.
 _OF_POINT = (
     f"a road has 1 to {2 * MAX_CELLS} cells",
     "at least 1 step is counted",
@@ -36,24 +38,30 @@ _OF_PAIR = (
 
 
 def _point(row: Sequence[Any]) -> tuple[Any, ...]:
-    """Which sentences of `_OF_POINT` hold, if this is not a row of a sweep."""
+    """Which contradictions of `_OF_POINT` a row of a sweep has, in their order."""
     cars, cells, steps, distance, stopped, changes, flow = row
     places, car_steps, millionths = cells * steps, cars * steps, MILLION * distance
     moving = car_steps - stopped
     return (
-        (cells < 1) | (cells > 2 * MAX_CELLS), steps < 1, cars > cells, moving < 0,
-        (distance < moving) | (distance > MAX_SPEED * moving), distance > places - car_steps,
+        (cells < 1) | (cells > 2 * MAX_CELLS),
+        steps < 1,
+        cars > cells,
+        moving < 0,
+        (distance < moving) | (distance > MAX_SPEED * moving),
+        distance > places - car_steps,
         (changes > car_steps) | (changes > 0) & (cells % 2 > 0),
         (flow > MILLION) | (places * flow > millionths) | (places * (flow + 1) <= millionths),
     )
 
 
 def _window(row: Sequence[Any]) -> tuple[Any, ...]:
-    """Which sentences of `_OF_POINT` and `_OF_LANES` hold, if this is not a row of a series."""
+    """Which contradictions of `_OF_POINT` and `_OF_LANES` a row of a series has, in their order."""
     step, cars, _, steps, distance, stopped, _, _, cars0, distance0, stopped0, cars1, distance1, stopped1 = row
     moving0, moving1 = cars0 - stopped0, cars1 - stopped1
     return _point(row[1:8]) + (
-        cars0 + cars1 != cars * steps, distance0 + distance1 != distance, stopped0 + stopped1 != stopped,
+        cars0 + cars1 != cars * steps,
+        distance0 + distance1 != distance,
+        stopped0 + stopped1 != stopped,
         (distance0 < moving0) | (distance0 > MAX_SPEED * moving0) | (moving0 < 0)
         | (distance1 < moving1) | (distance1 > MAX_SPEED * moving1) | (moving1 < 0),
         step < steps,
@@ -61,7 +69,7 @@ def _window(row: Sequence[Any]) -> tuple[Any, ...]:
 
 
 def _pair(before: Sequence[Any], row: Sequence[Any]) -> tuple[Any, ...]:
-    """Which sentences of `_OF_PAIR` hold, if one row of a series does not follow the other."""
+    """Which contradictions of `_OF_PAIR` a row of a series has with the row before it."""
     step_before, cars_before, cells_before, steps_before, *_ = before
     step, cars, cells, steps, *_ = row
     return (step - steps != step_before) | (steps != steps_before), (cars != cars_before) | (cells != cells_before)

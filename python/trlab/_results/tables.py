@@ -62,6 +62,8 @@ class _Counted:
 
 
 class _PointColumns(NamedTuple):
+    """The columns of a sweep."""
+
     cars: int
     cells: int
     steps: int
@@ -85,6 +87,8 @@ class Point(_PointColumns, _Counted):
 
 
 class _WindowColumns(NamedTuple):
+    """The columns of a series."""
+
     step: int
     cars: int
     cells: int

@@ -15,6 +15,7 @@ if TYPE_CHECKING:
 
     Array = numpy.ndarray[Any, Any]
 
+# The first line of a snapshot.
 HEADING = re.compile(b"step ([0-9]+)\n")
 BLOCK = 1 << 18
 

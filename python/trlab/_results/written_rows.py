@@ -105,10 +105,9 @@ def _fault(text: str, kind: Any) -> str:
     number = "(?:0|[1-9][0-9]{0,%d})" % (MAX_DIGITS - 1)
     row = re.compile(number + f"(?:,{number}){{{len(kind._fields) - 1}}}")
     lines = text.split("\n")
-    place = next(
-        place for place, line in enumerate(lines) if place and not row.fullmatch(line) or place == len(lines) - 1
-    )
-    problem = f"is not a row of {kind.__name__}s" if place < len(lines) - 1 else "is cut off"
+    last = len(lines) - 1
+    place = next((place for place in range(1, last) if not row.fullmatch(lines[place])), last)
+    problem = f"is not a row of {kind.__name__}s" if place < last else "is cut off"
     return f"line {place + 1} of the table {problem}: {_shown(lines[place])}"
 
 

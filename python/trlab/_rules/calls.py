@@ -36,6 +36,7 @@ class Calls(Conditions):
         """Statements, one after the other."""
 
     def called(self, node: ast.Call) -> Value:
+        """The value of a call."""
         function = node.func
         if isinstance(function, ast.Attribute) and self.is_car(function.value):
             if function.attr == "draw":
@@ -65,6 +66,7 @@ class Calls(Conditions):
         )
 
     def _extreme(self, name: str, node: ast.Call) -> Number:
+        """The value of `min`, `max` or `abs`."""
         is_one = name == "abs"
         has_stars = any(isinstance(argument, ast.Starred) for argument in node.args)
         if node.keywords or has_stars or (len(node.args) < 2) != is_one:
@@ -83,6 +85,7 @@ class Calls(Conditions):
             return self.numbers.extreme("min", [Number(value.plus), *bounds])
 
     def _drawn(self, node: ast.Call) -> Flag:
+        """The value of `car.draw(..)`."""
         names = [keyword.arg for keyword in node.keywords]
         if len(node.args) != 1 or names not in ([], ["word"]):
             self.fail(
@@ -159,6 +162,7 @@ class Calls(Conditions):
         return self.value_of(result)
 
     def _argument(self, node: ast.expr) -> Any:
+        """The meaning of an argument: the car, a function, a constant or a value."""
         if isinstance(node, ast.Starred):
             self.fail(node, "is not possible: a rule has no `*` in calls")
         if isinstance(node, ast.Name) and isinstance(self.named(node), (Car, Function)):

@@ -15,6 +15,7 @@ class Conditions(Expressions):
     """Jumps that depend on conditions."""
 
     def branch(self, node: ast.expr, target: Label, when: bool) -> None:
+        """Jumps to `target` if a condition is `when`, and continues otherwise."""
         value = self.constant(node)
         if value is not None:
             if bool(value) == when:
@@ -32,6 +33,7 @@ class Conditions(Expressions):
             self._branch_at_value(self.value(node), node, target, when)
 
     def _branch_at_parts(self, node: ast.BoolOp, target: Label, when: bool) -> None:
+        """The same for `and` and `or`."""
         if isinstance(node.op, ast.Or) == when:
             for part in node.values:
                 self.branch(part, target, when)
@@ -57,6 +59,7 @@ class Conditions(Expressions):
             self.emitter.label(skip)
 
     def _branch_at_value(self, value: Value, node: ast.expr, target: Label, when: bool) -> None:
+        """The same for a value: a flag, or a number, which is true unless it is 0."""
         with self.at(node):
             if isinstance(value, Flag):
                 self.emitter.emit("jtrue" if when else "jfalse", None, value.register, target=target)

@@ -33,6 +33,7 @@ class Place(NamedTuple):
     text: str
 
     def fail(self, message: str) -> NoReturn:
+        """Raises the error of this place."""
         raise RuleError(self.file, self.line, message)
 
 
@@ -107,6 +108,7 @@ class Emitter:
         return self._constants.setdefault(operand, Register(str(operand)))
 
     def _need_small(self, number: object) -> None:
+        """Raises the error of a place if a number does not fit in a register."""
         if isinstance(number, int) and number > MAX_NUMBER and self.is_live:
             self.place.fail(f"`{self.place.text}` needs the number {number}, and the greatest is {MAX_NUMBER}")
 

@@ -35,6 +35,7 @@ class Expressions(Names):
         """The value of `and` and `or`."""
 
     def value(self, node: ast.expr) -> Value:
+        """The value of an expression."""
         known = self.constant(node)
         if known is not None:
             return constant(self.integer(node, known))
@@ -56,6 +57,7 @@ class Expressions(Names):
         return meaning
 
     def number(self, node: ast.expr) -> Number:
+        """The value of an expression as a number."""
         return self.as_number(self.value(node))
 
     def as_number(self, value: Value) -> Number:
@@ -108,6 +110,7 @@ class Expressions(Names):
         return self.scaled(node, self.number(value), self.integer(node, by))
 
     def scaled(self, node: ast.BinOp, number: Number, by: int) -> Number:
+        """A number times, or divided by, a constant; or its remainder."""
         with self.at(node):
             if isinstance(node.op, ast.Mult):
                 return self.numbers.product(number, by)
@@ -128,6 +131,7 @@ class Expressions(Names):
         return summand(self.number(node))
 
     def input(self, node: ast.Attribute) -> Value:
+        """The value of an input of the car."""
         if not self.is_car(node.value):
             self.reject(node, node, "has no meaning in a rule")
         with self.at(node):
@@ -169,6 +173,7 @@ class Expressions(Names):
         self.emitter.assigned.add(variable)
 
     def _assign_number(self, variable: Variable, value: Number) -> None:
+        """Gives a variable a number, and notes if the variable must be able to be negative."""
         if variable.is_flag:
             self.attempt.numbers.add(variable.number)
         if value.minus != 0 and variable.minus is None:
@@ -182,6 +187,7 @@ class Expressions(Names):
             self._store(variable.minus, minus)
 
     def _store(self, to: Register, part: int | Register) -> None:
+        """Copies a part of a number to a register."""
         if isinstance(part, int):
             self.emitter.emit("num", to, rest=[part])
         elif part is not to:

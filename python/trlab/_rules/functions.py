@@ -116,6 +116,7 @@ def need_own_words(motion: object, change: object) -> None:
 
 
 def _counted(program: str) -> frozenset[int]:
+    """The random words of a program that got their numbers by their order."""
     return program.counted if isinstance(program, Program) else frozenset()
 
 

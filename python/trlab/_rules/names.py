@@ -87,6 +87,7 @@ class StoredNames(NamedTuple):
 
 @lru_cache(maxsize=256)
 def _stored_in(node: ast.FunctionDef) -> StoredNames:
+    """The names that a function assigns."""
     counters = [part.target for part in ast.walk(node) if isinstance(part, ast.For)]
     stored = [part for part in ast.walk(node) if isinstance(part, ast.Name) and isinstance(part.ctx, ast.Store)]
     assigned = {name.id for name in stored if name not in counters}
@@ -104,6 +105,7 @@ class Names:
         self._variables, self._parts = count(), 0
 
     def place(self, node: ast.AST) -> Place:
+        """The place of a node in the file."""
         written = self.frames[-1].function
         return Place(written.file, getattr(node, "lineno", written.node.lineno), _first_line_of(node))
 
@@ -130,6 +132,7 @@ class Names:
         self.emitter.place = before
 
     def new_variable(self, name: str) -> Variable:
+        """A new variable, whose number no other one has."""
         return Variable(name, next(self._variables), self.attempt)
 
     def variable(self, name: str) -> Variable:
@@ -140,6 +143,7 @@ class Names:
         return variables[name]
 
     def value_of(self, variable: Variable) -> Value:
+        """The value of a variable: a flag or a number."""
         if variable.is_flag:
             return Flag(variable.plus)
         return Number(variable.plus, variable.minus or 0, variable.why)
@@ -172,6 +176,7 @@ class Names:
             return True
 
     def is_car(self, node: ast.expr) -> bool:
+        """Whether an expression is the car."""
         return isinstance(node, ast.Name) and isinstance(self.named(node), Car)
 
     def constant(self, node: ast.expr) -> Any:
@@ -196,6 +201,7 @@ class Names:
 
 @lru_cache(maxsize=4096)
 def _first_line_of(node: ast.AST) -> str:
+    """The first line of the text of a node."""
     return ast.unparse(node).split("\n")[0]
 
 
@@ -203,8 +209,10 @@ def _first_line_of(node: ast.AST) -> str:
 def _names_in(node: ast.AST) -> Optional[list[ast.Name]]:
     """The names in an expression; None if it has more than operators, names and constants."""
     parts = [_names_in(child) for child in ast.iter_child_nodes(node)] if isinstance(node, _OPERATORS) else [None]
-    own = [node] if isinstance(node, ast.Name) else []
-    return None if None in parts else own + [name for part in parts for name in part or []]
+    if None in parts:
+        return None
+    this_name = [node] if isinstance(node, ast.Name) else []
+    return this_name + [name for part in parts for name in part or []]
 
 
 def _calculated(node: ast.expr, names: dict[str, Any]) -> Any:

@@ -82,6 +82,7 @@ class Arithmetic:
         return self._emitter.new("sub", first, self._emitter.new("min", second, first))
 
     def product(self, number: Number, factor: int) -> Number:
+        """The number times a constant, which may be negative."""
         plus, minus = (self._by("mul", part, abs(factor)) for part in (number.plus, number.minus))
         return Number(plus, minus, number.why) if factor >= 0 else Number(minus, plus, self._emitter.place)
 
@@ -116,6 +117,7 @@ class Arithmetic:
         return self._best("max", (number.plus, number.minus))
 
     def _best(self, name: str, parts: Sequence[Operand]) -> Operand:
+        """The smallest or largest of several parts, of which constants are compared at once."""
         constants = [part for part in parts if isinstance(part, int)]
         registers = [part for part in parts if isinstance(part, Register)]
         best = [{"min": min, "max": max}[name](constants)] if constants else []

@@ -50,6 +50,7 @@ class Function(NamedTuple):
             raise TypeError("a rule has no parameters with `*` or `/`")
 
         def parameter(name: str, kind: Any) -> Parameter:
+            """A parameter with its default, if it has one."""
             return Parameter(name, kind, default=self.defaults.get(name, Parameter.empty))
 
         unnamed = [parameter(argument.arg, Parameter.POSITIONAL_OR_KEYWORD) for argument in arguments.args]
@@ -93,6 +94,7 @@ def function_of(function: Callable[..., Any]) -> Function:
     cells = dict(zip(function.__code__.co_freevars, function.__closure__ or ()))
 
     def outside(name: str) -> Any:
+        """The value of a name outside the function."""
         try:
             value = cells[name].cell_contents if name in cells else function.__globals__[name]
         except ValueError:
@@ -132,12 +134,12 @@ def _meaning_of(code: types.CodeType) -> tuple[object, ...]:
     return code.co_code, code.co_names, code.co_varnames, code.co_freevars, repr(code.co_consts)
 
 
-def _is_call_elsewhere(node: ast.AST, own: tuple[str, ...]) -> bool:
+def _is_call_elsewhere(node: ast.AST, local_names: tuple[str, ...]) -> bool:
     """Whether this is a call such as `numpy.minimum(..)`. Python compiles it in another way if the file imports the
     name. A rule with such a call is rejected anyway."""
     if not isinstance(node, ast.Call) or not isinstance(node.func, ast.Attribute):
         return False
-    return getattr(node.func.value, "id", None) not in own
+    return getattr(node.func.value, "id", None) not in local_names
 
 
 def _codes_in(code: types.CodeType, name: str) -> Iterator[types.CodeType]:
@@ -175,10 +177,9 @@ def functions_in(text: str, file: str) -> list[Function]:
 
 
 def _decorators(node: ast.FunctionDef) -> list[str]:
-    return [
-        decorator.attr if isinstance(decorator, ast.Attribute) else getattr(decorator, "id", "?")
-        for decorator in node.decorator_list
-    ]
+    """The names of the decorators, without the module that they come from."""
+    decorators = node.decorator_list
+    return [node.attr if isinstance(node, ast.Attribute) else getattr(node, "id", "?") for node in decorators]
 
 
 def _literal(node: ast.AST, known: Mapping[str, Any]) -> Any:
@@ -213,6 +214,7 @@ def _names_set_by(node: Union[ast.stmt, ast.arguments], file: str) -> list[str]:
 
 
 def _written_defaults(node: ast.FunctionDef, known: Mapping[str, Any]) -> dict[str, Any]:
+    """The defaults of the parameters, if they are constants."""
     arguments = node.args
     names = [argument.arg for argument in arguments.args][len(arguments.args) - len(arguments.defaults):]
     defaults = dict(zip(names, arguments.defaults))

@@ -57,15 +57,17 @@ def written(items: Sequence[Item]) -> Written:
     numbers = _numbers(needed)
 
     def copies_to_itself(item: Item) -> bool:
+        """Whether an instruction copies a register to itself."""
         return isinstance(item, Instruction) and item.name == "copy" and numbers[item.writes] == numbers[item.reads[0]]
 
-    kept = [item for item in needed if not copies_to_itself(item)]
-    program = _lines(_without_short_jumps(kept), numbers)
+    without_copies = [item for item in needed if not copies_to_itself(item)]
+    program = _lines(_without_short_jumps(without_copies), numbers)
     _need_short(len(program.lines))
     return program
 
 
 def _need_short(count: int) -> None:
+    """Raises `TooLongError` for too many instructions."""
     if count > MAX_INSTRUCTIONS:
         raise TooLongError(count)
 
@@ -92,18 +94,18 @@ def _without_unread(items: Sequence[Item]) -> list[Item]:
     """The items without instructions whose result is not read. A difference stays, because the translation assumed that
     it is not negative, possibly in order to leave it out, and the verifier has to confirm this."""
     while True:
-        kept = [
+        read_items = [
             item for item, living in zip(items, _living(items))
             if isinstance(item, Label) or item.writes in {None, *living} or item.difference is not None
         ]
-        if len(kept) == len(items):
-            return kept
-        items = kept
+        if len(read_items) == len(items):
+            return read_items
+        items = read_items
 
 
 def _without_short_jumps(items: Sequence[Item]) -> list[Item]:
     """The items without jumps to the next instruction."""
-    kept: list[Item] = []
+    remaining: list[Item] = []
     next_labels: set[Label] = set()
     for item in reversed(items):
         if isinstance(item, Label):
@@ -112,8 +114,8 @@ def _without_short_jumps(items: Sequence[Item]) -> list[Item]:
             continue
         else:
             next_labels = set()
-        kept.append(item)
-    return kept[::-1]
+        remaining.append(item)
+    return remaining[::-1]
 
 
 def _conflicts(items: Sequence[Item]) -> Conflicts:

@@ -16,11 +16,13 @@ class Translation(Calls):
     """One translation of a function."""
 
     def block(self, body: Sequence[ast.stmt]) -> None:
+        """Translates statements, one after the other."""
         for statement in body:
             with self.at(statement):
                 self._statement(statement)
 
     def _statement(self, node: ast.stmt) -> None:
+        """Translates a statement."""
         if isinstance(node, ast.Pass) or isinstance(node, ast.Expr) and isinstance(node.value, ast.Constant):
             return
         if isinstance(node, ast.Assign) and len(node.targets) == 1:
@@ -43,6 +45,7 @@ class Translation(Calls):
             )
 
     def _assign(self, target: ast.expr, node: ast.expr) -> None:
+        """Translates an assignment to a name."""
         if not isinstance(target, ast.Name):
             self.fail(target, "cannot be assigned: assign one name per line")
         value = self.value(node)
@@ -50,6 +53,7 @@ class Translation(Calls):
             self.assign(self.variable(target.id), value)
 
     def _loop(self, node: ast.For) -> None:
+        """Translates a loop: its body once for each turn, with the counter as a constant."""
         frame, target = self.frames[-1], node.target
         turns = self._turns(node.iter)
         if turns is None or not isinstance(target, ast.Name) or node.orelse:
@@ -75,6 +79,7 @@ class Translation(Calls):
             return None
 
     def _return(self, node: ast.Return) -> None:
+        """Translates `return`: the end of the call, or the answer of the rule."""
         frame = self.frames[-1]
         if node.value is None:
             self.fail(node, "needs a value")
@@ -91,6 +96,7 @@ class Translation(Calls):
             self._go(node, node.value)
 
     def _go(self, node: ast.Return, speed: ast.expr) -> None:
+        """The answer of a motion rule. Raises the error of the speed if it may be negative."""
         value = self.number(speed)
         if value.minus != 0 and self.emitter.is_live:
             why = value.why or self.place(speed)

@@ -62,6 +62,7 @@ def compiled(kind: str, function: Function, named: Mapping[str, Any], verify: Ve
 
 
 def _compiled(kind: str, function: Function, named: Mapping[str, Any], verify: Verify, attempt: Attempt) -> Program:
+    """The program, or `TooManyError` if eight registers do not suffice for this attempt."""
     arguments = [f"{name}={_shown(value)}" for name, value in function.bound([Car()], named).items()]
     title = f"{function.node.name}({', '.join(arguments[1:])})".encode("ascii", "replace").decode()
     while True:
@@ -105,6 +106,7 @@ def _translated(kind: str, function: Function, named: Mapping[str, Any], attempt
 
 
 def _explain(rejected: Instruction, reason: int) -> NoReturn:
+    """Raises the error of an instruction that the verifier rejects."""
     advice = _ADVICE.get(
         reason,
         f"is rejected by the verifier for reason {reason}: this is an error of the translation, please " "report it",

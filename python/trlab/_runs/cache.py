@@ -47,6 +47,7 @@ class Cache:
         remove_left(self.folder)
 
     def path(self, key: str) -> Path:
+        """The path of the output with this key."""
         return self.folder / f"{key}.out"
 
     def output_of(self, request: Request) -> Iterator[bytes]:
@@ -55,10 +56,10 @@ class Cache:
             yield from run(request)
             return
         key = key_of(request)
-        kept = self._kept(key, request)
-        if kept is not None:
-            with kept:
-                yield from _rest(kept)
+        kept_file = self._kept(key, request)
+        if kept_file is not None:
+            with kept_file:
+                yield from _rest(kept_file)
             return
         with owned(new_path(self.folder, "new")) as path:
             try:
@@ -143,6 +144,7 @@ def _write(file: IO[bytes], key: str, request: Request) -> None:
 
 
 def _heading(key: str, digest: str) -> bytes:
+    """The first line of a file."""
     return f"trlab-output-1 {key} {digest}\n".encode()
 
 

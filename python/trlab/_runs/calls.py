@@ -72,6 +72,7 @@ def explained(text: str, *arguments: str) -> Explanation:
     status: list[int] = []
 
     def blocks() -> Iterator[bytes]:
+        """The blocks of the explanation; the exit status comes after them."""
         status.append((yield from run(Request(("explain", *arguments), text))))
 
     return Explanation(_decoded(b"".join(blocks())), status[0])
@@ -84,6 +85,7 @@ def version() -> str:
 
 
 def _decoded(output: bytes) -> str:
+    """An output as text. Raises `OutputFormatError` if it is not one."""
     try:
         return output.decode("utf-8")
     except UnicodeDecodeError as fault:

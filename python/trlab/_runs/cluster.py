@@ -20,6 +20,7 @@ from .ownership import new_path
 from .parts import joined, kind_of, requests_of
 from .requests import Request
 
+# The name of a part of an input, such as `NAME~3of20`; and an argument that a shell reads as it is.
 _PART = re.compile(r"(.+)~([0-9]+)of([0-9]+)")
 _ARGUMENT = re.compile("[a-zA-Z0-9=-]+")
 
@@ -32,10 +33,12 @@ class _File(NamedTuple):
 
     @property
     def input(self) -> str:
+        """The name of the input file."""
         return f"{self.name}.{'sweep' if self.request.arguments[0] == 'sweep' else 'job'}"
 
     @property
     def result(self) -> str:
+        """The name of the result file."""
         return f"{self.name}.{'out' if self.request.arguments[0] == 'run' else 'csv'}"
 
     def with_arguments(self, arguments: tuple[str, ...]) -> _File:
@@ -292,6 +295,7 @@ def _read(place: Path, file: _File) -> Table[Any]:
 
 
 def _content_of_result(place: Path, file: _File) -> str:
+    """The text of a result. Raises `ResultFilesError` if it is missing, unreadable or cut off."""
     try:
         content = (place / file.result).read_bytes().decode()
     except FileNotFoundError:
@@ -318,6 +322,7 @@ def _differences(place: Path, file: _File, table: Table[Any]) -> Iterator[str]:
 
 
 def _differences_of_points(text: str, table: Table[Any]) -> Iterator[str]:
+    """Why the table of a sweep is not that of its input."""
     counts = [int(number) for number in re.findall("^cars ([0-9]+)$", text, re.M)]
     length, lanes, measure = (int(number) for number in re.findall("^(?:length|lanes|measure) ([0-9]+)$", text, re.M))
     if len(table) < len(counts):
@@ -327,6 +332,7 @@ def _differences_of_points(text: str, table: Table[Any]) -> Iterator[str]:
 
 
 def _differences_of_windows(request: Request, table: Table[Any]) -> Iterator[str]:
+    """Why the table of a series is not that of its input."""
     steps, ends = request.steps(), [row.step for row in table]
     if not ends or ends[-1] + table[-1].steps <= steps:
         yield f"is short: its last window ends after {ends[-1] if ends else 0} of {steps} steps"

@@ -146,6 +146,7 @@ def _folders() -> Iterator[Path]:
 
 
 def _has_sum(path: Path, sha256: str) -> bool:
+    """Whether a file is executable and has this SHA-256."""
     try:
         return os.access(path, os.X_OK) and hashlib.sha256(path.read_bytes()).hexdigest() == sha256
     except OSError:
@@ -205,6 +206,7 @@ def _for_node() -> Optional[str]:
 
 
 def _on_path() -> Optional[str]:
+    """The program on the `PATH`, or None. A program that is asked for its version does not look there again."""
     if _ON_PATH in os.environ:
         return None
     path = shutil.which("trlab")
@@ -214,6 +216,7 @@ def _on_path() -> Optional[str]:
 
 
 def _is_trlab_from_path(path: str) -> bool:
+    """Whether a program on the `PATH` is trlab."""
     os.environ[_ON_PATH] = path
     try:
         return _is_trlab(path, os.stat(path).st_mtime_ns)
@@ -222,6 +225,7 @@ def _is_trlab_from_path(path: str) -> bool:
 
 
 def _nowhere() -> NoReturn:
+    """Raises the error of a program that was not found."""
     if of_package() is not None:
         raise ProgramNotFoundError(
             "no native program of trlab fits this machine, and the one in WebAssembly needs Node: install Node 18 or "

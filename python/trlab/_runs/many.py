@@ -103,8 +103,10 @@ def results(
         for name, input in named.items():
             if not isinstance(input, (Job, Sweep)):
                 raise ParameterError(f"input {name!r} is not a Job or a Sweep: {input!r}")
-    kept, report = _cache_for(cache), reporter(progress)
-    return _results(named, call or table_or_snapshots, kept, executor, report, errors == "keep", at_once)
+    report = reporter(progress)
+    return _results(
+        named, call or table_or_snapshots, _cache_for(cache), executor, report, errors == "keep", at_once
+    )
 
 
 def run_all(inputs: Iterable[Input], call: Callable[[Input], Result], at_once: Optional[int] = None) -> list[Result]:
@@ -135,12 +137,14 @@ def _results(
     are_errors_kept: bool,
     at_once: Optional[int],
 ) -> Iterator[tuple[Any, Any]]:
+    """Yield the results of `results`, whose arguments are checked."""
     finished: SimpleQueue[Future[Any]] = SimpleQueue()
     names: dict[Future[Any], Any] = {}
     inputs = iter(named.items())
     with _running(executor, cache, at_once, names) as (pool, lease, waiting):
 
         def submit(count: Optional[int]) -> None:
+            """Pass the next inputs to the executor, or all of them."""
             for name, input in itertools.islice(inputs, count):
                 future = pool.submit(_task, call, input, cache, lease)
                 names[future] = name

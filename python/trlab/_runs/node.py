@@ -15,6 +15,7 @@ from .._errors import ProgramNotFoundError
 _HERE = Path(__file__).resolve().parents[1]
 _NAME = "trlab-node.mjs"
 _PAGE = "trlab-lab.html"
+# The line of release.txt with the SHA-256 of the program in WebAssembly.
 _SUM = re.compile("^wasm ([0-9a-f]{64})$", re.M)
 PROGRAM = re.compile(r'<script [^>]*\bid="program"[^>]*>([^<]*)<')
 """The element of a page that contains the program."""

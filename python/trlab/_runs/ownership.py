@@ -65,6 +65,7 @@ def remove_left(folder: Path) -> None:
 
 
 def _is_left(file: Path) -> bool:
+    """Whether the process of a file of this machine has ended."""
     number = file.name.split("-")[-2]
     return number.isdecimal() and not is_running(int(number))
 

@@ -32,6 +32,7 @@ def requests_of(input: Union[Job, Sweep], arguments: Sequence[str]) -> list[Requ
 
 
 def _request_of(job: Job, arguments: Sequence[str]) -> Request:
+    """The request of a job."""
     if arguments[:1] not in (["run"], ["series"]):
         raise ParameterError(f'a job needs words that begin with "run" or "series", not {list(arguments)}')
     request = Request(tuple(arguments), job.text())

@@ -63,6 +63,7 @@ class Processes:
         return process
 
     def _add(self, process: Child) -> None:
+        """Notes a process, and kills it if all were stopped before."""
         with self._lock:
             self._running.add(process)
             if self.is_stopped:
@@ -71,6 +72,7 @@ class Processes:
             self._outer._add(process)
 
     def remove(self, process: Child) -> None:
+        """Forgets a process that has ended."""
         with self._lock:
             self._running.discard(process)
         if self._outer is not None:

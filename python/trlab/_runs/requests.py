@@ -103,6 +103,7 @@ class Length:
             raise self._error("wrote a last line without its end")
 
     def _error(self, did: str) -> IncompleteOutputError:
+        """The error of an output that is too long or too short."""
         return IncompleteOutputError(
             f"`{self._request}` {did}, so its output is not a result. Run it again; if that does not help, install "
             "trlab again"

@@ -66,11 +66,13 @@ class Ending:
                 self._end(self._number, None)
 
     def _replace(self, old: object, new: object) -> None:
+        """Replaces the handlers of these signals that are `old`."""
         for number in ENDING_SIGNALS:
             if signal.getsignal(number) == old:
                 signal.signal(number, new)  # type: ignore[arg-type]
 
     def _end(self, number: int, _: Optional[FrameType]) -> None:
+        """Stops everything, and ends this process by the signal."""
         if self._is_late:
             self._number = number
             return

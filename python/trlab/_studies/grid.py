@@ -225,6 +225,7 @@ def _check_make(make: Callable[..., Input], names: Sequence[str]) -> None:
 
 
 def _checked(input: object) -> Input:
+    """The input of a choice. Raises `ParameterError` for anything else."""
     if not isinstance(input, (Job, Sweep)):
         raise ParameterError(f"`make` must return a Job or a Sweep, not {input!r}")
     return input
@@ -239,6 +240,7 @@ def _is_fraction(value: object) -> bool:
 
 
 def _choice_of(names: Sequence[str]) -> Any:
+    """The type of a choice: a named tuple of the values of parameters."""
     try:
         return namedtuple("Choice", names)
     except ValueError as fault:
@@ -256,8 +258,8 @@ def _check_roads(chosen: Mapping[str, Any], roads: KnownRoads) -> None:
             raise ParameterError(f"{wrong}: give it another name") from None
         tolerance = 0 if name == "cars" else 1 - 1e-9 * roads["cells"]
         if len(set(roads["cars"])) > 1 or abs(expected_cars - roads["cars"][0]) > tolerance:
-            there = f"{roads['cars'][:5]} cars on {roads['cells']} cells"
-            wrong = f"the parameter `{name}` is {chosen[name]}, and the input has {there}"
+            road = f"{roads['cars'][:5]} cars on {roads['cells']} cells"
+            wrong = f"the parameter `{name}` is {chosen[name]}, and the input has {road}"
             raise ParameterError(f"{wrong}: use it in `make`, or give it another name")
 
 

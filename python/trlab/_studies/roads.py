@@ -29,11 +29,12 @@ def known_roads(input: Union[Job, Sweep]) -> KnownRoads:
     cars = input.counts() if isinstance(input, Sweep) else [input.count()]
     cells = input.length * input.lanes if isinstance(input, Sweep) else input.cells()
     about = _about(input, cells)
-    ensembles = [_digest([is_sweep, count, *about]) + own for count, own in zip(cars, _own_roads(input))]
+    ensembles = [_digest([is_sweep, count, *about]) + of_cells for count, of_cells in zip(cars, _own_roads(input))]
     return {"key": key_digits(input.key).lower(), "cells": cells, "cars": cars, "ensembles": ensembles}
 
 
 def _digest(content: object) -> str:
+    """The first digits of a SHA-256."""
     return sha256(json.dumps(content).encode()).hexdigest()[:12]
 
 

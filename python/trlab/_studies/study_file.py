@@ -31,6 +31,7 @@ if TYPE_CHECKING:
 _FORMAT = "trlab study 1"
 _MAX_BYTES = 4 * 1024 * 1024
 """The maximum size of an input, which is also that of trlab."""
+# The name of an input in a study; the parts of an input have numbers.
 _FILE = re.compile(r"inputs/[0-9]{6}(?:~[0-9]{4})?\.(?:job|sweep)")
 _WORD = re.compile("[a-zA-Z0-9=-]+")
 _TIME = (1980, 1, 1, 0, 0, 0)
@@ -187,13 +188,11 @@ def _study_in(file: zipfile.ZipFile, size: int) -> Study:
         all(file.getinfo(name).file_size <= _MAX_BYTES for name in listed), f"an input has more than {_MAX_BYTES} bytes"
     )
     make: Any = namedtuple("Choice", about["parameters"])  # type: ignore[misc]
-    inputs = {
-        make(*map(_read_value, choice["values"])): StudyInput(
-            tuple(choice["words"]), tuple(file.read(name).decode("utf-8") for name in choice["files"]),
-            choice["is_sweep"]
-        )
-        for choice in about["choices"]
-    }
+    inputs = {}
+    for choice in about["choices"]:
+        values = make(*map(_read_value, choice["values"]))
+        texts = tuple(file.read(name).decode("utf-8") for name in choice["files"])
+        inputs[values] = StudyInput(tuple(choice["words"]), texts, choice["is_sweep"])
     _need(len(inputs) == len(about["choices"]), "two choices have the same values")
     for input in inputs.values():
         for text in input.texts:
@@ -212,6 +211,7 @@ def _check_about(about: Mapping[str, Any]) -> None:
 
 
 def _check_choice(choice: Any, parameters: int) -> None:
+    """Raises `StudyFileError` if a choice does not have the members that `save` writes."""
     values, words, files, is_sweep, roads = map(choice.get, ("values", "words", "files", "is_sweep", "roads"))
     _need(isinstance(values, list) and len(values) == parameters, "a choice has other parameters")
     _need(_is_list(words, str) and words[:1] in (["series"], ["sweep"]), "a choice has other words")
@@ -240,9 +240,11 @@ def _read_value(value: Any) -> Union[str, int, float, Fraction]:
 
 
 def _no_number(name: str) -> NoReturn:
+    """Raises `StudyFileError` for NaN and infinite numbers, which `json` reads although JSON has none."""
     raise StudyFileError(f"study.json has the number {name}")
 
 
 def _need(condition: object, fault: str) -> None:
+    """Raises `StudyFileError` unless a condition holds."""
     if not condition:
         raise StudyFileError(fault)

@@ -21,24 +21,27 @@ Numbers = np.ndarray[Any, np.dtype[np.int64]]
 Bytes = np.ndarray[Any, np.dtype[np.uint8]]
 STEP = np.frombuffer(b"step ", dtype=np.uint8)
 SPEEDS = np.frombuffer(ring.SPEEDS, dtype=np.uint8)
+DIGIT_0, LINE_FEED, EMPTY = ord("0"), ord("\n"), ord(".")
 BUFFER = 1 << 16  # bytes of snapshots that are written at once
+SEED = 88172645463325252  # that of Marsaglia's paper on xorshift generators
+HEADING = 20  # at least the bytes of a line `step N`
 
 
 @njit(cache=True)
 def advance(places: Numbers, speeds: Numbers, cells: int, limit: int, brake: np.uint64, seed: np.uint64) -> np.uint64:
     """Takes a step and returns the new seed. The cars keep their order on the ring, so each looks at the next one."""
     cars = len(places)
-    for k in range(cars):
-        gap = (places[(k + 1) % cars] - places[k] - 1) % cells
-        speeds[k] = min(speeds[k] + 1, limit, gap)
+    for car in range(cars):
+        gap = (places[(car + 1) % cars] - places[car] - 1) % cells
+        speeds[car] = min(speeds[car] + 1, limit, gap)
         if brake > 0:
             seed ^= seed << uint64(13)
             seed ^= seed >> uint64(7)
             seed ^= seed << uint64(17)
-            if speeds[k] > 0 and (seed >> uint64(33)) < brake:
-                speeds[k] -= 1
-    for k in range(cars):
-        places[k] = (places[k] + speeds[k]) % cells
+            if speeds[car] > 0 and (seed >> uint64(33)) < brake:
+                speeds[car] -= 1
+    for car in range(cars):
+        places[car] = (places[car] + speeds[car]) % cells
     return seed
 
 
@@ -46,39 +49,38 @@ def advance(places: Numbers, speeds: Numbers, cells: int, limit: int, brake: np.
 def advance_tuned(places: Numbers, speeds: Numbers, cells: int, limit: int, brake: np.uint64, seed: np.uint64) -> np.uint64:
     """The same in one loop, without divisions."""
     first = places[0]
-    for k in range(len(places)):
-        gap = (places[k + 1] if k + 1 < len(places) else first) - places[k] - 1
-        speed = min(speeds[k] + 1, limit, gap if gap >= 0 else gap + cells)
+    for car in range(len(places)):
+        gap = (places[car + 1] if car + 1 < len(places) else first) - places[car] - 1
+        speed = min(speeds[car] + 1, limit, gap if gap >= 0 else gap + cells)
         if brake > 0:
             seed ^= seed << uint64(13)
             seed ^= seed >> uint64(7)
             seed ^= seed << uint64(17)
             speed -= speed > 0 and (seed >> uint64(33)) < brake
-        speeds[k] = speed
-        places[k] += speed
-        if places[k] >= cells:
-            places[k] -= cells
+        speeds[car] = speed
+        places[car] += speed
+        if places[car] >= cells:
+            places[car] -= cells
     return seed
 
 
 @njit(cache=True)
 def draw(places: Numbers, speeds: Numbers, cells: int, step: int, out: Bytes, at: int) -> int:
     """Draws a snapshot into a buffer, below its line `step N`, and returns the position of its end."""
-    out[at:at + 5] = STEP
-    at, rest = at + 6, step
+    out[at:at + len(STEP)] = STEP
+    # The line feed comes after the digits, which are written from the last one backwards.
+    line_end, rest = at + len(STEP) + 1, step
     while rest >= 10:
-        at, rest = at + 1, rest // 10
-    for place in range(at - 1, at - 20, -1):
-        out[place], step = 48 + step % 10, step // 10
-        if step == 0:
-            break
-    out[at] = 10
-    lane = out[at + 1:at + 2 + cells]
-    lane[:cells] = 46
-    for k in range(len(places)):
-        lane[places[k]] = SPEEDS[speeds[k]]
-    lane[cells] = 10
-    return at + 2 + cells
+        line_end, rest = line_end + 1, rest // 10
+    for place in range(line_end - 1, at + len(STEP) - 1, -1):
+        out[place], step = DIGIT_0 + step % 10, step // 10
+    out[line_end] = LINE_FEED
+    lane = out[line_end + 1:line_end + 2 + cells]
+    lane[:cells] = EMPTY
+    for car in range(len(places)):
+        lane[places[car]] = SPEEDS[speeds[car]]
+    lane[cells] = LINE_FEED
+    return line_end + 2 + cells
 
 
 @njit(cache=True)
@@ -88,7 +90,7 @@ def fill(
 ) -> tuple[np.uint64, int, int]:
     """Draws snapshots and takes steps until the buffer is full; returns the seed, the next step and the bytes drawn."""
     at = 0
-    while step <= steps and at + cells + 20 <= len(out):
+    while step <= steps and at + cells + HEADING <= len(out):
         at = draw(places, speeds, cells, step, out, at)
         if step < steps and is_tuned:
             seed = advance_tuned(places, speeds, cells, limit, brake, seed)
@@ -99,15 +101,15 @@ def fill(
 
 
 def run(limit: int, lane: bytes, brake: int, steps: int, out: IO[bytes], is_tuned: bool) -> None:
-    """Runs a job."""
+    """Runs a job, and writes its snapshots."""
     start = np.frombuffer(lane, dtype=np.uint8)
     cells, places = len(start), np.flatnonzero(start != ord("."))
     speeds = np.searchsorted(SPEEDS, start[places])
-    pictures, seed, step = np.empty(BUFFER + cells, dtype=np.uint8), np.uint64(88172645463325252), 0
+    buffer, seed, step = np.empty(BUFFER + cells, dtype=np.uint8), np.uint64(SEED), 0
     while step <= steps:
         road = places, speeds, cells, limit, np.uint64(brake), np.uint64(seed)
-        seed, step, end = fill(is_tuned, *road, step, steps, pictures)
-        out.write(pictures[:end].data)
+        seed, step, end = fill(is_tuned, *road, step, steps, buffer)
+        out.write(buffer[:end].data)
 
 
 limit, lane, brake, steps = ring.read_job(sys.stdin.read())

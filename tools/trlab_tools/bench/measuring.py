@@ -8,7 +8,7 @@ import re
 import subprocess
 import sys
 import time
-from collections.abc import Callable, Hashable, Iterable, Mapping, Sequence
+from collections.abc import Hashable, Iterable, Mapping, Sequence
 from typing import Any, NamedTuple, Optional, TypeVar
 
 from .. import TOP
@@ -18,7 +18,12 @@ Name = TypeVar("Name", bound=Hashable)
 
 BENCH = os.path.join(TOP, "tools", "bench")
 WITHOUT_PROOFS = ["plain", "interpreter"]
-LONGEST = 2  # the maximum number of turns, as a multiple of the planned number
+# The rules that are measured, with the number of lanes of each: without random numbers; to brake with probability 1/4; with 1/64,
+# and 3/4 for stopped cars; and with 1/4, where cars change lanes with probability 1/2.
+DETERMINISTIC, BRAKING = "nasch 0", "nasch 536870912"
+SLOW_TO_START, CHANGING = "vdr 33554432 1610612736", "rickert 536870912 1073741824"
+LANES_OF_RULE = {DETERMINISTIC: 1, BRAKING: 1, SLOW_TO_START: 1, CHANGING: 2}
+MAX_EXTENSION = 2  # the maximum number of turns, as a multiple of the planned number
 REPEATS = 5  # turns of a run that measures its own time
 SETTLED: list[bool] = []  # for each best time whether it was found twice
 
@@ -57,7 +62,7 @@ def python_with(*modules: str) -> Optional[str]:
 
 
 def machine() -> str:
-    """A line about the machine."""
+    """A line about the machine: its processors, and how busy they are."""
     with open("/proc/cpuinfo") as lines:
         name = next((line.partition(": ")[2].strip() for line in lines if line.startswith("model name")), "a processor")
     return f"{os.cpu_count()} processors ({name}), load {os.getloadavg()[0]:.1f} at the start"
@@ -81,7 +86,7 @@ def even(length: int, cars: int, lanes: int = 1) -> list[str]:
 
 
 def job(lanes: Iterable[str], rule: str, steps: int) -> bytes:
-    """A job."""
+    """A job of a road with these lanes."""
     lines = ["road 1", "key " + 64 * "0", "limit 5"] + ["lane " + lane for lane in lanes]
     return ("\n".join(lines + ["rule " + rule, f"steps {steps}"]) + "\n").encode()
 
@@ -93,6 +98,7 @@ def sweep(rule: str, cells: int, points: Iterable[int], steps: int, lanes: int =
 
 
 def write(path: str, text: bytes) -> str:
+    """Writes an input into a file, and returns its path."""
     with open(path, "wb") as file:
         file.write(text)
     return path
@@ -119,18 +125,14 @@ def own_time(command: Sequence[str], path: str) -> Time:
     return Time(*map(float, process.stderr.split()))
 
 
-def once(command: Sequence[str], path: str, measure: Callable[[Sequence[str], str], Time] = timed) -> Time:
-    """The time of one run, as `measure` finds it."""
-    return measure(command, path)
-
-
 def turns(runs: Mapping[Name, tuple[Any, ...]], times: int) -> dict[Name, list[Time]]:
     """The times of runs, by their names. The runs alternate, `times` times each. A run is a command, the path of its input,
     and the function that measures it, if that is not `timed`."""
     times_by_name: dict[Name, list[Time]] = {name: [] for name in runs}
     for _ in range(times):
-        for name, run in runs.items():
-            times_by_name[name].append(once(*run))
+        for name, (command, path, *measures) in runs.items():
+            measure = measures[0] if measures else timed
+            times_by_name[name].append(measure(command, path))
     return times_by_name
 
 
@@ -140,7 +142,7 @@ def best(times: Iterable[Time]) -> Time:
     return Time(min(clocks), min(cpus))
 
 
-def settled(times: Iterable[Time]) -> bool:
+def is_settled(times: Iterable[Time]) -> bool:
     """Whether the two smallest CPU times of a run agree to 2 percent or half a millisecond."""
     least, second = sorted(time.cpu for time in times)[:2]
     return second - least <= max(0.02 * least, 0.0005)
@@ -148,13 +150,13 @@ def settled(times: Iterable[Time]) -> bool:
 
 def best_of(runs: Mapping[Name, tuple[Any, ...]], count: int) -> dict[Name, Time]:
     """The best times of runs, by their names. The runs alternate `count` times, and those whose two smallest times differ up
-    to `LONGEST` times as often, because on a shared machine even the best of a few runs may be disturbed."""
+    to `MAX_EXTENSION` times as often, because on a shared machine even the best of a few runs may be disturbed."""
     times_by_name = turns(runs, count)
-    for _ in range((LONGEST - 1) * count):
-        more = {name: run for name, run in runs.items() if not settled(times_by_name[name])}
+    for _ in range((MAX_EXTENSION - 1) * count):
+        more = {name: run for name, run in runs.items() if not is_settled(times_by_name[name])}
         for name, times in turns(more, 1).items():
             times_by_name[name] += times
-    SETTLED.extend(settled(times) for times in times_by_name.values())
+    SETTLED.extend(is_settled(times) for times in times_by_name.values())
     return {name: best(times) for name, times in times_by_name.items()}
 
 

@@ -24,12 +24,14 @@ ROWS_OF_PAGE = [
     ("`nasch 536870912`, four runs at once", 100000, 30000),
     ("`rickert 536870912 1073741824`, 4 workers", 50000, 30000),
 ]
+# The ratio behind a time, such as ` (0.85)`.
 RATIO = re.compile(r" \(\d+\.\d+\)$")
 
 
 class Programs(NamedTuple):
     """The programs that are measured, `plain` and `interpreter` also with eight words in parallel. The programs in numba and
     NumPy are commands, which are empty if Python lacks the package."""
+
     trlab: str
     plain: str
     interpreter: str
@@ -42,7 +44,8 @@ class Programs(NamedTuple):
 class Row(NamedTuple):
     """A measurement: its subject; the lanes, their cells and all cars, if it is of a road; the nanoseconds per car and step of
     trlab and of other programs; further results; and the wanted values."""
-    what: str
+
+    subject: str
     lanes: Union[int, str]
     cells: Union[int, str]
     cars: Union[int, str]
@@ -55,7 +58,10 @@ class Row(NamedTuple):
         return self.times["trlab"].cpu / self.times[other].cpu
 
     def cell(self, column: str) -> str:
-        if column in ("what", "lanes", "cells", "cars", "beside"):
+        """The text of a row in a column; empty if the row has no such value."""
+        if column == "what":
+            return self.subject
+        if column in ("lanes", "cells", "cars", "beside"):
             return str(getattr(self, column))
         if column == "wanted":
             return ", ".join(self.wanted)
@@ -66,29 +72,32 @@ class Row(NamedTuple):
         return f"{self.times[column].cpu:.1f}" + ("" if column == "trlab" else f" ({self.ratio(column):.2f})")
 
 
-def wish(what: str, is_met: bool) -> str:
+def wanted_text(text: str, is_met: bool) -> str:
     """The text of a wanted value, with a remark if the row misses it."""
-    return what if is_met else f"{what} (missed)"
+    return text if is_met else f"{text} (missed)"
 
 
-def a_move(whole: tuple[float, float], idle: tuple[float, float], moves: int) -> measuring.Time:
+def time_per_move(run: tuple[float, float], start: tuple[float, float], moves: int) -> measuring.Time:
     """The nanoseconds per car and step: the time of a run less that of a run of 0 steps, over its cars times its steps."""
-    return measuring.Time(*((more - less) * 1e9 / moves for more, less in zip(whole, idle)))
+    return measuring.Time(*((whole - less) * 1e9 / moves for whole, less in zip(run, start)))
 
 
 def heading(columns: Collection[str]) -> list[str]:
+    """The first two lines of a table in Markdown."""
     return [line(columns), "|" + len(columns) * "---|"]
 
 
 def line(cells: Iterable[str]) -> str:
+    """A row of a table in Markdown."""
     return "| " + " | ".join(cells) + " |"
 
 
 def rows_of(table: str) -> list[dict[str, str]]:
     """The rows of a printed table, each with its cells by column."""
-    lines = [[cell.strip() for cell in text.strip().strip("|").split(" | ")] for text in table.splitlines() if text[:2] == "| "]
-    heading: list[str] = next((cells for cells in lines if cells[0] == COLUMNS[0]), [])
-    return [dict(zip(heading, cells)) for cells in lines if len(cells) == len(heading) and cells[0] != COLUMNS[0]]
+    lines = [line.strip().strip("|").split(" | ") for line in table.splitlines() if line.startswith("| ")]
+    rows = [[cell.strip() for cell in cells] for cells in lines]
+    columns: list[str] = next((row for row in rows if row[0] == COLUMNS[0]), [])
+    return [dict(zip(columns, row)) for row in rows if len(row) == len(columns) and row != columns]
 
 
 def as_data(rows: list[dict[str, str]]) -> str:
@@ -100,7 +109,8 @@ def as_data(rows: list[dict[str, str]]) -> str:
 
 def as_page(rows: list[dict[str, str]]) -> str:
     """The rows of the page in Markdown, below their heading, without columns that are empty."""
-    shown_rows = [row for key in ROWS_OF_PAGE for row in rows if (row["what"], int(row["cells"] or 0), int(row["cars"] or 0)) == key]
+    by_key = {(row["what"], int(row["cells"] or 0), int(row["cars"] or 0)): row for row in rows}
+    shown_rows = [by_key[key] for key in ROWS_OF_PAGE if key in by_key]
     columns = [column for column in COLUMNS_OF_PAGE if any(row.get(column) for row in shown_rows)]
     names = [NAMES_ON_PAGE.get(column, column) for column in columns]
     return "\n".join(heading(names) + [line(row[column] for column in columns) for row in shown_rows]) + "\n"

@@ -8,38 +8,42 @@ from collections.abc import Iterator, Sequence
 from typing import NamedTuple, Optional
 
 from . import measuring
-from .rows import Programs, Row, a_move, wish
+from .measuring import BRAKING, CHANGING
+from .rows import Programs, Row, time_per_move, wanted_text
 
 SECONDS = 0.4
 MOVES = 6_000_000  # cars times steps of a sweep of one point
 TRIED_MOVES = 1_000_000  # cars times steps of a run whose time is not known yet
-NOBODY = 65534
-BRAKING = "nasch 536870912"
-CHANGING = "rickert 536870912 1073741824"
+NOBODY = 65534  # the number of the user who may start no threads
+# The points of sweeps, the cells of their roads, the steps, and how many times as fast four runners should be.
+SWEEPS: list[tuple[int, int, int, Optional[float]]] = [(16, 200, 10000, 3), (7, 1000, 10000, 3), (16, 10000, 200, None)]
 # Four runs of a program at once, with one worker each, on the input in a file.
 AT_ONCE = 'for k in 1 2 3 4; do "$0" run <"$1" >"$2" & done; wait'
 
 
 class Shared(NamedTuple):
     """An input of `cars` cars in total, which take `steps` steps each; a command runs it with several workers or runners."""
-    what: str
+
+    title: str
     command: str
-    who: str
+    helper: str  # `worker` or `runner`
     lanes: int
     cells: int
     cars: int
     steps: int
     text: bytes
 
-    def by(self, program: str, count: int) -> list[str]:
-        return [program, self.command, f"--{self.who}s", str(count)]
+    def words(self, program: str, count: int) -> list[str]:
+        """The command line with a number of workers or runners."""
+        return [program, self.command, f"--{self.helper}s", str(count)]
 
     def name(self, count: int) -> str:
-        return f"{count} {self.who}{'s' if count > 1 else ''}"
+        """The number of workers or runners in words, such as `4 workers`."""
+        return f"{count} {self.helper}{'s' if count > 1 else ''}"
 
-    def a_move(self, times: Sequence[measuring.Time], runs: int = 1) -> measuring.Time:
+    def time_per_move(self, times: Sequence[measuring.Time], runs: int = 1) -> measuring.Time:
         """The nanoseconds per car and step in the best turn, with `runs` runs at once."""
-        return a_move(measuring.best(times), (0, 0), self.cars * self.steps * runs)
+        return time_per_move(measuring.best(times), (0, 0), self.cars * self.steps * runs)
 
 
 def a_sweep(points: int, cells: int, steps: int) -> Shared:
@@ -51,9 +55,9 @@ def a_sweep(points: int, cells: int, steps: int) -> Shared:
 
 def a_run(rule: str, lanes: int, cells: int, steps: int) -> Shared:
     """A run with three cars per ten cells; `cells` is the total of all lanes."""
-    each, cars = cells // lanes, cells // lanes * 3 // 10
-    pictures = [measuring.spread(each, cars, seed) for seed in range(1, lanes + 1)]
-    return Shared(f"`{rule}`", "run", "worker", lanes, each, lanes * cars, steps, measuring.job(pictures, rule, steps))
+    length, cars = cells // lanes, cells // lanes * 3 // 10
+    road = [measuring.spread(length, cars, seed) for seed in range(1, lanes + 1)]
+    return Shared(f"`{rule}`", "run", "worker", lanes, length, lanes * cars, steps, measuring.job(road, rule, steps))
 
 
 def fitting_run(program: str, rule: str, lanes: int, cells: int, folder: str) -> Shared:
@@ -75,15 +79,15 @@ def compare_without_threads(shared: Shared, program: str, path: str, folder: str
     outputs = [os.path.join(folder, name) for name in ("threads", "none")]
     for output, limit in zip(outputs, (None, without_threads)):
         with open(path, "rb") as text, open(output, "wb") as out:
-            subprocess.run(shared.by(program, 16), stdin=text, stdout=out, check=True, preexec_fn=limit)
+            subprocess.run(shared.words(program, 16), stdin=text, stdout=out, check=True, preexec_fn=limit)
     if not filecmp.cmp(outputs[0], outputs[1], shallow=False):
-        raise SystemExit(f"{shared.what}: a different output without threads")
+        raise SystemExit(f"{shared.title}: a different output without threads")
 
 
 def compared(shared: Shared, program: str, plain: list[str], counts: Sequence[int], folder: str) -> str:
     """The path of the input, after the outputs with all counts have been compared with the output of plain."""
     path = measuring.write(os.path.join(folder, "shared"), shared.text)
-    measuring.compare([plain] + [shared.by(program, count) for count in counts], path, folder)
+    measuring.compare([plain] + [shared.words(program, count) for count in counts], path, folder)
     compare_without_threads(shared, program, path, folder)
     return path
 
@@ -94,58 +98,55 @@ def rows_of(
     """The rows for these counts of workers or runners. The first count is 1, and 4 should be at least `bound` times as fast."""
     plain = [programs.plain] + ["sweep"] * (shared.command == "sweep")
     path = compared(shared, programs.trlab, plain, counts, folder)
-    runs = {shared.name(count): (shared.by(programs.trlab, count), path) for count in counts}
+    runs = {shared.name(count): (shared.words(programs.trlab, count), path) for count in counts}
     runs["plain"] = plain, path
     if shared.command == "run":
         runs["four runs at once"] = ["sh", "-c", AT_ONCE, programs.trlab, path, os.devnull], path
     times_by_name = measuring.turns(runs, times)
-    plain_time = shared.a_move(times_by_name.pop("plain"))
+    plain_time = shared.time_per_move(times_by_name.pop("plain"))
     for name, times_of_run in times_by_name.items():
         yield row_of(shared, name, times_of_run, times_by_name[shared.name(1)], plain_time, bound)
 
 
 def row_of(
-    shared: Shared, name: str, times: list[measuring.Time], alone: list[measuring.Time], plain_time: measuring.Time,
+    shared: Shared, name: str, times: list[measuring.Time], times_of_one: list[measuring.Time], plain_time: measuring.Time,
     bound: Optional[float],
 ) -> Row:
     """The row with this name. Its speed-up over one worker or runner is wall-clock time, the median of the turns."""
     runs = 4 if name == "four runs at once" else 1
-    row = Row(f"{shared.what}, {name}", shared.lanes, shared.cells, shared.cars, {"trlab": shared.a_move(times, runs)})
-    if times is alone:
+    row = Row(f"{shared.title}, {name}", shared.lanes, shared.cells, shared.cars, {"trlab": shared.time_per_move(times, runs)})
+    if times is times_of_one:
         return row._replace(times={**row.times, "plain": plain_time})
-    faster = statistics.median(runs * one.clock / each.clock for one, each in zip(alone, times))
+    faster = statistics.median(runs * one.clock / time.clock for one, time in zip(times_of_one, times))
     row = row._replace(beside=f"{faster:.2f} times as fast as one")
     if bound is None or name != shared.name(4):
         return row
-    return row._replace(wanted=(wish(f"at least {bound} times", faster >= bound),))
+    return row._replace(wanted=(wanted_text(f"at least {bound} times", faster >= bound),))
 
 
 def sweep_over_run(programs: Programs, cells: int, cars: int, bound: float, times: int, folder: str) -> Row:
     """The row of a sweep of one road, whose CPU time is compared with that of a run of the road."""
-    steps, runs = MOVES // cars, {}
-    for count in (steps, 0):
-        path = measuring.write(os.path.join(folder, f"run {count}"), measuring.job(measuring.even(cells, cars), BRAKING, count))
-        runs[f"run {count}"] = [programs.trlab, "run"], path
-        measuring.compare([[programs.plain], [programs.trlab, "run"]], path, folder)
-    for count in (steps + 1, 1):
-        path = measuring.write(os.path.join(folder, f"sweep {count}"), measuring.sweep(BRAKING, cells, [cars], count))
-        runs[f"sweep {count}"] = [programs.trlab, "sweep"], path
-        measuring.compare([[programs.plain, "sweep"], [programs.trlab, "sweep"]], path, folder)
+    steps, runs, road = MOVES // cars, {}, measuring.even(cells, cars)
+    texts = {("run", count): measuring.job(road, BRAKING, count) for count in (steps, 0)}
+    texts.update({("sweep", count): measuring.sweep(BRAKING, cells, [cars], count) for count in (steps + 1, 1)})
+    for (command, count), text in texts.items():
+        path = measuring.write(os.path.join(folder, f"{command} {count}"), text)
+        runs[command, count] = [programs.trlab, command], path
+        plain = [programs.plain] + ["sweep"] * (command == "sweep")
+        measuring.compare([plain, [programs.trlab, command]], path, folder)
     run_time, run_start, sweep_time, sweep_start = measuring.best_of(runs, times).values()
-    one, other = a_move(sweep_time, sweep_start, cars * steps), a_move(run_time, run_start, cars * steps)
-    row = Row(f"sweep of one point, `{BRAKING}`", 1, cells, cars, {"trlab": one})
-    ratio = one.cpu / other.cpu
-    wanted = (wish(f"a run at most {bound}", ratio <= bound),)
-    return row._replace(beside=f"a run {other.cpu:.1f} ({ratio:.2f})", wanted=wanted)
+    of_sweep, of_run = time_per_move(sweep_time, sweep_start, cars * steps), time_per_move(run_time, run_start, cars * steps)
+    ratio = of_sweep.cpu / of_run.cpu
+    beside, wanted = f"a run {of_run.cpu:.1f} ({ratio:.2f})", (wanted_text(f"a run at most {bound}", ratio <= bound),)
+    return Row(f"sweep of one point, `{BRAKING}`", 1, cells, cars, {"trlab": of_sweep}, beside, wanted)
 
 
 def rows(programs: Programs, is_quick: bool, folder: str) -> Iterator[Row]:
     """All rows of work that is shared; a quick measurement takes only those with a wanted value."""
     times, counts = (3, [1, 4]) if is_quick else (7, [1, 2, 4])
-    for cells, cars, over in (100, 30, 1.1), (1000, 300, 1.03):
-        yield sweep_over_run(programs, cells, cars, over, times, folder)
-    sweeps: list[tuple[int, int, int, Optional[float]]] = [(16, 200, 10000, 3), (7, 1000, 10000, 3), (16, 10000, 200, None)]
-    for points, cells, steps, bound in sweeps:
+    for cells, cars, bound_of_run in (100, 30, 1.1), (1000, 300, 1.03):
+        yield sweep_over_run(programs, cells, cars, bound_of_run, times, folder)
+    for points, cells, steps, bound in SWEEPS:
         if bound or not is_quick:
             yield from rows_of(programs, a_sweep(points, cells, steps), counts, bound, times, folder)
     for rule, lanes in (BRAKING, 1), (CHANGING, 2):

@@ -6,11 +6,12 @@ from collections.abc import Callable, Iterator, Sequence
 
 from ..processes import Process
 from . import measuring
-from .rows import Programs, Row, wish
+from .rows import Programs, Row, wanted_text
 
 SECONDS = 1.0
 COUNTS = 1, 4
 CELLS, CARS = 100_000, 30_000
+# The names of the lines of /proc/PID/status with the numbers of context switches.
 SWITCHES = "voluntary_ctxt_switches:", "nonvoluntary_ctxt_switches:"
 
 
@@ -24,7 +25,7 @@ def switches_of(pid: int) -> dict[str, int]:
     return switches
 
 
-def settled(program: Process, seconds: float) -> tuple[int, int]:
+def switches_in(program: Process, seconds: float) -> tuple[int, int]:
     """Waits a little, then returns the number of context switches of a process in `seconds` seconds, and of its threads."""
     time.sleep(0.3)
     before = switches_of(program.pid)
@@ -37,7 +38,7 @@ def without_input(command: Sequence[str]) -> Process:
     """A process that waits for the last line of its input."""
     program = subprocess.Popen(command, stdin=subprocess.PIPE, stdout=subprocess.DEVNULL)
     assert program.stdin is not None
-    text = measuring.job([measuring.spread(CELLS, CARS)], "nasch 536870912", 1)
+    text = measuring.job([measuring.spread(CELLS, CARS)], measuring.BRAKING, 1)
     program.stdin.write(text[:-2])
     program.stdin.flush()
     return program
@@ -47,26 +48,26 @@ def without_reader(command: Sequence[str]) -> Process:
     """A process whose output nobody reads."""
     program = subprocess.Popen(command, stdin=subprocess.PIPE, stdout=subprocess.PIPE)
     assert program.stdin is not None
-    program.stdin.write(measuring.job([measuring.spread(CELLS, CARS)], "nasch 536870912", 100))
+    program.stdin.write(measuring.job([measuring.spread(CELLS, CARS)], measuring.BRAKING, 100))
     program.stdin.close()
     return program
 
 
-def row_of(programs: Programs, what: str, start: Callable[[Sequence[str]], Process], count: int) -> Row:
+def row_of(programs: Programs, awaited: str, start: Callable[[Sequence[str]], Process], count: int) -> Row:
     """The row of a process with `count` workers that waits for a second."""
     program = start([programs.trlab, "run", "--workers", str(count)])
     try:
-        switches, threads = settled(program, SECONDS)
+        switches, threads = switches_in(program, SECONDS)
     finally:
         program.kill()
         program.wait()
-    row = Row(f"waiting for {what}, {count} worker{'s' if count > 1 else ''}", "", "", "", {})
+    title = f"waiting for {awaited}, {count} worker{'s' if count > 1 else ''}"
     beside = f"{switches} context switches in {SECONDS:.0f} s, {threads} thread{'s' if threads > 1 else ''}"
-    return row._replace(beside=beside, wanted=(wish("no context switches", switches == 0),))
+    return Row(title, "", "", "", {}, beside, (wanted_text("no context switches", switches == 0),))
 
 
 def rows(programs: Programs, is_quick: bool, folder: str) -> Iterator[Row]:
     """All rows of a program that waits."""
-    for what, start in ("its input", without_input), ("its reader", without_reader):
+    for awaited, start in ("its input", without_input), ("its reader", without_reader):
         for count in COUNTS:
-            yield row_of(programs, what, start, count)
+            yield row_of(programs, awaited, start, count)

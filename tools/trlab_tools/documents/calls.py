@@ -12,11 +12,14 @@ from ..command import Verdicts
 from ..proofs.functions import functions_in
 
 PAGE = "docs/dev/CALLS.md"
+# The indent of a row, its function, its crate if that is not the caller's, and a remark.
 ROW = re.compile(r"( *)([\w:]+)(?: {2,}(trlab_\w+))?(?: {2,}\S.*)?")
 BLOCK = re.compile(r"```text\n(.*?)```", re.S)
 
 
 class Row(NamedTuple):
+    """A row: how many callers are above it, the function and its crate."""
+
     depth: int
     name: str
     crate: str
@@ -60,6 +63,7 @@ def rows(block: str) -> Iterator[tuple[Row, Optional[Row]]]:
 
 
 def verdicts() -> Verdicts:
+    """Whether each function of the page exists, and its caller calls it."""
     with open(os.path.join(TOP, PAGE), encoding="utf-8") as file:
         blocks = BLOCK.findall(file.read())
     every = bodies()

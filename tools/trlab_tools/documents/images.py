@@ -5,6 +5,7 @@ from typing import Optional, Union
 
 from ..finding import match_in
 
+# An image with its width in pixels.
 SHOWN = re.compile(r'<img src="([^"]+)" width="(\d+)" alt="[^"]+">')
 
 

@@ -9,14 +9,18 @@ from . import standing
 # For pages with many blocks, which do not count.
 MAX_WORDS_OUTSIDE_BLOCKS = {"README.md": 1250, "docs/TUTORIAL.md": 960, "docs/CHEATSHEET.md": 610, "docs/FAQ.md": 1000}
 INDEX = "docs/README.md"
+# A number with decimals.
 NUMBER = re.compile(r"\d+\.\d+")
+# A row of the table of published figures in README.md: the page of a study, and the cells with its numbers.
 REPRODUCED = re.compile(r"^\| \[[^]]*\]\((studies/[^)]*)\): [^|]*\| (.*) \|$", re.M)
 # The row of the table of speeds that README.md cites.
 CITED_ROW = re.compile(r"^\| `nasch 536870912` \| 1 \| 100000 \| 30000 \| .*$", re.M)
 MODELS, PUBLISHED_RULES = "docs/MODELS.md", "examples/published_rules.py"
 # A row of a table in docs/MODELS.md that cites a study.
 MEASURED = re.compile(r"^\|.*\]\(\.\./(studies/\w+/README\.md)(?:#[\w-]+)?\).*\|$", re.M)
+# A number with decimals, or a percentage.
 RESULT = re.compile(r"\d+\.\d+|\d+(?= %)")
+# The name of a function that is a rule.
 RULE_FUNCTION = re.compile(r"^@trlab\.(?:motion|change)\ndef (\w+)", re.M)
 # The solutions of docs/COURSE.md, and numbers in them.
 COURSE, NOTEBOOK = "docs/COURSE.md", "examples/course.ipynb"
@@ -24,6 +28,7 @@ SOLUTIONS = re.compile(r"^## Solutions$(.*?)^## ", re.M | re.S)
 # Fractions are settings; the numbers of headings and links are not results either.
 SOLUTION = re.compile(r"(?<![\w/.])\d+(?:\.\d+)?(?![\w/])")
 NO_RESULTS = re.compile(r"^#.*$|`[^`]*`|\]\([^)]*\)|\b\d+/\d+\b", re.M)
+# Words in italics.
 ITALIC = re.compile(r"(?<![*\w])\*([^*]+)\*(?!\*)")
 LAB = "python/trlab/lab"
 # Names in the page of trlab-lab end like this, in its HTML and in its scripts.
@@ -96,12 +101,13 @@ def solutions_are_measured() -> Verdicts:
 def controls_are_on_the_page() -> Verdicts:
     """Each name in italics in the course is a name on the page of trlab-lab."""
     sources = (standing.content(f"{LAB}/{name}") for name in ("page.html", "page.js", "phenomena.js", "player.js"))
-    there = {name.strip() for source in sources for name in NAME_ON_PAGE.findall(source)}
+    names_on_page = {name.strip() for source in sources for name in NAME_ON_PAGE.findall(source)}
     for name in sorted({" ".join(name.split()) for name in ITALIC.findall(standing.content(COURSE))} - {"italics"}):
-        yield name in there, f"{COURSE} names the control {name!r}, which is not on the page of trlab-lab"
+        yield name in names_on_page, f"{COURSE} names the control {name!r}, which is not on the page of trlab-lab"
 
 
 def verdicts() -> Verdicts:
+    """The verdicts of all tests of this module."""
     for test in (
         words_are_few,
         index_has_all_pages,

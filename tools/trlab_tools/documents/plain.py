@@ -11,8 +11,10 @@ from .. import TOP
 from ..command import Verdicts
 from .standing import MAX_WORDS
 
+# Words that often replace a noun or a condition.
 STAND_INS = re.compile(r"\b(?:what|whoever|alone|told|stands?|where)\b", re.I)
 MAX_STAND_INS = 5  # per 1000 words
+# A comment and a string in a source of a crate, and a message of a shell script.
 COMMENT = re.compile(r"//[^\n]*")
 LITERAL = re.compile(r'"((?:[^"\\]|\\.)*)"', re.S)
 MESSAGE = re.compile(r'\b(?:say|fail|echo) "([^"]*)"')
@@ -28,7 +30,8 @@ CONNECTED = {
     "pages for maintainers": "ARCHITECTURE BOOK CALLS DECISIONS EMBEDDING EXTENDING GLOSSARY GUARANTEES README".split(),
 }
 CONNECTING = {"can": 2.2, "when": 2.0, "will": 1.4, "should": 1.3, "but": 0.8}
-MEAN_SENTENCE = 14, 20
+MEAN_SENTENCE = 14, 20  # words
+# Parts of a page that are not sentences; where a paragraph or an item begins; and where a sentence does.
 NO_SENTENCES = re.compile(r"^```.*?^```$|<!-- .*? -->.*?<!-- end -->|^ *(?:\||!\[|<img|#).*?$|\]\([^)]*\)", re.M | re.S)
 PARAGRAPH = re.compile(r"\n\s*\n|\n(?= *(?:- |\d+\. ))")
 SENTENCE = re.compile(r"(?<=[.!?:])\s+(?=[A-Z`*\"\[])")
@@ -43,6 +46,7 @@ def files_below(folder: str, ending: str) -> Iterator[str]:
 
 
 def content(path: str) -> str:
+    """The text of a file."""
     with open(os.path.join(TOP, path), encoding="utf-8") as file:
         return file.read()
 
@@ -79,8 +83,9 @@ def sentences(text: str) -> Iterator[list[str]]:
 
 def path_of(kind: str, name: str) -> str:
     """The path of a page of this kind."""
-    folder = "docs/dev/" if kind == "pages for maintainers" else "" if name == "README" else "docs/"
-    return f"{folder}{name}.md"
+    if kind == "pages for maintainers":
+        return f"docs/dev/{name}.md"
+    return "README.md" if name == "README" else f"docs/{name}.md"
 
 
 def pages_are_connected() -> Verdicts:

@@ -53,15 +53,18 @@ has an example for each task.
 
 {overview}
 """
+# The index of the guide with the comments around it, and a name in code, such as `trlab.Job` or `Job.run()`.
 INDEX = re.compile(r"<!-- tools/reference -->\n.*?<!-- end -->", re.S)
 CODE = re.compile(r"`(?:trlab\.)?([\w.]+)(?:\(\))?`")
 
+# A definition with its docstring, a function or method, and a function that gives the address of a name.
 Definition = tuple[ast.AST, str]
 Function = ast.FunctionDef
 Link = Callable[[str], str]
 
 
 def tree(path: Path) -> ast.Module:
+    """The syntax tree of a file."""
     return ast.parse(path.read_text("utf-8"))
 
 
@@ -195,14 +198,17 @@ def is_record(node: ast.ClassDef) -> bool:
 
 
 def methods(node: ast.ClassDef) -> list[Function]:
+    """The methods of a class."""
     return [part for part in node.body if isinstance(part, Function)]
 
 
 def result_of(function: Function) -> str:
+    """The type that a function returns, as its signature has it."""
     return f" -> {ast.unparse(function.returns)}" if function.returns else ""
 
 
 def block(lines: str) -> str:
+    """Lines of Python as a block of Markdown."""
     return f"```python\n{lines}\n```"
 
 
@@ -216,6 +222,7 @@ def is_python(text: str) -> bool:
 
 
 def filled(text: str, indented: int = 0) -> str:
+    """A text in lines of the width of the page."""
     return textwrap.fill(text, WIDTH, subsequent_indent=indented * " ", break_on_hyphens=False, break_long_words=False)
 
 
@@ -252,6 +259,7 @@ def value_of(node: ast.expr) -> str:
 
 
 def anchor(name: str) -> str:
+    """The anchor of a name on the page."""
     return f"trlab.{name}"
 
 
@@ -260,6 +268,7 @@ def linked(text: str, name: str, own: Iterable[str], exported: set[str]) -> str:
     prefix = "exact." if name.startswith("exact.") else ""
 
     def link(match: re.Match[str]) -> str:
+        """A name in code as a link, if it is exported."""
         for candidate in prefix + match[1], match[1]:
             if candidate in exported and candidate != name and match[1] not in own:
                 return f"[{match[0]}](#{anchor(candidate)})"
@@ -292,6 +301,7 @@ def own_names(package: Package, node: ast.AST) -> set[str]:
 
 
 def section(package: Package, name: str, described: set[Function]) -> str:
+    """The section of a name on the page."""
     node, docstring = package.known[name]
     if isinstance(node, ast.ClassDef):
         fields = package.fields(node)
@@ -327,6 +337,7 @@ def in_repository(name: str) -> str:
 
 
 def on_site(name: str) -> str:
+    """The address of a name on the page of the site."""
     return f"{PAGE.rpartition('/')[2]}#{anchor(name)}"
 
 
@@ -381,6 +392,7 @@ def guide_has_names(guide: str) -> Verdicts:
 
 
 def verdicts() -> Verdicts:
+    """The verdicts of all tests of this module."""
     guide = content(GUIDE)
     yield with_index(guide) == guide, f"the index of {GUIDE} is out of date: tools/reference --write"
     yield bool(INDEX.search(guide)), f"{GUIDE} has no place for the index"

@@ -7,6 +7,7 @@ import tokenize
 from collections.abc import Iterator
 
 Remarks = Iterator[tuple[int, str]]
+# Comments that begin with `#`, and those that begin with `//` or are between `/*` and `*/`.
 HASH = re.compile(r"^\s*#(?!!) ?(.*)$", re.M)
 SLASHES = re.compile(r"^\s*(?://[/!]?|/\*+|\*(?= |$)) ?(.*)$", re.M)
 COMMENTS = {
@@ -16,7 +17,9 @@ COMMENTS = {
     **dict.fromkeys((".awk", ".sh", ".toml"), HASH),
     **dict.fromkeys((".c", ".js", ".mjs", ".rs", ".rt", ".ts"), SLASHES),
 }
+# The names of wrong bodies and tests, which are prose too.
 NAMES = {".edit": re.compile(r"^# (\w+)$", re.M), ".rt": re.compile(r"#\[test\]\s*(?:pub )?fn (\w+)")}
+# A string between quotation marks or backticks.
 LITERAL = re.compile(r"""(["`])((?:(?!\1)[^\\\n]|\\.)*)\1""")
 HAS_MESSAGES = {".js", ".mjs", ".sh"}
 # A string is a message if it has four words in a row.
@@ -47,6 +50,7 @@ def patterns_in(tree: ast.AST) -> Iterator[ast.expr]:
 
 
 def of_python(text: str) -> Remarks:
+    """The docstrings, messages, comments and names of tests in a Python file."""
     tree = ast.parse(text)
     documents = {node.value for node in ast.walk(tree) if isinstance(node, ast.Expr)}
     patterns = set(patterns_in(tree))

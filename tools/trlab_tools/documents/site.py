@@ -60,6 +60,7 @@ def all_pages() -> list[str]:
 
 
 def write(path: str, text: str) -> None:
+    """Write a file, and its folder if it is not there."""
     os.makedirs(os.path.dirname(path), exist_ok=True)
     with open(path, "w", encoding="utf-8") as file:
         file.write(text)
@@ -75,11 +76,13 @@ def render(folder: str, to: str, more: str = "", *, top: object = TOP) -> tuple[
 
 
 def render_plain(folder: str, to: str) -> tuple[bool, str]:
+    """Render the pages with only their own text."""
     write(os.path.join(folder, "plain", "main.html"), PLAIN_PAGE)
     return render(folder, to, PLAIN)
 
 
 def pages_below(folder: str) -> list[str]:
+    """The HTML files in a folder, and in the folders below it."""
     return [os.path.join(path, name) for path, _, names in os.walk(folder) for name in sorted(names) if name.endswith(".html")]
 
 

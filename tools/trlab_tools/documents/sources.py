@@ -15,7 +15,9 @@ from .standing import known_files
 
 # The places of prose, and its words.
 Prose = list[tuple[str, str]]
+# Code in prose, which does not count.
 CODE = re.compile(r"`[^`]*`")
+# An example in the documentation of a source, the mark of such a line, and any comment.
 EXAMPLE = re.compile(r"^ *//[/!] ```(?:text)?\n(.*?)^ *//[/!] ```$", re.M | re.S)
 DOC_MARK = re.compile(r"^ *//[/!]", re.M)
 REMARK = re.compile(r"//.*$", re.M)
@@ -27,6 +29,7 @@ DIALECT = re.compile(
 )
 # In the crates this is called a failed allocation.
 OUT_OF_MEMORY = re.compile(r"\bmemory (?:ran|runs) out\b", re.I)
+# The names of types in sources, and those of definitions.
 TYPE = re.compile(r"^\s*(?:pub(?:\([a-z]+\))? )?(?:struct|enum|trait) (\w+)", re.M)
 DEFINITION = re.compile(r"^(?:(?:abbrev|unfoldable|opaque) )*pub (?:record |data )?(\w+)(?= |$)", re.M)
 NO_DEFINITION = {"mod", "use", "record", "data"}
@@ -37,6 +40,7 @@ TWICE = {"Rejection"}
 
 
 def crate_of(path: str) -> str:
+    """The crate of a path."""
     return os.path.relpath(path, os.path.join(TOP, "crates")).split(os.sep)[0]
 
 
@@ -70,6 +74,7 @@ def places(pattern: re.Pattern[str], prose: Prose) -> str:
 
 
 def prose_is_plain() -> Verdicts:
+    """The prose of each area has few words of STAND_INS, and none of DIALECT."""
     for area, prose in sorted(prose_by_area().items()):
         text = "\n".join(words for _, words in prose)
         share = 1000 * len(STAND_INS.findall(text)) / max(1, len(text.split()))
@@ -81,6 +86,7 @@ def prose_is_plain() -> Verdicts:
 
 
 def names_are_of_one_thing() -> Verdicts:
+    """No two types, and no two definitions, have the same name."""
     for kind, folder, ending, pattern in (("type", "src", ".rt", TYPE), ("definition", "specs", ".antt", DEFINITION)):
         paths_by_name: dict[str, set[str]] = collections.defaultdict(set)
         for path in sources(folder, ending):
@@ -97,15 +103,18 @@ def without_layout(code: str) -> str:
 
 
 def has_in_order(code: str, lines: Iterable[str]) -> bool:
-    at = 0
+    """Whether code has these lines in their order."""
+    end = 0
     for line in lines:
-        at = code.find(line, at) + len(line)
-        if at < len(line):
+        begin = code.find(line, end)
+        if begin < 0:
             return False
+        end = begin + len(line)
     return True
 
 
 def examples_are_compiled() -> Verdicts:
+    """Each library crate begins with an example, whose lines are in the code of another crate."""
     files = sources("src", ".rt")
     compiled = [(crate_of(path), without_layout(content(path))) for path in files]
     for path in files:
@@ -119,6 +128,7 @@ def examples_are_compiled() -> Verdicts:
 
 
 def verdicts() -> Verdicts:
+    """The verdicts of all tests of this module."""
     yield from prose_is_plain()
     yield from examples_are_compiled()
     yield from names_are_of_one_thing()

@@ -71,15 +71,18 @@ CITED_ELSEWHERE = re.compile(r"DECISIONS\.md\)?,?\s+((?:\d{1,3}(?:,\s+|\s+and\s+
 DECISION = re.compile(r"^\*\*(\d+)\. (.*?)(?=\n\n|\n*\Z)", re.M | re.S)
 # A viewer of the page would renumber the items of a list.
 DECISION_IN_A_LIST = re.compile(r"^(\d+)\. \*\*", re.M)
+# A layer in crates.txt: its name, and the lines of its crates.
 LAYER = re.compile(r"^# (.*)\n((?:trlab_\w+:.*\n)+)", re.M)
+# A crate in a document, possibly with a file of it; a source or a definition; and any code.
 CRATE = re.compile(r"`(trlab_\w+)(/[\w./]+)?`")
 FILE = re.compile(r"`((?:\w+/)*\w+\.(?:rt|antt))`")
 QUOTED = re.compile(r"`([^`]*)`")
-# Only code: not files, texts or commands.
+# A quotation that is only code, and not a file, a text or a command.
 CODE = re.compile(r"[\w:.<>,&()?]+(?: \w+)*")
 NAME = re.compile(r"\b(?:[A-Z][a-z]\w*|[A-Za-z]\w*_\w*)")
 # Names that documents mention, but that no source uses.
 NOT_USED = {"ord_max"}
+# A block of a document.
 FENCED = re.compile(r"^```.*?^```$", re.M | re.S)
 # A function in a document, and the names of clauses right after it.
 CITED_CLAUSES = re.compile(r"`(?:\w+::)?([a-z]\w*)`(?: \(`trlab_\w+`\))?,? \(?clauses? ((?:`\w+`(?:, | and )?)+)")
@@ -87,13 +90,16 @@ CITED_CLAUSES = re.compile(r"`(?:\w+::)?([a-z]\w*)`(?: \(`trlab_\w+`\))?,? \(?cl
 LISTED = r"((?:`\w+`(?:, | and )?)+)"
 CITED_FIELDS = re.compile(rf"((?:`[A-Z]\w*`(?: and )?)+)(?: \(`trlab_\w+`\))?[,:] fields? {LISTED}")
 FIELDS_OF = re.compile(rf"\bfields? {LISTED} of (`[A-Z]\w*`)")
+# A record with its fields in a file of definitions, and a function with its contract in a source.
 RECORD = re.compile(r"^pub record (\w+)(.*?)(?=^\S|\Z)", re.M | re.S)
 CONTRACT = re.compile(r"\bfn (\w+)(.*?)(?=\n *\{\n|\bfn |\Z)", re.S)
+# A block of a document that shows a file of crates/.
 SHOWN = re.compile(r"^`(crates/[^`]+)`:\n\n```\w*\n(.*?)^```$", re.M | re.S)
 
 
 @functools.cache
 def content(name: str) -> str:
+    """The text of a file of the repository."""
     with open(os.path.join(TOP, name), encoding="utf-8") as file:
         return file.read()
 
@@ -111,6 +117,7 @@ def known_files() -> list[str]:
 
 
 def documents() -> list[str]:
+    """The Markdown files of the repository."""
     return [name for name in known_files() if name.endswith(".md")]
 
 
@@ -143,14 +150,14 @@ def citations(name: str) -> Iterator[int]:
 
 def citations_exist() -> Verdicts:
     """Each decision that a document, a source or a script cites exists."""
-    there = dict(decisions())
+    known_numbers = dict(decisions())
     for name in known_files():
         try:
             cited = set(citations(name))
         except UnicodeDecodeError:
             continue
         for number in sorted(cited):
-            yield number in there, f"{name} cites decision {number}, which does not exist"
+            yield number in known_numbers, f"{name} cites decision {number}, which does not exist"
 
 
 def versions_agree() -> Verdicts:
@@ -289,9 +296,9 @@ def fields_are_there() -> Verdicts:
             text = re.sub(r"\s+", " ", content(document))
             cited = CITED_FIELDS.findall(text) + [(record, listed) for listed, record in FIELDS_OF.findall(text)]
             for records, listed in cited:
-                there = set().union(*(fields().get(record, ()) for record in QUOTED.findall(records)))
+                known_fields = set().union(*(fields().get(record, ()) for record in QUOTED.findall(records)))
                 for field in QUOTED.findall(listed):
-                    yield field in there, f"{document} names the field `{field}` of {records}, which does not exist"
+                    yield field in known_fields, f"{document} names the field `{field}` of {records}, which does not exist"
 
 
 def pages_are_short() -> Verdicts:
@@ -312,22 +319,26 @@ def prose(name: str) -> Iterator[tuple[int, str]]:
 
 
 def is_wide(line: str) -> bool:
+    """Whether a line is too long, or indented too far."""
     return len(line) > MAX_CHARACTERS or len(line) - len(line.lstrip()) > MAX_INDENTED
 
 
 def lines_are_short() -> Verdicts:
+    """No line of text is wide."""
     for name in documents():
         long = [number for number, line in prose(name) if is_wide(line)]
         yield not long, f"{name}, lines {long}: over {MAX_CHARACTERS} characters, or indented by over {MAX_INDENTED}"
 
 
 def english_is_of_today() -> Verdicts:
+    """No line of text has a word of OLD_FORMS."""
     for name in documents():
         old = {number: match[0] for number, line in prose(name) if (match := OLD_FORMS.search(line))}
         yield not old, f"{name} has old English, by lines: {old}"
 
 
 def verdicts() -> Verdicts:
+    """The verdicts of all tests of this module."""
     for test in (
         decisions_are_short,
         citations_exist,

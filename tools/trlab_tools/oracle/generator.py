@@ -7,7 +7,7 @@ from collections.abc import Callable, Iterator, Sequence
 from typing import TypeVar
 
 from ..worked import examples
-from .programs import FORMS, INPUTS, KINDS, Instruction, encode
+from .programs import FORMS, KINDS, Instruction, encode, operand_text
 from .reader import Job, Sweep
 
 Dice = random.Random
@@ -16,9 +16,13 @@ Read = TypeVar("Read")
 
 MAX_CELLS = 60000  # of all snapshots of a run, or of all steps of a sweep
 WIDE = 400  # one in 400 jobs has a road that several workers share
+# Pieces that are likely to be wrong at a place: numbers, bytes, words and lines.
 NUMBERS = (0, 1, 2, 3, 5, 7, 9, 35, 36, 100, 99999, 2147483648, 2147483649, 4294967295, 4294967296)
+# Bytes at the bounds of the fields of an instruction.
+LIKELY_BYTES = (0, 1, 2, 6, 7, 8, 15, 22, 23, 255)
 CHANCES = (0, 1, 214748365, 536870912, 1073741824, 2147483648)
 DAMAGED = (b"\n", b"\r", b" ", b"\0", b".", b"9", b"\xff", b"\t", b",", b";", b":", b"@", b"a", b"0", b"-", b"end\n")
+ODD_WORDS = (b"", b"r7", b"r8", b"x", b"@3", b"01", b"-1")
 ODD_LINES = (b"", b"end", b"motion", b"change", b"lane ..", b"rule nasch 0", b"steps 1", b"at 0 rule nasch 0",
              b"cars 1", b"code 54524c42", b"rule own", b"road 1", b"sweep 1", b" ", b"; end")
 
@@ -65,25 +69,22 @@ def random_program(dice: Dice, kind: str) -> list[Instruction]:
 
 def careful_program(dice: Dice) -> list[Instruction]:
     """A motion program that is usually accepted, because the speed is at most the gap and the limit at the end."""
-    body = [line for line in random_program(dice, "motion")[:-1] if not line[0].startswith("j") and line[0] not in FORMS_OF_CHANGE]
+    body = [line for line in random_program(dice, "motion")[:-1] if not line[0].startswith("j") and line[0] not in RISKY]
     front = [("get", (register, register % 3)) for register in range(4)]
-    return front + body[:100] + [
-        ("num", (7, dice.choice((0, 1, 3)))), ("get", (5, 1)), ("get", (6, 2)), ("min", (7, 7, 5)),
-        ("min", (7, 7, 6)), ("go", (7,)),
-    ]
+    speed = ("num", (7, dice.choice((0, 1, 3))))
+    bounds = [("get", (5, 1)), ("get", (6, 2)), ("min", (7, 7, 5)), ("min", (7, 7, 6))]
+    return [*front, *body[:100], speed, *bounds, ("go", (7,))]
 
 
-FORMS_OF_CHANGE = ("side", "cross", "stay", "go", "sub", "add", "mul", "and", "or", "not")
+# Instructions that a motion program must not have, or that need facts about their operands.
+RISKY = ("side", "cross", "stay", "go", "sub", "add", "mul", "and", "or", "not")
 
 
 def operand_word(dice: Dice, form: str, number: int) -> str:
-    if form in "dr":
-        return f"r{number}"
-    if form == "i":
-        return INPUTS[number]
-    if form == "l":
-        return f"@{number}"
-    return dice.choice(("", "", "", "0")) + str(number)
+    """An operand as people write it."""
+    # The canonical text has `@` before a target outside the program, and people may write it before any target.
+    is_number = form not in "dril"
+    return (dice.choice(("", "", "", "0")) if is_number else "") + operand_text(form, number, count=0)
 
 
 def instruction_line(dice: Dice, name: str, operands: Sequence[int]) -> bytes:
@@ -98,22 +99,24 @@ def program_lines(dice: Dice, kind: str) -> list[bytes]:
     """The lines of a program of a kind."""
     choice = dice.random()
     if choice < 0.5:
-        return list(dice.choice([lines for its, lines in PROGRAMS if its == kind] or [[b"stay"]]))
+        return list(dice.choice([lines for kind_of_lines, lines in PROGRAMS if kind_of_lines == kind] or [[b"stay"]]))
     program = careful_program(dice) if kind == "motion" and choice < 0.8 else random_program(dice, kind)
     return [instruction_line(dice, name, operands) for name, operands in program]
 
 
 def code_line(dice: Dice, kind: str) -> bytes:
+    """A line of code with a program, sometimes with a wrong byte."""
     program = careful_program(dice) if kind == "motion" and dice.random() < 0.6 else random_program(dice, kind)
     code = encode(kind, program)
     if dice.random() < 0.25:
-        place = dice.randrange(min(len(code), 40))
-        code = code[:place] + bytes([dice.choice((0, 1, 2, 6, 7, 8, 15, 22, 23, 255))]) + code[place + dice.randrange(3):]
+        place, wrong = dice.randrange(min(len(code), 40)), bytes([dice.choice(LIKELY_BYTES)])
+        code = code[:place] + wrong + code[place + dice.randrange(3):]
     digits = code.hex()
     return b"code " + (digits if dice.random() < 0.5 else digits.upper()).encode()
 
 
 def part(dice: Dice, kind: str) -> list[bytes]:
+    """A program of a job, in lines or as a line of code."""
     if dice.random() < 0.4:
         return [code_line(dice, kind)]
     return [kind.encode(), *program_lines(dice, kind), b"end"]
@@ -132,15 +135,18 @@ def rule_lines(dice: Dice, lanes: int) -> list[bytes]:
 
 
 def key_line(dice: Dice) -> bytes:
+    """A line `key`."""
     return b"key " + ("%064x" % dice.getrandbits(256) if dice.random() < 0.5 else 64 * "0").encode()
 
 
 def lane_line(dice: Dice, length: int, limit: int, density: float) -> bytes:
+    """A line `lane` with random cars."""
     speeds = "0123456789abcdefghijklmnopqrstuvwxyz"[:limit + 1]
     return b"lane " + "".join(dice.choice(speeds) if dice.random() < density else "." for _ in range(length)).encode()
 
 
 def job(dice: Dice) -> list[bytes]:
+    """The lines of a job."""
     is_wide = dice.randrange(WIDE) == 0
     lanes, limit = dice.choice((1, 1, 2)), dice.choice((1, 2, 5, 5, 9, 20, 35))
     length = 20000 if is_wide else dice.choice((1, 2, 3, 5, 10, 20, 40))
@@ -156,6 +162,7 @@ def job(dice: Dice) -> list[bytes]:
 
 
 def sweep(dice: Dice) -> list[bytes]:
+    """The lines of a sweep."""
     lanes, length = dice.choice((1, 1, 2)), dice.choice((1, 2, 5, 10, 40))
     lines = [b"sweep 1", key_line(dice), b"limit %d" % dice.choice((1, 5, 9, 35)), b"length %d" % length]
     lines += [b"lanes %d" % lanes, *rule_lines(dice, lanes)]
@@ -164,6 +171,7 @@ def sweep(dice: Dice) -> list[bytes]:
 
 
 def check(dice: Dice) -> list[bytes]:
+    """The lines of a check."""
     kind = dice.choice(KINDS)
     if dice.random() < 0.4:
         lines = [code_line(dice, kind)]
@@ -192,7 +200,7 @@ def damage_words(dice: Dice, lines: list[bytes]) -> list[bytes]:
     """A word of a line is replaced."""
     place = dice.randrange(len(lines))
     words = lines[place].split(b" ")
-    word = str(dice.choice(NUMBERS)).encode() if dice.random() < 0.7 else dice.choice((b"", b"r7", b"r8", b"x", b"@3", b"01", b"-1"))
+    word = str(dice.choice(NUMBERS)).encode() if dice.random() < 0.7 else dice.choice(ODD_WORDS)
     words[dice.randrange(len(words))] = word
     return lines[:place] + [b" ".join(words)] + lines[place + 1:]
 
@@ -206,6 +214,7 @@ def damage_bytes(dice: Dice, text: bytes) -> bytes:
 
 
 def random_bytes(dice: Dice) -> bytes:
+    """Random bytes, some of which begin like an input."""
     count = dice.choice((0, 1, 10, 100, 1000))
     text = bytes(dice.choice(b"\n\0 .09azr,;:@-\xff") for _ in range(count)) if dice.random() < 0.5 else dice.randbytes(count)
     return dice.choice((b"", b"road 1\n", b"sweep 1\n", b"motion\n", b"code ", b"notes change\n")) + text
@@ -223,12 +232,12 @@ def draw(dice: Dice) -> tuple[str, bytes]:
     return command, damage_bytes(dice, text) if choice > 0.7 else text
 
 
-def is_small(says: object) -> bool:
-    """Whether a job or a sweep takes little work; a fault always does."""
-    if isinstance(says, Job):
-        return (says.steps + 1) * len(says.lanes) * len(says.lanes[0]) <= MAX_CELLS * 2
-    if isinstance(says, Sweep):
-        return len(says.cars) * says.steps * says.cells <= MAX_CELLS
+def is_small(meaning: object) -> bool:
+    """Whether an input takes little work, by its meaning: a job, a sweep, a check or a fault."""
+    if isinstance(meaning, Job):
+        return (meaning.steps + 1) * len(meaning.lanes) * len(meaning.lanes[0]) <= MAX_CELLS * 2
+    if isinstance(meaning, Sweep):
+        return len(meaning.cars) * meaning.steps * meaning.cells <= MAX_CELLS
     return True
 
 

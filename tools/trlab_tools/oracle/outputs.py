@@ -16,6 +16,7 @@ Status = Union[int, str]
 # A test of the status and the output of a command, and what the input is.
 Expectation = tuple[Callable[[Status, bytes], bool], Union[Job, Sweep, Check, Fault]]
 
+# The outputs of `trlab check` for a rejected program, and a note, with the ranges of numbers, flags and the side cell.
 REFUSED_PROGRAM = re.compile(rb"refused at (0|[1-9][0-9]*) reason ([1-9]|1[0-2])\n")
 NOTE = re.compile(rb"note (0|[1-9][0-9]*)(?: r[0-7] (?:[0-9]+ [0-9]+|flag|side))*(?: side)?\n")
 HEADING = b"cars,cells,steps,distance,stopped,changes,flow\n"
@@ -23,6 +24,7 @@ CELLS = b"." + SPEEDS
 
 
 def fault_line(fault: Fault) -> bytes:
+    """The line that the program prints for a fault."""
     return f"fault line {fault.line} cause {fault.cause}\n".encode()
 
 
@@ -37,6 +39,7 @@ def reason_of(kind: str, text: bytes) -> Optional[int]:
 
 
 def verdict(kind: str, program: list[Instruction]) -> Optional[int]:
+    """The reason for which a program is rejected, or None."""
     return reason_of(kind, disassemble(program))
 
 

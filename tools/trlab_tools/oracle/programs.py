@@ -29,6 +29,7 @@ FORMS = {
 }
 NAMES = list(FORMS)
 ENDS = ("go", "cross", "stay")
+# A label has at most 32 characters.
 LABEL = re.compile(rb"[A-Za-z_][A-Za-z0-9_]{0,31}")
 DIGITS = re.compile(rb"[0-9]+")
 BLANKS = b" \t"
@@ -78,6 +79,7 @@ class Fault(Exception):
 
 
 def is_label(word: bytes) -> bool:
+    """Whether a word has the form of a label."""
     return LABEL.fullmatch(word) is not None
 
 
@@ -230,6 +232,7 @@ def targets(instructions: Iterable[Instruction]) -> set[int]:
 
 
 def operand_text(form: str, number: int, count: int) -> str:
+    """An operand in the canonical form."""
     if form in "dr":
         return f"r{number}"
     if form == "i":

@@ -16,11 +16,14 @@ LONGEST_TEXT = 4194304
 MAX_CELLS = 100000
 MAX_STEPS = 500000
 GREATEST_LIMIT = 35
+GREATEST_STEP = 9999999999  # of a line `at`: all numbers of ten digits can be read
 MAX_LATER_RULES = 1023
 MAX_POINTS = 200
+# A number without leading zeros, of at most ten digits.
 NUMBER = re.compile(rb"0|[1-9][0-9]{0,9}")
 HEX = re.compile(rb"[0-9A-Fa-f]*")
 SPEEDS = b"0123456789abcdefghijklmnopqrstuvwxyz"
+# The number of probabilities of each standard rule.
 STANDARD = {b"nasch": 1, b"vdr": 2, b"rickert": 2}
 
 
@@ -68,6 +71,7 @@ class Lines:
         self.lines, self.number, self.verdict = lines_of(text), 1, verdict
 
     def is_end(self) -> bool:
+        """Whether all lines are read."""
         return self.number > len(self.lines)
 
     def head(self) -> Optional[bytes]:
@@ -193,6 +197,7 @@ def finish_rule(lines: Lines, words: list[bytes], lanes: int) -> None:
 
 
 def read_first_rule(lines: Lines, lanes: int) -> None:
+    """Reads the rule of a job or a sweep."""
     words = lines.words()
     read_rule(lines, words)
     finish_rule(lines, words, lanes)
@@ -205,15 +210,15 @@ def read_later_rules(lines: Lines, steps: int, lanes: int) -> None:
         words = lines.words()
         if words[0] != b"at" or len(words) < 3:
             lines.fail(Cause.UNEXPECTED_LINE)
-        at: list[int] = []
-        read_rule(lines, words[2:], lambda: at.append(lines.value(words[1], 0, 9999999999)))
-        count += 1
+        # The step is judged after the words of the rule, and before its numbers.
+        read_rule(lines, words[2:], lambda: lines.value(words[1], 0, GREATEST_STEP))
+        step, count = int(words[1]), count + 1
         if count > MAX_LATER_RULES:
             lines.fail(Cause.TOO_MANY_LINES)
-        if not last < at[0] < steps:
+        if not last < step < steps:
             lines.fail(Cause.ORDER_OF_STEPS)
         finish_rule(lines, words[2:], lanes)
-        last = at[0]
+        last = step
 
 
 def read_lanes(lines: Lines, limit: int) -> list[bytes]:

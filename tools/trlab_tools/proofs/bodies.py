@@ -27,6 +27,7 @@ from ..finding import match_in
 from . import trials
 from .functions import Exports, Function, functions_in
 
+# The line with the name of a wrong body.
 NAME = re.compile(r"(?m)^# (\w+)$")
 # A clause of a law, the words in it that may be constants, and where a constant is declared.
 CLAUSE = re.compile(r"ensures ?(\w*) \{([^}]*)\}")
@@ -86,6 +87,7 @@ class Verdict(NamedTuple):
 
     @property
     def why(self) -> str:
+        """The line about the first function that is not proved, or the message."""
         return next(iter(self.refusing.values()), self.message)
 
     @property
@@ -111,6 +113,7 @@ def bodies_in(path: str) -> list[Body]:
 
 
 def body_of(name: str, text: str) -> Body:
+    """The wrong body of this name, from the lines that describe it."""
     edits = []
     # An empty text is a line that is missing.
     lines = dict.fromkeys(("file", "fn", "old", "in"), "")
@@ -235,6 +238,7 @@ class Crate:
 
     @functools.cached_property
     def exports(self) -> Exports:
+        """The names and the modules that the crate shows."""
         return Exports(self.folder)
 
     @functools.cached_property
@@ -257,6 +261,7 @@ class Crate:
         return {"::".join(path) for path in paths if "fn" not in path} - shared
 
     def text(self, file: str) -> str:
+        """The text of a file of the crate."""
         with open(os.path.join(self.folder, file), encoding="utf-8") as source:
             return source.read()
 
@@ -285,6 +290,7 @@ class Crate:
         return self.changed[body.name]
 
     def find_changed(self, body: Body) -> dict[str, Change]:
+        """The same as `changed_by`, which keeps the result."""
         if body.function:
             return {body.function: Change(body.function, self.is_law_public(body.function), body.function)}
         texts: dict[str, str] = {}
@@ -354,6 +360,7 @@ class Crate:
             self.write_hole(target, function.split("::"))
 
     def write_hole(self, to: str, path: Sequence[str]) -> None:
+        """Writes a hole instead of the proof of the function with this path."""
         folder = os.path.join(to, "proofs", *path)
         os.makedirs(folder, exist_ok=True)
         for name in "Answers", "Invariants":

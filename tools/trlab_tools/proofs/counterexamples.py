@@ -2,7 +2,7 @@
 import itertools
 from collections.abc import Callable, Iterable, Iterator
 from math import comb
-from typing import Optional, Union
+from typing import NamedTuple, Optional, Union
 
 from .. import program
 from ..oracle import traffic
@@ -12,6 +12,7 @@ from .false_statements import False_, Job, Sweep
 Ring = tuple[int, ...]
 Weight = Callable[[int, Ring], int]
 
+# The probabilities 1 and 1/4 in the parts of the program. Expressions of counterexamples use these names.
 C, P = 2 ** 31, 2 ** 29
 # Every state of a cell with its neighbours: behind, own, ahead.
 cells3 = list(itertools.product((0, 1), repeat=3))
@@ -20,10 +21,12 @@ THIRDS = {(1, 0, 0) * 2, (0, 1, 0) * 2, (0, 0, 1) * 2}
 
 
 def key_text(key: int) -> str:
+    """The line `key` of a key."""
     return f"key {key:064d}"
 
 
 def output(words: list[str], lines: list[str]) -> list[str]:
+    """The lines that the program prints for an input."""
     status, text = program.run(words, "\n".join(lines + [""]).encode())
     if status != program.DONE:
         raise SystemExit(f"status {status}: {' / '.join(lines)}")
@@ -94,6 +97,7 @@ class Run(Counts):
         gaps, ahead = self.gaps(start), self.next_car(start)
 
         def bound(car: int, j: int) -> int:
+            """The bound by the j-th car ahead."""
             room = 0
             for _ in range(j):
                 room += gaps[car]
@@ -120,6 +124,7 @@ class Run(Counts):
         return sum(row[x] == row[x - 1] == state for x in range(len(row)))
 
     def cars_on(self, t: int, lane: int) -> int:
+        """The number of cars on a lane."""
         return self.occupied(t, lane).count("#")
 
     def cars_ahead(self, t: int, x: int, k: int) -> int:
@@ -165,6 +170,7 @@ def ring_step(pattern: str, brakes: bool) -> str:
 
 
 def rings(n: int, cars: Optional[int] = None) -> list[Ring]:
+    """All rings of n cells, or those with this number of cars."""
     return [ring for ring in itertools.product((0, 1), repeat=n) if cars in (None, sum(ring))]
 
 
@@ -174,22 +180,32 @@ def free(ring: Ring) -> int:
 
 
 def weight(p: int, ring: Ring) -> int:
+    """The stationary weight of a ring, times a power of C that makes it whole."""
     product: int = p ** (sum(ring) - free(ring)) * C ** free(ring)
     return product
 
 
 def usual(p: int, cars: int, braking: int) -> int:
+    """The weight of a step in which this number of cars brakes, by independent random numbers."""
     product: int = p ** braking * max(C - p, 0) ** (cars - braking)
     return product
 
 
-def steps_of(ring: Ring) -> Iterator[tuple[Ring, int, int]]:
-    """The steps of a ring: the next ring, the number of cars that brake, and how far all go, for each set of braking cars."""
+class RingStep(NamedTuple):
+    """A step of a ring: the next ring, the number of cars that brake, and how far all go."""
+
+    after: Ring
+    brakes: int
+    distance: int
+
+
+def steps_of(ring: Ring) -> Iterator[RingStep]:
+    """The steps of a ring, one for each set of braking cars."""
     places = [x for x, own in enumerate(ring) if own]
     for brakes in itertools.product((0, 1), repeat=len(places)):
-        goes = [not ring[(x + 1) % len(ring)] and not brake for x, brake in zip(places, brakes)]
-        after = {(x + go) % len(ring) for x, go in zip(places, goes)}
-        yield tuple(int(x in after) for x in range(len(ring))), sum(brakes), sum(goes)
+        moves = [not ring[(x + 1) % len(ring)] and not brake for x, brake in zip(places, brakes)]
+        after = {(x + moves_on) % len(ring) for x, moves_on in zip(places, moves)}
+        yield RingStep(tuple(int(x in after) for x in range(len(ring))), sum(brakes), sum(moves))
 
 
 def is_stationary(
@@ -198,8 +214,8 @@ def is_stationary(
     """Whether a step leaves the weights of all rings as they are."""
     sums = dict.fromkeys(rings(n, cars), 0)
     for old in sums:
-        for new, brakes, _ in steps_of(old):
-            sums[new] += weights(p, old) * braking(p, cars, brakes)
+        for step in steps_of(old):
+            sums[step.after] += weights(p, old) * braking(p, cars, step.brakes)
     return all(total == factor * C ** cars * weights(p, new) for new, total in sums.items())
 
 
@@ -210,16 +226,18 @@ def is_proportional(n: int, cars: int, weights: Weight, p: int) -> bool:
 
 def steps_from(p: int, ring: Ring) -> int:
     """The weights of all steps from a ring, added up."""
-    return sum(usual(p, sum(ring), brakes) for _, brakes, _ in steps_of(ring))
+    return sum(usual(p, sum(ring), step.brakes) for step in steps_of(ring))
 
 
 def clustered(cars: int, empty: int, k: int) -> int:
+    """The number of rings with k clusters."""
     return sum(free(ring) == k for ring in rings(cars + empty, cars))
 
 
 def distances(p: int, n: int, cars: int) -> int:
     """The weights of all rings times the mean distances of a step, times C ** cars."""
-    return sum(weight(p, ring) * usual(p, cars, brakes) * goes for ring in rings(n, cars) for _, brakes, goes in steps_of(ring))
+    steps = [(ring, step) for ring in rings(n, cars) for step in steps_of(ring)]
+    return sum(weight(p, ring) * usual(p, cars, step.brakes) * step.distance for ring, step in steps)
 
 
 def names_of(runs: Iterable[Union[Job, Sweep]]) -> dict[str, object]:

@@ -10,6 +10,7 @@ TRAFFIC, CAMPAIGN = "trlab_traffic", "trlab_campaign"
 
 class Job(NamedTuple):
     """A job with `steps` steps, of which those from `warm` on are counted."""
+
     limit: int
     rule: str
     steps: int
@@ -20,6 +21,7 @@ class Job(NamedTuple):
 
 class Sweep(NamedTuple):
     """A sweep on one lane with one point."""
+
     limit: int
     rule: str
     cells: int
@@ -31,6 +33,7 @@ class Sweep(NamedTuple):
 class False_(NamedTuple):
     """A false statement of a law, and its counterexample. `operator` is one that the new text needs and the file does
     not import yet."""
+
     law: str
     file: str
     old: str
@@ -43,6 +46,7 @@ class False_(NamedTuple):
 
 
 def job(limit: int, rule: str, steps: int, *lanes: str, key: int = 0, warm: int = 0) -> Job:
+    """A job on these lanes."""
     return Job(limit, rule, steps, lanes, key, warm)
 
 
@@ -75,6 +79,7 @@ THREE_CELLS = job(1, NASCH, 1, "0..")
 # A car that no longer accelerates by as much as its gap allows after v_max - 1 steps.
 BLOCKED = job(2, NASCH, 2, "01....")
 
+# Each with the law, its file, the old text and the new one; the runs; and the expressions of the law and of the false statement.
 FALSE = [
     # Bounds on the flow
     False_("step_stays_under_triangle", "Bounds", "IsDistanceUnderTriangle road 1 tally.distance", "IsDistanceUnderTriangle road 1 (tally.distance + 1)",

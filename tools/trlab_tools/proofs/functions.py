@@ -37,10 +37,10 @@ class Function(NamedTuple):
     def path_in(self, every: Collection[str]) -> Optional[str]:
         """Its path, of all those of a crate as the prover names them, or None."""
         last = rf"{re.escape(self.owner)}\w*::{self.name}" if self.owner else self.name
-        here = [path for path in every if re.fullmatch(rf"{self.module}(::)?{last}", path)]
+        in_module = [path for path in every if re.fullmatch(rf"{self.module}(::)?{last}", path)]
         # (a method is named by the module of its type, which may be another file's)
-        there = here or [path for path in every if self.owner and re.fullmatch(rf"(\w+::)*{last}", path)]
-        return min(there, key=len) if there else None
+        candidates = in_module or [path for path in every if self.owner and re.fullmatch(rf"(\w+::)*{last}", path)]
+        return min(candidates, key=len) if candidates else None
 
 
 def base_name(kind: str) -> str:
@@ -70,6 +70,7 @@ def functions_in(file: str, text: str) -> list[Function]:
 
 
 def function_at(file: str, text: str, match: re.Match[str]) -> Function:
+    """The function that begins at a match of FUNCTION."""
     indent, visibility, name = match.groups()
     owner = owner_in(list(BLOCK.finditer(text, 0, match.start()))[-1][1]) if indent else ""
     # Its body begins on a line of its own if it has clauses.
@@ -95,6 +96,7 @@ class Exports:
             self.read(folder, "src/lib.rt", ())
 
     def read(self, folder: str, file: str, module: tuple[str, ...]) -> None:
+        """Read the exports of a file, and of the modules that it names."""
         with open(os.path.join(folder, file), encoding="utf-8") as source:
             text = re.sub(r"//.*", "", source.read())
         for exported in EXPORT.findall(text):

@@ -18,6 +18,7 @@ from .bodies import OF_CLAUSE, Body, Crate, Verdict
 # The mean number of rounds of which one is tried again although its verdicts are recorded.
 ONE_OF = 16
 HEAD = "# Written by `tools/mutants --write`: each wrong body, a function that it changes, and what the prover says of it.\n"
+# The logic in the output of `rt --version`.
 LOGIC = re.compile(r"\blogic (\w+)")
 MAX_CHARACTERS = 150
 # What the prover says of the functions that each body changes, by the body's name and their paths.
@@ -36,9 +37,9 @@ def logic() -> str:
 def sum_of(crate: Crate) -> str:
     """The checksum of all on which the verdicts on a crate's bodies depend."""
     crates = os.path.dirname(crate.folder)
-    own = [os.path.join(crate.folder, part) for part in ("src", "specs", "proofs", "must-fail", "wrong.edit")]
+    parts_of_crate = [os.path.join(crate.folder, part) for part in ("src", "specs", "proofs", "must-fail", "wrong.edit")]
     lower = [os.path.join(crates, name, part) for name in crate.lower for part in ("src", "specs")]
-    return hashlib.sha256(f"{logic()} {trials.sum_of([*own, *lower], os.path.dirname(crates))}".encode()).hexdigest()
+    return hashlib.sha256(f"{logic()} {trials.sum_of([*parts_of_crate, *lower], os.path.dirname(crates))}".encode()).hexdigest()
 
 
 @functools.cache
@@ -54,6 +55,7 @@ def is_in_sample(crate: Crate, number: int) -> bool:
 
 
 def path_of(crate: Crate) -> str:
+    """The path of a crate's record."""
     return os.path.join(crate.folder, "wrong.verdicts")
 
 

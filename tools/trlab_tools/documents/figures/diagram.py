@@ -1,12 +1,11 @@
-"""Axes of a fundamental diagram: flow against density."""
+"""A fundamental diagram: flow against density."""
 import csv
 from statistics import mean
-from typing import Callable, Dict, List, Sequence, Tuple
+from typing import Callable, Dict, List, Tuple
 
 from ... import TOP as REPOSITORY
-from .svg import Drawing
-
-Points = Sequence[Tuple[float, float]]
+from .panels import BOTTOM, TOP, Panel
+from .svg import SMALL, Drawing, Points
 
 
 def runs(table: str, begin: str) -> Dict[float, List[float]]:
@@ -25,48 +24,54 @@ def means(table: str, begin: str) -> Points:
     return [(density, mean(flows)) for density, flows in sorted(runs(table, begin).items())]
 
 
-class Diagram:
-    """A frame with the density from left to right, up to `widest`, and the flow upwards, up to `highest`."""
+def multiples(step: float, end: float) -> List[float]:
+    """The values of an axis: 0, `step`, twice `step` and so on, up to `end`, which may be rounded."""
+    return [place * step for place in range(int(end / step + 1e-9) + 1)]
+
+
+class Diagram(Panel):
+    """A panel with the density from left to right, up to `widest`, and the flow upwards, up to `highest`."""
 
     def __init__(
-        self, drawing: Drawing, left: float, top: float, width: float, height: float,
-        widest: float = 1, highest: float = 0.9, marks: Tuple[float, float] = (0.2, 0.2),
+        self, drawing: Drawing, place: Tuple[int, int],
+        widest: float = 1, highest: float = 0.9, density_step: float = 0.2, flow_step: float = 0.2,
     ) -> None:
-        self.drawing, self.left, self.bottom, self.width, self.height = drawing, left, top + height, width, height
+        super().__init__(drawing, place)
         self.widest, self.highest = widest, highest
-        for place in range(int(widest / marks[0] + 1e-9) + 1):
-            x = self.across(place * marks[0])
-            drawing.line(x, self.bottom, x, self.bottom + 4)
-            drawing.text(x, self.bottom + 17, f"{place * marks[0]:g}", "middle", 12)
-        for place in range(int(highest / marks[1] + 1e-9) + 1):
-            y = self.up(place * marks[1])
-            drawing.line(left - 4, y, left, y)
-            drawing.text(left - 7, y + 4, f"{place * marks[1]:g}", "end", 12)
-        drawing.line(left, self.bottom, left + width, self.bottom)
-        drawing.line(left, self.bottom, left, top)
-        drawing.text(left + width / 2, self.bottom + 34, "density (cars per cell)", "middle", 12)
+        for density in multiples(density_step, widest):
+            self.tick_below(self.across(density), f"{density:g}")
+        for flow in multiples(flow_step, highest):
+            self.tick_left(self.up(flow), f"{flow:g}")
+        drawing.line(self.left, BOTTOM, self.left + self.width, BOTTOM)
+        drawing.line(self.left, BOTTOM, self.left, TOP)
+        self.title_below("density (cars per cell)")
 
     def across(self, density: float) -> float:
+        """The x coordinate of a density."""
         return self.left + self.width * density / self.widest
 
     def up(self, flow: float) -> float:
-        return self.bottom - self.height * flow / self.highest
+        """The y coordinate of a flow."""
+        return BOTTOM - (BOTTOM - TOP) * flow / self.highest
 
-    def flows(self, words: str) -> None:
-        """The title of the vertical axis."""
-        self.drawing.text(self.left - 36, self.bottom - self.height / 2, words, "middle", 12, turned=True)
+    def title_flow(self, unit: str) -> None:
+        """The title of the axis of the flow."""
+        self.title_left(f"flow ({unit})", 36)
 
-    def line(self, points: Points, stroke: str, width: float = 1.5, dashes: str = "") -> None:
-        places = "L".join(f"{self.across(density):.1f} {self.up(flow):.1f}" for density, flow in points)
-        self.drawing.path(f"M{places}", stroke, width, dashes=dashes)
+    def line(self, points: Points, stroke: str, dashes: str = "") -> None:
+        """A line through points, each a density and a flow."""
+        self.drawing.polyline([(self.across(density), self.up(flow)) for density, flow in points], stroke, dashes=dashes)
 
-    def curve(self, flow: Callable[[float], float], stroke: str, begin: float = 0, end: float = 1, dashes: str = "") -> None:
+    def curve(self, flow: Callable[[float], float], stroke: str, begin: float = 0, end: float = 1) -> None:
+        """The flow as a function of the density, from `begin` to `end`."""
         places = [begin + (end - begin) * k / 100 for k in range(101)]
-        self.line([(density, flow(density)) for density in places], stroke, dashes=dashes)
+        self.line([(density, flow(density)) for density in places], stroke)
 
     def circles(self, points: Points, fill: str, radius: float = 3, opacity: float = 1) -> None:
+        """A dot at each point."""
         for density, flow in points:
             self.drawing.circle(self.across(density), self.up(flow), radius, fill, opacity)
 
-    def label(self, density: float, flow: float, words: str, fill: str, anchor: str = "start", weight: str = "") -> None:
-        self.drawing.text(self.across(density), self.up(flow), words, anchor, 12, fill, weight)
+    def label(self, density: float, flow: float, words: str, fill: str, anchor: str = "start") -> None:
+        """Words at a density and a flow, chosen by eye beside the line that they name."""
+        self.drawing.text(self.across(density), self.up(flow), words, anchor, SMALL, fill)

@@ -3,57 +3,75 @@ import re
 import textwrap
 from collections.abc import Iterator
 from itertools import cycle
+from typing import NamedTuple
 
 from ... import TOP as REPOSITORY
-from .svg import FRAME, Drawing
+from .svg import FRAME, SMALL, Drawing
 
 CRATES = REPOSITORY / "crates.txt"
+# A layer in crates.txt: `# NAME: SUBJECT` or `# NAME`, and below it the lines of its crates.
 LAYER = re.compile(r"^# ([^:\n]*)(?:: ([^\n]*))?\n((?:trlab_\w+:.*\n)+)", re.M)
-BESIDE = "Tests and examples"
+# A line of crates.txt: `CRATE: USED USED ..`.
+CRATE = re.compile(r"^(\w+):(.*)$", re.M)
+NOT_A_LAYER = "Tests and examples"
 FILLS = "#e4edf7", "#e2f3ea", "#fdf1dc", "#f7e6ef", "#e9e6f7", "#f0f0f0"
-LEFT, WIDE, HIGH, ROW = 236, 150, 26, 35
+# The boxes of crates: the left edge of the first of a row, width, height, and the distances of columns and rows.
+LEFT, WIDTH, HEIGHT, COLUMN, ROW = 236, 150, 26, 164, 35
+# The space between layers, and within a layer above and below its crates.
+SPACE = 8
 
 
-def layers() -> Iterator[tuple[str, str, dict[str, list[str]]]]:
-    """The layers, lowest first: the name of each, its subject, and its crates with the crates that they use."""
-    with open(CRATES, encoding="utf-8") as file:
-        sections = LAYER.findall(file.read())
-    for name, subject, lines in sections:
-        if name != BESIDE:
-            yield name, subject, {crate: used.split() for crate, used in re.findall(r"^(\w+):(.*)$", lines, re.M)}
+class Layer(NamedTuple):
+    """A layer, and its crates in rows, lowest first: each crate is above the crates of its layer that it uses."""
+
+    name: str
+    subject: str
+    rows: list[list[str]]
+
+    @property
+    def height(self) -> int:
+        """The height in the drawing."""
+        return len(self.rows) * ROW + SPACE
 
 
 def rows(crates: dict[str, list[str]]) -> list[list[str]]:
-    """The crates of a layer in rows, lowest first: each crate is above the crates of its layer that it uses."""
+    """The rows of a layer, from its crates with the crates that they use. A crate comes after those that it uses."""
     height: dict[str, int] = {}
     for crate, used in crates.items():
         height[crate] = 1 + max((height[other] for other in used if other in crates), default=-1)
     return [[crate for crate in crates if height[crate] == level] for level in range(max(height.values()) + 1)]
 
 
-def room(levels: list[list[str]]) -> int:
-    """The height of a layer in the drawing."""
-    return len(levels) * ROW + 8
+def layers() -> Iterator[Layer]:
+    """The layers, lowest first."""
+    for name, subject, lines in LAYER.findall(CRATES.read_text("utf-8")):
+        if name != NOT_A_LAYER:
+            yield Layer(name, subject, rows({crate: used.split() for crate, used in CRATE.findall(lines)}))
+
+
+def draw_layer(drawing: Drawing, layer: Layer, y: float, fill: str) -> None:
+    """A layer with its upper edge at y: its name and subject at the left, and its crates."""
+    drawing.box(20, y, drawing.width - 40, layer.height, fill, FRAME, 6)
+    subject = textwrap.wrap(layer.subject, 30)
+    first_line = y + layer.height / 2 + 5 - 8 * len(subject)
+    drawing.text(36, first_line, layer.name, weight="bold")
+    for place, line in enumerate(subject):
+        drawing.text(36, first_line + 16 + 15 * place, line, size=11.5)
+    for level, crates in enumerate(layer.rows):
+        top = y + layer.height - SPACE - level * ROW - HEIGHT
+        for place, crate in enumerate(crates):
+            x = LEFT + place * COLUMN
+            drawing.box(x, top, WIDTH, HEIGHT, "white", "#909090")
+            drawing.code(x + WIDTH / 2, top + 17, crate.removeprefix("trlab_"), "middle", SMALL)
 
 
 def draw() -> str:
-    parts = [(name, subject, rows(crates)) for name, subject, crates in layers()]
-    height = sum(room(levels) + 8 for *_, levels in parts) + 32
-    drawing = Drawing(LEFT + 3 * (WIDE + 14) + 30, height)
-    y = height - 20
-    for fill, (name, subject, levels) in zip(cycle(FILLS), parts):
-        layer_height = room(levels)
-        y -= layer_height
-        drawing.box(20, y, drawing.width - 40, layer_height, fill, FRAME, 6)
-        lines = textwrap.wrap(subject, 30)
-        drawing.text(36, y + layer_height / 2 + 5 - 8 * len(lines), name, weight="bold")
-        for place, line in enumerate(lines):
-            drawing.text(36, y + layer_height / 2 + 21 + 15 * place - 8 * len(lines), line, size=11.5)
-        for level, crates in enumerate(levels):
-            top = y + layer_height - 8 - (level + 1) * ROW + (ROW - HIGH)
-            for place, crate in enumerate(crates):
-                x = LEFT + place * (WIDE + 14)
-                drawing.box(x, top, WIDE, HIGH, "white", "#909090")
-                drawing.code(x + WIDE / 2, top + 17, crate.removeprefix("trlab_"), "middle", 12)
-        y -= 8
+    """The layers, the lowest one at the bottom."""
+    parts = list(layers())
+    y = sum(layer.height + SPACE for layer in parts) + 12
+    drawing = Drawing(LEFT + 3 * COLUMN + 30, y + 20)
+    for fill, layer in zip(cycle(FILLS), parts):
+        y -= layer.height
+        draw_layer(drawing, layer, y, fill)
+        y -= SPACE
     return drawing.svg()

@@ -2,19 +2,24 @@
 from typing import List
 
 from .runs import rows
-from .svg import BLUE, GREEN, RED, Drawing
+from .svg import BLUE, GREEN, RED, SMALL, Drawing
 
 LIMIT, LANE, STEPS = 3, "000.0..0.0..............", 9
 RULE = ["rule own", "motion", "get r0, limit", "get r1, gap", "min r0, r0, r1", "go r0", "end"]
-LEFT, RIGHT, TOP, BOTTOM, HIGHEST = 64, 580, 20, 400, 28
+# The edges of the frame, and the place in cells at its upper edge.
+LEFT, RIGHT, TOP, BOTTOM = 64, 580, 20, 400
+HIGHEST = 28
+DASHES = "4 3"
 FADED = "#a0a0a0"
 
 
 def x(time: float) -> float:
+    """The x coordinate of a time in steps."""
     return LEFT + (RIGHT - LEFT) * time / STEPS
 
 
 def y(cell: float) -> float:
+    """The y coordinate of a place in cells."""
     return BOTTOM - (BOTTOM - TOP) * cell / HIGHEST
 
 
@@ -25,13 +30,14 @@ def paths() -> List[List[int]]:
     cells = [cell for cell, sign in enumerate(first) if sign != "."]
     paths_by_car = [[cell] for cell in cells]
     for row in later:
-        came_from = {(cell - int(sign)) % len(row): int(sign) for cell, sign in enumerate(row) if sign != "."}
+        speed_from = {(cell - int(sign)) % len(row): int(sign) for cell, sign in enumerate(row) if sign != "."}
         for path in paths_by_car:
-            path.append(path[-1] + came_from[path[-1] % len(row)])
+            path.append(path[-1] + speed_from[path[-1] % len(row)])
     return paths_by_car
 
 
 def axes(drawing: Drawing) -> None:
+    """The times below the frame, and every fifth place at its left."""
     for time in range(STEPS + 1):
         drawing.line(x(time), BOTTOM, x(time), BOTTOM + 5)
         drawing.text(x(time), BOTTOM + 19, str(time), "middle")
@@ -48,35 +54,38 @@ def bounds(drawing: Drawing, starts: List[int]) -> None:
     """For the last car and each car ahead: a wave from the place of the car ahead, back by one cell per step and so one step per
     car, and from there the line of a car at v_max."""
     for ahead, start in enumerate(starts):
-        low = start - ahead
-        end = min(STEPS, ahead + (HIGHEST - low) / LIMIT)
+        wave_ends = x(ahead), y(start - ahead)
+        end = min(STEPS, ahead + (HIGHEST - (start - ahead)) / LIMIT)
+        line_ends = x(end), y(start - ahead + LIMIT * (end - ahead))
         if ahead:
-            drawing.path(f"M{x(0):.1f} {y(start):.1f}L{x(ahead):.1f} {y(low):.1f}", RED, 1.3, dashes="4 3")
-        drawing.path(f"M{x(ahead):.1f} {y(low):.1f}L{x(end):.1f} {y(low + LIMIT * (end - ahead)):.1f}", GREEN, 1.3)
-        drawing.text(x(end) + 9, y(low + LIMIT * (end - ahead)) + 4.5, f"j = {ahead}", size=12, fill=GREEN)
+            drawing.polyline([(x(0), y(start)), wave_ends], RED, 1.3, dashes=DASHES)
+        drawing.polyline([wave_ends, line_ends], GREEN, 1.3)
+        drawing.text(line_ends[0] + 9, line_ends[1] + 4.5, f"j = {ahead}", size=SMALL, fill=GREEN)
 
 
 def path(drawing: Drawing, places: List[int], stroke: str, width: float, radius: float) -> None:
     """The path of a car, as far as the axes go."""
     points = [(x(time), y(place)) for time, place in enumerate(places) if place <= HIGHEST]
-    drawing.path("M" + "L".join(f"{across:.1f} {up:.1f}" for across, up in points), stroke, width)
-    for across, up in points:
-        drawing.circle(across, up, radius, stroke)
+    drawing.polyline(points, stroke, width)
+    for point in points:
+        drawing.circle(*point, radius, stroke)
 
 
 def legend(drawing: Drawing) -> None:
-    lines = (
-        (BLUE, "", "the last car: the lowest of the lines j = 0, 1, .."), (FADED, "", "the cars ahead of it"),
-        (GREEN, "", "a line j: v_max, from step j on"), (RED, "4 3", "the j-th car ahead, felt a step later per car"),
-    )
-    for row, (stroke, dashes, words) in enumerate(lines):
-        level = BOTTOM + 66 + 20 * (row // 2)
-        left = LEFT - 40 + 310 * (row % 2)
-        drawing.path(f"M{left:.1f} {level - 4:.1f}h22", stroke, 2.5 if stroke == BLUE else 1.5, dashes=dashes)
-        drawing.text(left + 28, level, words, size=12)
+    """The meaning of the lines, in two rows of two."""
+    meanings = {
+        BLUE: "the last car: the lowest of the lines j = 0, 1, ..", FADED: "the cars ahead of it",
+        GREEN: "a line j: v_max, from step j on", RED: "the j-th car ahead, felt a step later per car",
+    }
+    for place, (stroke, words) in enumerate(meanings.items()):
+        row, column = divmod(place, 2)
+        left, line = LEFT - 40 + 310 * column, BOTTOM + 66 + 20 * row
+        drawing.sample(left, line, 22, stroke, 2.5 if stroke == BLUE else 1.5, DASHES if stroke == RED else "")
+        drawing.text(left + 28, line, words, size=SMALL)
 
 
 def draw() -> str:
+    """The paths of all cars, and the lines that bound that of the last one."""
     drawing = Drawing(640, 500)
     axes(drawing)
     last, *others = paths()

@@ -1,10 +1,24 @@
 """One step of the Nagel-Schreckenberg model, row by row."""
-from .svg import INK, Drawing, Lane
+from typing import NamedTuple
+
+from .svg import INK, SMALL, Drawing, Lane
 
 CELLS, LIMIT = 20, 5
-# The cells of the cars and their speeds, and which of them brake at random.
-CARS = [(1, 4), (6, 3), (10, 2), (12, 0), (17, 5)]
-BRAKES = {1}
+# The cells of the cars, their speeds, and which of them brake at random.
+CELLS_OF_CARS = [1, 6, 10, 12, 17]
+SPEEDS = [4, 3, 2, 0, 5]
+BRAKING = {1}
+# The left edge of the lanes, the upper edge of the first, and the distance to the next.
+LEFT, TOP, ROW = 180, 20, 62
+
+
+class Stage(NamedTuple):
+    """A row of the drawing: the cars after a part of the step."""
+
+    name: str
+    remark: str
+    cells: list[int]
+    speeds: list[int]
 
 
 def gap_of(car: int, cells: list[int]) -> int:
@@ -12,19 +26,19 @@ def gap_of(car: int, cells: list[int]) -> int:
     return (cells[(car + 1) % len(cells)] - cells[car] - 1) % CELLS
 
 
-def rows() -> list[tuple[str, str, list[int], list[int]]]:
-    """The name of each row, its remark, cells and speeds."""
-    cells, speeds = [cell for cell, _ in CARS], [speed for _, speed in CARS]
-    faster = [min(speed + 1, LIMIT) for speed in speeds]
+def stages() -> list[Stage]:
+    """The road before the step, and after each of its four parts."""
+    cells = CELLS_OF_CARS
+    faster = [min(speed + 1, LIMIT) for speed in SPEEDS]
     safe = [min(speed, gap_of(car, cells)) for car, speed in enumerate(faster)]
-    braked = [max(speed - 1, 0) if car in BRAKES else speed for car, speed in enumerate(safe)]
+    braked = [max(speed - 1, 0) if car in BRAKING else speed for car, speed in enumerate(safe)]
     moved = [(cell + speed) % CELLS for cell, speed in zip(cells, braked)]
     return [
-        ("the road at step t", "", cells, speeds),
-        ("1. speed up", "by one, at most to the limit", cells, faster),
-        ("2. slow down", "to the gap", cells, safe),
-        ("3. brake at random", "by one, with probability p", cells, braked),
-        ("4. move: step t + 1", "all cars at once", moved, braked),
+        Stage("the road at step t", "", cells, SPEEDS),
+        Stage("1. speed up", "by one, at most to the limit", cells, faster),
+        Stage("2. slow down", "to the gap", cells, safe),
+        Stage("3. brake at random", "by one, with probability p", cells, braked),
+        Stage("4. move: step t + 1", "all cars at once", moved, braked),
     ]
 
 
@@ -40,15 +54,16 @@ def hop(drawing: Drawing, lane: Lane, begin: float, end: float) -> None:
 
 
 def draw() -> str:
+    """A lane per stage; speeds that a stage changes are in a frame, and moves have arrows."""
     drawing = Drawing(800, 330)
-    before = [speed for _, speed in CARS]
-    for place, (title, more, cells, speeds) in enumerate(rows()):
-        lane = Lane(drawing, 180, 20 + 62 * place, CELLS)
-        drawing.text(170, lane.y + (14 if more else 20), title, "end", weight="bold")
-        drawing.text(170, lane.y + 30, more, "end", 12)
-        for (begin, _), cell, speed, old in zip(CARS, cells, speeds, before):
-            lane.car(cell, speed, INK if speed != old else None)
+    speeds_before = SPEEDS
+    for place, stage in enumerate(stages()):
+        lane = Lane(drawing, LEFT, TOP + ROW * place, CELLS)
+        drawing.text(LEFT - 10, lane.y + (14 if stage.remark else 20), stage.name, "end", weight="bold")
+        drawing.text(LEFT - 10, lane.y + 30, stage.remark, "end", SMALL)
+        for begin, cell, speed, before in zip(CELLS_OF_CARS, stage.cells, stage.speeds, speeds_before):
+            lane.car(cell, speed, INK if speed != before else None)
             if cell != begin:
                 hop(drawing, lane, lane.middle(begin), lane.middle(cell))
-        before = speeds
+        speeds_before = stage.speeds
     return drawing.svg()

@@ -2,8 +2,11 @@
 their speed, look like a pattern that moves backwards."""
 from typing import Dict, Iterator, List, NamedTuple, Tuple
 
-from .svg import BLUE, RED, Drawing
+from .panels import BOTTOM, TOP, Panel
+from .svg import BLUE, RED, SMALL, Drawing
 
+BLACK = "#000000"
+# The signs of speeds in a snapshot, in the order of the speeds.
 SIGNS = "0123456789abcdefghijklmnopqrstuvwxyz"
 Snapshots = List[List[str]]
 # Points of a line: places in cells, and steps.
@@ -58,51 +61,53 @@ def pieces(moves: List[Move], cells: int) -> List[Piece]:
     return lines
 
 
-class SpaceTime:
-    """A frame with the cells of a lane from left to right, and time from the top down."""
+class SpaceTime(Panel):
+    """A panel with the cells of a lane from left to right, and time from the top down."""
 
-    def __init__(self, drawing: Drawing, left: float, top: float, width: float, height: float, snapshots: Snapshots) -> None:
-        self.drawing, self.left, self.top, self.width, self.height = drawing, left, top, width, height
+    def __init__(self, drawing: Drawing, place: Tuple[int, int], snapshots: Snapshots) -> None:
+        super().__init__(drawing, place)
         self.snapshots, self.cells, self.steps = snapshots, len(snapshots[0][0]), len(snapshots) - 1
-        drawing.box(left, top, width, height, "white", "#d0d0d0", 0)
+        drawing.box(self.left, TOP, self.width, BOTTOM - TOP, "white", "#d0d0d0", 0)
 
-    def x(self, place: float) -> float:
+    def across(self, place: float) -> float:
+        """The x coordinate of a place in cells."""
         return self.left + self.width * place / self.cells
 
-    def y(self, step: float) -> float:
-        return self.top + self.height * step / self.steps
+    def down(self, step: float) -> float:
+        """The y coordinate of a step."""
+        return TOP + (BOTTOM - TOP) * step / self.steps
 
     def axes(self, every_cells: int, every_steps: int, has_times: bool = True) -> None:
-        bottom = self.top + self.height
+        """The axis of positions, and that of times unless a panel to the left has it."""
         for cell in range(0, self.cells, every_cells):
-            self.drawing.line(self.x(cell), bottom, self.x(cell), bottom + 4)
-            self.drawing.text(self.x(cell), bottom + 17, str(cell), "middle", 12)
-        self.drawing.text(self.left + self.width / 2, bottom + 34, "position (cells)", "middle", 12)
+            self.tick_below(self.across(cell), str(cell))
+        self.title_below("position (cells)")
         if has_times:
             for step in range(0, self.steps + 1, every_steps):
-                self.drawing.line(self.left - 4, self.y(step), self.left, self.y(step))
-                self.drawing.text(self.left - 7, self.y(step) + 4, str(step), "end", 12)
-            self.drawing.text(self.left - 34, self.top + self.height / 2, "time (steps)", "middle", 12, turned=True)
+                self.tick_left(self.down(step), str(step))
+            self.title_left("time (steps)", 34)
 
     def path(self, pieces: List[Piece], stroke: str, width: float) -> None:
-        lines = ("M" + " ".join(f"{self.x(place):.1f} {self.y(step):.1f}" for place, step in piece) for piece in pieces)
+        """The lines as one path of SVG."""
+        lines = ("M" + " ".join(f"{self.across(place):.1f} {self.down(step):.1f}" for place, step in piece) for piece in pieces)
         self.drawing.path("".join(lines), stroke, width)
 
     def paths(self, lane: int = 0) -> None:
         """The paths of the cars on a lane: blue if they move, red if they are stopped, with a circle at each lane change."""
-        here = [move for move in moves(self.snapshots) if move.after == lane]
-        self.path(pieces(here, self.cells), BLUE, 1)
-        self.path(pieces([move for move in here if move.speed == 0], self.cells), RED, 1.8)
-        for move in here:
+        on_lane = [move for move in moves(self.snapshots) if move.after == lane]
+        self.path(pieces(on_lane, self.cells), BLUE, 1)
+        self.path(pieces([move for move in on_lane if move.speed == 0], self.cells), RED, 1.8)
+        for move in on_lane:
             if move.before != lane:
-                self.drawing.circle(self.x(move.cell + 0.5), self.y(move.step), 2.6, "#000000")
+                self.drawing.circle(self.across(move.cell + 0.5), self.down(move.step), 2.6, BLACK)
 
 
 def legend(drawing: Drawing, left: float, y: float, has_changes: bool = False) -> None:
-    drawing.path(f"M{left:.1f} {y - 4:.1f}h20", BLUE, 1.5)
-    drawing.text(left + 25, y, "a moving car", size=12)
-    drawing.path(f"M{left + 112:.1f} {y - 4:.1f}h20", RED, 2.5)
-    drawing.text(left + 137, y, "a stopped car", size=12)
+    """The meaning of blue and red lines, and of circles if there are lane changes, on the line y."""
+    drawing.sample(left, y, 20, BLUE)
+    drawing.text(left + 25, y, "a moving car", size=SMALL)
+    drawing.sample(left + 112, y, 20, RED, 2.5)
+    drawing.text(left + 137, y, "a stopped car", size=SMALL)
     if has_changes:
-        drawing.circle(left + 236, y - 4, 3, "#000000")
-        drawing.text(left + 246, y, "a car comes from the other lane", size=12)
+        drawing.circle(left + 236, y - 4, 3, BLACK)
+        drawing.text(left + 246, y, "a car comes from the other lane", size=SMALL)
