@@ -1,5 +1,4 @@
 """The panels of the figures that show space-time diagrams beside a fundamental diagram."""
-from typing import Tuple
 
 from .svg import SMALL, Drawing
 
@@ -13,7 +12,7 @@ PANELS = (56, 190), (262, 190), (532, 214)
 class Panel:
     """A panel with ticks and titles along its left and lower edges."""
 
-    def __init__(self, drawing: Drawing, place: Tuple[int, int]) -> None:
+    def __init__(self, drawing: Drawing, place: tuple[int, int]) -> None:
         self.drawing = drawing
         self.left, self.width = place
 
