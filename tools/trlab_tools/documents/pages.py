@@ -7,7 +7,7 @@ from ..finding import match_in
 from . import standing
 
 # For pages with many blocks, which do not count.
-MAX_WORDS_OUTSIDE_BLOCKS = {"README.md": 1200, "docs/TUTORIAL.md": 920, "docs/CHEATSHEET.md": 610, "docs/FAQ.md": 800}
+MAX_WORDS_OUTSIDE_BLOCKS = {"README.md": 1190, "docs/TUTORIAL.md": 910, "docs/CHEATSHEET.md": 610, "docs/FAQ.md": 790}
 INDEX = "docs/README.md"
 NUMBER = re.compile(r"\d+\.\d+")
 REPRODUCED = re.compile(r"^\| \[[^]]*\]\((studies/[^)]*)\): [^|]*\| (.*) \|$", re.M)
