@@ -176,8 +176,8 @@ trlab explain [--json] [run|sweep|check] < FILE
     after: "\
 Standard input:
   An input for `trlab run`, `trlab sweep` or `trlab check`. Without run, sweep
-  or check, the first word of the input decides (case does not matter): `road`
-  means a job, `sweep` a sweep, anything else a driver program.
+  or check, the first word outside comments decides (case does not matter):
+  `road` means a job, `sweep` a sweep, anything else a driver program.
 
 Standard output:
   For a rejected input: the error, the offending line, the expected lines, the
