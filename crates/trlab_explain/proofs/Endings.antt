@@ -1,5 +1,5 @@
 -- How explanations end, by the output that was written.
-use Rattle.std.proofs.Common.{◌≡◌, ◌<◌, ℕ, List, [], ◌∷◌, length, refl, subst, Bool, true, inl, inr, lt-ltb}
+use Rattle.std.proofs.Common.{◌≡◌, ◌<◌, ℕ, List, [], length, refl, subst, Bool, true, inl, inr, lt-ltb}
 use Rattle.std.proofs.Common.{Option, None, Some, Result, Ok, Err, IfOk, MatchOption, MatchResult}
 use Rattle.trlab_lines.specs.Lines.{lines_of}
 use Rattle.trlab_bounds.specs.declared.texts.TheConstants.{TEXT_LIMIT}
