@@ -40,7 +40,7 @@ MAX_WORDS = {
     "docs/PYTHON.md": 2670,
     "docs/README.md": 290,
     "docs/RELIABILITY.md": 1480,
-    "docs/SPEED.md": 470,
+    "docs/SPEED.md": 600,
     "docs/STUDIES.md": 2230,
     "docs/TUTORIAL.md": 1330,
     "docs/VERIFIER.md": 960,
