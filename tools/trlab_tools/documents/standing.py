@@ -27,7 +27,7 @@ MAX_WORDS = {
     "CONTRIBUTING.md": 1910,
     "README.md": 1480,
     "docs/CHEATSHEET.md": 730,
-    "docs/COURSE.md": 2010,
+    "docs/COURSE.md": 2020,
     "docs/ERRORS.md": 1770,
     "docs/FAQ.md": 960,
     "docs/FILES.md": 2390,
