@@ -33,7 +33,7 @@ MAX_WORDS = {
     "docs/FILES.md": 2330,
     "docs/GLOSSARY.md": 740,
     "docs/LAB.md": 1670,
-    "docs/LAWS.md": 3780,
+    "docs/LAWS.md": 3800,
     "docs/LAWS_BY_EXAMPLE.md": 370,
     "docs/MODELS.md": 2100,
     "docs/PROGRAMS.md": 2570,
