@@ -30,7 +30,7 @@ from ._inputs.programs import AcceptedProgram, check, explain
 from ._inputs.rules import Nasch, Own, Rickert, Rule, SlowToStart
 from ._inputs.states import InitialState, even, jammed, moving, random_cells
 from ._inputs.sweeps import Sweep
-from ._renamed import IN_PACKAGE as _IN_PACKAGE, renamed as _renamed
+from ._renamed import IN_PACKAGE as _IN_PACKAGE, need_current_name as _need_current_name
 from ._results.drift import Drift
 from ._results.snapshots import Snapshot, Snapshots
 from ._results.tables import Point, Table, Window
@@ -74,7 +74,7 @@ __all__ = [
 
 def __getattr__(name: str) -> _Any:
     """A name that needs a library, which is imported when it is first used. Raises `RenamedError` for an old name."""
-    _renamed("trlab", name, _IN_PACKAGE)
+    _need_current_name("trlab", name, _IN_PACKAGE)
     for module, names in _ANALYSIS.items():
         if name in names:
             value = getattr(_import_module(f"trlab.{module}"), name)

@@ -59,7 +59,7 @@ IN_GRID = {"texts": "`named_inputs()`", "frame_of": "`frame(results)`, with resu
 """Attributes of a `Grid`."""
 
 
-def renamed(owner: str, name: str, names: Mapping[str, str]) -> None:
-    """Raises `RenamedError` if this is an old name of the owner."""
+def need_current_name(owner: str, name: str, names: Mapping[str, str]) -> None:
+    """Raises `RenamedError` if a name is an old one of the owner; `names` has the replacement of each old name."""
     if name in names:
         raise RenamedError(f"{owner} has no `{name}` since version 0.6: use {names[name]}")

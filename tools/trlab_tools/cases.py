@@ -6,11 +6,15 @@ from typing import NamedTuple, Optional, Union
 
 from . import TOP
 
-# A line in which each backslash but the last begins an escape; an escape; and an end with a backslash of its own, after which the
-# line has no line feed.
-WELL_FORMED, ESCAPE, OPEN_END = re.compile(r"([^\\]|\\[strk0\\])*\\?"), re.compile(r"\\(.)"), re.compile(r"(?<!\\)(\\\\)*\\$")
+# A line in which each backslash but the last begins an escape.
+WELL_FORMED = re.compile(r"([^\\]|\\[strk0\\])*\\?")
+ESCAPE = re.compile(r"\\(.)")
+# An end with a backslash of its own, after which the line has no line feed.
+OPEN_END = re.compile(r"(?<!\\)(\\\\)*\\$")
 ESCAPES = {"s": " ", "t": "\t", "r": "\r", "0": "\0", "\\": "\\"}
-SIXTEEN = {"run": "--workers 16", "sweep": "--runners 16 --workers 16"}
+# The options with which a command runs in parallel.
+PARALLEL_OPTIONS = {"run": "--workers 16", "sweep": "--runners 16 --workers 16"}
+# The forms of `explain` that take an input, and those that take a number.
 EXPLAINED = ("explain", "explain run", "explain sweep", "explain check")
 NUMBERED = ("explain cause", "explain reason")
 
@@ -96,8 +100,8 @@ def calls_of(part: Part, front: str) -> Optional[Calls]:
     words, text = part.words, part.text or ""
     if words == "words":
         return Calls([line.split() for line in text.split("\n")[:-1]], front)
-    if words in SIXTEEN:
-        return Calls([[words], [words, *SIXTEEN[words].split()]], front + text)
+    if words in PARALLEL_OPTIONS:
+        return Calls([[words], [words, *PARALLEL_OPTIONS[words].split()]], front + text)
     if words == "check" or words in EXPLAINED:
         return Calls([words.split()], front + text)
     if words in NUMBERED:

@@ -5,9 +5,11 @@ import sys
 from collections.abc import Callable, Iterable, Iterator
 from typing import Any, NoReturn, Optional
 
+# The number of failures whose messages are printed.
 MAX_MESSAGES = 20
 # Whether each check holds, and the message if it does not.
 Verdicts = Iterator[tuple[bool, str]]
+# The names and the options of an argument, which `ArgumentParser.add_argument` takes.
 Argument = tuple[tuple[str, ...], dict[str, Any]]
 
 

@@ -6,7 +6,7 @@ pub const ABOUT: &str =
 
 /// The program's version, and on a second line the logic in which it is proved. Several kits of the toolchain
 /// share one logic.
-pub const VERSION: &str = "0.7.3
+pub const VERSION: &str = "0.7.4
 proved in logic dac8208d650f15bf";
 
 /// Below the list of commands: examples, exit statuses, and further reading.
@@ -176,8 +176,8 @@ trlab explain [--json] [run|sweep|check] < FILE
     after: "\
 Standard input:
   An input for `trlab run`, `trlab sweep` or `trlab check`. Without run, sweep
-  or check, the first word of the input decides (case does not matter): `road`
-  means a job, `sweep` a sweep, anything else a driver program.
+  or check, the first word outside comments decides (case does not matter):
+  `road` means a job, `sweep` a sweep, anything else a driver program.
 
 Standard output:
   For a rejected input: the error, the offending line, the expected lines, the

@@ -104,8 +104,12 @@ fn print_range<R: AllocGlobal + Eprint>(rt: &R, error: &Error) {
     let Ok(text) = error.to_string(rt.alloc()) else {
         return;
     };
+    // The text is `error: invalid value 'VALUE' for 'OPTION <n>': REASON`, and VALUE may be any text.
+    let Some((_, option_at_fault)) = text.as_str().rsplit_once(" for '") else {
+        return;
+    };
     for (option, range) in &NUMBER_OPTIONS {
-        if text.as_str().contains(*option) {
+        if option_at_fault.starts_with(*option) {
             let _ = eprintln!(rt; "{option} must be {range}.");
         }
     }

@@ -1,16 +1,16 @@
 -- How explanations end, by the output that was written.
-use Rattle.std.proofs.Common.{◌≡◌, ◌<◌, ℕ, List, [], ◌∷◌, length, refl, subst, Bool, true, inl, inr, lt-ltb}
+use Rattle.std.proofs.Common.{◌≡◌, ◌<◌, ℕ, List, [], length, refl, subst, Bool, true, inl, inr, lt-ltb}
 use Rattle.std.proofs.Common.{Option, None, Some, Result, Ok, Err, IfOk, MatchOption, MatchResult}
 use Rattle.trlab_lines.specs.Lines.{lines_of}
 use Rattle.trlab_bounds.specs.declared.texts.TheConstants.{TEXT_LIMIT}
-use Rattle.trlab_texts.specs.{Words.head_word, Reading.LocatedFault, declared.fault.Cause.TheVariants.TooBig}
+use Rattle.trlab_texts.specs.{Reading.LocatedFault, declared.fault.Cause.TheVariants.TooBig}
 use Rattle.trlab_jobs.specs.{Job.Job as JobSaid, Check.Check as CheckSaid, Sweep.Sweep as SweepSaid}
 use Rattle.trlab_jobs.specs.{Subjects.subject_named, declared.subject.Subject.Subject}
 use Rattle.trlab_jobs.specs.declared.subject.Subject.TheVariants.{Job, Sweep, Check}
 use Rattle.trlab_campaign.specs.{declared.end.End.End, Device.IsInputOrTooLong, Output.{Outputs, fault_line}}
 use Rattle.trlab_campaign.specs.{declared.end.End.TheVariants.Memory, Ending.{WroteAtEnd, WroteOutputAtEnd}}
 use Rattle.trlab_campaign.{specs.Writers.{SinkBytes, AddsNone}, proofs.Endings.{output_ends, kept_at_memory}}
-use Rattle.trlab_explain.specs.Explanations.{IsMeant, MayBeMeantAs, Explains, IsReadAs, IsHeadAs, IsCheckHead}
+use Rattle.trlab_explain.specs.Explanations.{leading_word, MayBeMeantAs, Explains, IsReadAs, IsHeadAs, IsCheckHead}
 use Rattle.trlab_explain.specs.{Explanations.IsTextHead, declared.{explanation.Head.Head, explain.Form.Form}}
 
 -- the end of a written output
@@ -26,13 +26,14 @@ meant_by : (word : List ℕ) (named : Option Subject) → (subject : Subject) ×
 meant_by word None = (Check, tt)
 meant_by word (Some named) = (named, refl)
 
-some_meant : (lines : List (List ℕ)) → (subject : Subject) × IsMeant lines subject
-some_meant [] = (Check, refl)
-some_meant (line ∷ left) = meant_by (head_word line) (subject_named (head_word line))
+some_meant : (leading : Option (List ℕ))
+    → (subject : Subject) × MatchOption leading (subject ≡ Check) (λ word. MatchOption (subject_named word) (MayBeMeantAs word subject) (λ s. subject ≡ s))
+some_meant None = (Check, refl)
+some_meant (Some word) = meant_by word (subject_named word)
 
 some_read : (wanted : Option Subject) (text : List ℕ) → (subject : Subject) × IsReadAs wanted text subject
 some_read (Some wanted) text = (wanted, refl)
-some_read None text = some_meant (lines_of text)
+some_read None text = some_meant (leading_word (lines_of text))
 
 -- the fault of a text that is too long, and the line of its rejection
 abbrev too_big : LocatedFault

@@ -1,12 +1,12 @@
 -- Explanations of inputs and of numbers: how the text form begins, and how the JSON form ends.
 use Rattle.std.specs.Prelude.{ℕ, ◌&&◌, Bool, List, [], ◌∷◌, nat_le, ◌++◌, codes, decimal, Option, None, Some}
 use Rattle.std.specs.Prelude.{◌≡◌, ◌≤◌, nat_eq, MatchOption, ◌-◌, ◌==◌, ⊤, All, length, take, if◌then◌else◌}
-use Rattle.std.specs.{Prelude.{true, false, not, Result, Ok, Err}, List.list_any}
+use Rattle.std.specs.{Prelude.{true, false, not, ◌||◌, Result, Ok, Err, find, map}, List.list_any}
 use Rattle.trlab_explain.specs.declared.topics.Topic.{Topic, TheVariants.{Cause, Reason}}
 use Rattle.trlab_explain.specs.declared.{explanation.Head.Head, explain.Form.{Form, TheVariants.{Text, Json}}}
-use Rattle.trlab_lines.specs.{Plain.{quoted, IsPlain}, Lines.{lines_of, line_at}}
+use Rattle.trlab_lines.specs.{Plain.{quoted, IsPlain}, Lines.{first_word, lines_of, line_at}}
 use Rattle.strsim.specs.Edits.{damerau}
-use Rattle.trlab_texts.specs.{Words.head_word, Reading.{LocatedFault, Reports}}
+use Rattle.trlab_texts.specs.Reading.{LocatedFault, Reports}
 use Rattle.trlab_texts.specs.declared.fault.TextFault.{TextFault}
 use Rattle.trlab_jobs.specs.{Subjects.subject_named, Sweep.{Sweep as SweepSaid, ParsesAsSweep}}
 use Rattle.trlab_jobs.specs.declared.subject.Subject.{Subject, TheVariants.{Job, Sweep, Check}}
@@ -48,26 +48,34 @@ quote_line number (Some line) =
 
 -- The kind of input that a text is meant to be.
 
+-- is a line with this first word neither blank nor a comment? Comments begin with `;` (59) or `#` (35), and a
+-- carriage return (13) is all that an empty line of a Windows file has
+abbrev pub has_content : List ℕ → Bool
+has_content [] = false
+has_content (byte ∷ more) = not (byte == 59 || byte == 35 || byte == 13)
+
+-- the first word of a text's first line that is neither blank nor a comment; `None` if there is no such line
+abbrev pub leading_word : List (List ℕ) → Option (List ℕ)
+leading_word lines = find has_content (map (λ line. (first_word line).0) lines)
+
 -- a word is at most one edit away from a name: a byte is inserted, deleted or replaced, or two neighbouring
 -- bytes are swapped. For example, `raod` and `roads` are one edit away from `road`
 abbrev pub IsWithinOneEdit : List ℕ → List ℕ → Type 0
 IsWithinOneEdit word name = damerau nat_eq word name ≤ 1
 
--- the kinds of input that a text with the unknown first word `word` may be meant as: a job or a sweep if the
+-- the kinds of input that a text with the unknown leading word `word` may be meant as: a job or a sweep if the
 -- word is at most one edit away from `road` or `sweep`, and a check in any case
 abbrev pub MayBeMeantAs : List ℕ → Subject → Type 0
 MayBeMeantAs word Job = IsWithinOneEdit word (codes "road")
 MayBeMeantAs word Sweep = IsWithinOneEdit word (codes "sweep")
 MayBeMeantAs word Check = Unit {0}
 
--- a text with the lines `line ∷ left` may be meant as `subject`: the kind of input that its first word names,
--- or if that names none, a kind that `MayBeMeantAs` allows; a text without lines is meant as a check
+-- a text with these lines may be meant as `subject`: the kind of input that its leading word names, or if that
+-- names none, a kind that `MayBeMeantAs` allows; a text without a leading word is meant as a check
 abbrev pub IsMeant : List (List ℕ) → Subject → Type 0
-IsMeant [] subject = subject ≡ Check
-IsMeant (line ∷ left) subject =
-    MatchOption (subject_named (head_word line))
-    (MayBeMeantAs (head_word line) subject)
-    (λ named. subject ≡ named)
+IsMeant lines subject =
+    MatchOption (leading_word lines) (subject ≡ Check)
+    (λ word. MatchOption (subject_named word) (MayBeMeantAs word subject) (λ named. subject ≡ named))
 
 -- The JSON form of explanations.
 

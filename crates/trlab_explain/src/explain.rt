@@ -225,7 +225,7 @@ fn output_in_form(alloc: Global, form: Form, explanation: &Explanation) -> Resul
     })
 }
 
-/// Explains an input, read as `subject`, or if that is `None`, as the kind of input that its first word determines.
+/// Explains an input, read as `subject`, or if that is `None`, as the kind of input that it is meant to be.
 fn explain_input(alloc: Global, form: Form, subject: Option<Subject>, text: &[u8]) -> Result<Output>
     ensures { IfOk result (λ output. Explains form subject text.now output.is_rejected output.bytes.items) }
 {
@@ -274,7 +274,7 @@ impl Engine for ExplainEngine {
 }
 
 /// Reads an input and writes, in the given form, why it is rejected and a repair if one helps, or its work if it is
-/// valid. Without `subject`, the first word decides how it is read, even if it is misspelled.
+/// valid. Without `subject`, the first word outside comments decides how it is read, even if it is misspelled.
 ///
 /// The whole input is read and judged before a byte is written. If an allocation fails, nothing is written; if the
 /// reader or the writer fails, a prefix of the output is written.

@@ -1,15 +1,14 @@
 //! The kind of input that a text is meant to be.
 
-ghost use Rattle.std.specs.Prelude.{◌≡◌, ◌≢◌, [], IfOk, true};
+ghost use Rattle.std.specs.Prelude.{◌≡◌, ◌≢◌, [], IfOk, option_map, true};
 ghost use Rattle.trlab_lines.specs.Lines.{lines_of};
-ghost use Rattle.trlab_explain.specs.Explanations.{IsMeant, IsWithinOneEdit, MayBeMeantAs};
+ghost use Rattle.trlab_explain.specs.Explanations.{IsMeant, IsWithinOneEdit, MayBeMeantAs, has_content, leading_word};
 
 use std::alloc::Global;
 use strsim::generic_damerau_levenshtein;
 use trlab_jobs::{Subject, subject_named};
-use trlab_lines::next_line;
+use trlab_lines::{next_line, up_to_blank, without_indent};
 use trlab_messages::Result;
-use trlab_texts::word::head_word;
 
 /// The maximum length of a word that may be a misspelled name.
 const LONGEST_WORD: usize = 16;
@@ -27,7 +26,7 @@ fn is_nearly(alloc: Global, word: &[u8], name: &[u8]) -> Result<bool>
     Ok(edits <= 1)
 }
 
-/// The kind that an input with an unknown first word is meant to be.
+/// The kind that an input with an unknown leading word is meant to be.
 fn misspelled_subject(alloc: Global, word: &[u8]) -> Result<Subject>
     ensures { IfOk result (MayBeMeantAs word.now) }
 {
@@ -40,7 +39,33 @@ fn misspelled_subject(alloc: Global, word: &[u8]) -> Result<Subject>
     }
 }
 
-/// The kind that an input is meant to be, by its first word, even a misspelled one; otherwise a check.
+/// Whether a line with this first word is neither blank nor a comment. An empty line of a Windows file has only a
+/// carriage return.
+fn has_content(word: &[u8]) -> bool
+    ensures { result ≡ has_content word.now }
+{
+    match word.first() {
+        None => false,
+        Some(byte) => *byte != b';' && *byte != b'#' && *byte != b'\r',
+    }
+}
+
+/// The first word of a text's first line that is neither blank nor a comment; `None` if there is no such line.
+fn leading_word(text: &[u8]) -> Option<&[u8]>
+    ensures { option_map (λ word. word.now) result ≡ leading_word (lines_of text.now) }
+{
+    let mut left = text;
+    while let Some((line, rest)) = next_line(left) {
+        let (word, _) = up_to_blank(without_indent(line));
+        if has_content(word) {
+            return Some(word);
+        }
+        left = rest;
+    }
+    None
+}
+
+/// The kind that an input is meant to be, by its leading word, even a misspelled one; otherwise a check.
 ///
 /// # Errors
 ///
@@ -48,10 +73,9 @@ fn misspelled_subject(alloc: Global, word: &[u8]) -> Result<Subject>
 pub fn subject_of(alloc: Global, text: &[u8]) -> Result<Subject>
     ensures { IfOk result (IsMeant (lines_of text.now)) }
 {
-    let Some((line, _)) = next_line(text) else {
+    let Some(word) = leading_word(text) else {
         return Ok(Subject::Check);
     };
-    let word = head_word(line);
     match subject_named(word) {
         Some(subject) => Ok(subject),
         None => misspelled_subject(alloc, word),

@@ -8,7 +8,7 @@ from collections.abc import Callable, Generator, Iterator, Mapping, Sequence
 from typing import TYPE_CHECKING, Any, NamedTuple, Optional, Union, cast
 
 from .._errors import IncompleteOutputError, ParameterError
-from .._renamed import IN_JOB, renamed
+from .._renamed import IN_JOB, need_current_name
 from .._runs.calls import ask, ask_by_line, ask_for_bytes
 from .._runs.processes import set_to, setting
 from .._results.snapshots import Snapshot, Snapshots, snapshots_in
@@ -240,7 +240,7 @@ class Job:
     if not TYPE_CHECKING:
 
         def __getattr__(self, name: str) -> Any:
-            renamed("a job", name, IN_JOB)
+            need_current_name("a job", name, IN_JOB)
             raise AttributeError(f"a job has no attribute {name!r}")
 
     def _rule_at(self, step: int) -> Rule:

@@ -48,10 +48,10 @@ def snapshots(job: Job, selected: RunOptions) -> Iterator[Snapshot]:
     number that divides `every`, `first` and the steps of an input."""
     options = ["--every", str(gcd(selected.every, selected.first, MAX_STEPS)), *option("workers", selected.workers, 1)]
     # The last snapshot so far, with which the next input begins.
-    last: list[Snapshot] = []
-    for offset, part in _parts(job, lambda _: last.pop()):
+    last_so_far: list[Snapshot] = []
+    for offset, part in _parts(job, lambda _: last_so_far.pop()):
         for snapshot in snapshots_in(ask_by_line(["run", *options], part.text())):
-            last[:] = [snapshot]
+            last_so_far[:] = [snapshot]
             # The first snapshot of a part is the last one of the part before it.
             step = offset + snapshot.step
             is_repeated = snapshot.step == 0 and offset > 0
@@ -98,10 +98,12 @@ def _last_snapshot(job: Job, workers: int) -> Snapshot:
 
 def _joined(narrow: Iterator[Window], count: int) -> Iterator[Window]:
     """Join every `count` consecutive windows into one."""
-    for last in narrow:
-        sums, joined = list(last), 1
-        for joined, last in enumerate(islice(narrow, count - 1), 2):
+    for first in narrow:
+        # One window after the other, because `count` windows can be too many for the memory.
+        sums, last, joined = list(first), first, 1
+        for last in islice(narrow, count - 1):
             sums = [total + number for total, number in zip(sums, last)]
+            joined += 1
         if joined < count:
             raise IncompleteOutputError(f"the output of the series ends in the middle of a window, at step {last.step}")
         total = Window(*sums)

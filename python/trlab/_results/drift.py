@@ -8,7 +8,7 @@ from collections.abc import Sequence
 from typing import NamedTuple
 
 from .._errors import EstimateError, ParameterError
-from .._renamed import IN_ROW, renamed
+from .._renamed import IN_ROW, need_current_name
 from .tables import Row, Table, Window
 
 BATCHES = 20
@@ -56,7 +56,7 @@ class Drift(NamedTuple):
 
 def drift_of_series(table: Table[Row], column: str) -> Drift:
     """See `Table.drift`."""
-    renamed("a row", column, IN_ROW)
+    need_current_name("a row", column, IN_ROW)
     if column not in COLUMNS:
         raise ParameterError(f"`column` must be one of {', '.join(COLUMNS)}, not {column!r}")
     if table.kind is not Window:

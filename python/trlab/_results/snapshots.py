@@ -7,7 +7,7 @@ from typing import TYPE_CHECKING, Any, Optional, Union
 
 from .._errors import ParameterError, SnapshotsError
 from .._inputs.numbers import checked_int
-from .._renamed import IN_SNAPSHOTS, renamed
+from .._renamed import IN_SNAPSHOTS, need_current_name
 from .lists import ResultList
 from .written import Snapshot as Snapshot, WrittenSnapshots, snapshots_in as snapshots_in, read_snapshots, speeds_in
 
@@ -86,7 +86,7 @@ class Snapshots(ResultList[Snapshot]):
         return self._signed() >= 0
 
     def __getattr__(self, name: str) -> Any:
-        renamed("`Snapshots`", name, IN_SNAPSHOTS)
+        need_current_name("`Snapshots`", name, IN_SNAPSHOTS)
         raise AttributeError(f"Snapshots have no attribute {name!r}")
 
     def _signed(self) -> numpy.ndarray[Any, Any]:

@@ -7,7 +7,7 @@ from math import nan
 from collections.abc import Iterable, Sequence
 from typing import TYPE_CHECKING, Any, NamedTuple, TypeVar, Union
 
-from .._renamed import IN_ROW, IN_TABLE, renamed
+from .._renamed import IN_ROW, IN_TABLE, need_current_name
 from .lists import ResultList
 from .written_rows import WrittenRows, heading_of, read_rows
 
@@ -57,7 +57,7 @@ class _Counted:
         return self.changes / (self.cars * self.steps) if self.cars else nan
 
     def __getattr__(self, name: str) -> Any:
-        renamed("a row", name, IN_ROW)
+        need_current_name("a row", name, IN_ROW)
         raise AttributeError(f"a row has no {name!r}: its columns are {', '.join(getattr(type(self), '_fields'))}")
 
 
@@ -147,7 +147,7 @@ class Table(ResultList[Row]):
         return f"<table>{rows}</table><p>{escape(repr(self))}</p>"
 
     def __getattr__(self, name: str) -> Any:
-        renamed("`Table`", name, IN_TABLE)
+        need_current_name("`Table`", name, IN_TABLE)
         raise AttributeError(f"a table has no attribute {name!r}")
 
     @classmethod

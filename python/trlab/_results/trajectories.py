@@ -8,7 +8,7 @@ from typing import Any, NamedTuple
 
 from .._errors import ParameterError, SnapshotsError
 from .._inputs.numbers import checked_int
-from .._renamed import IN_TRAJECTORIES, renamed
+from .._renamed import IN_TRAJECTORIES, need_current_name
 from .arrays import numpy
 from .following import Array, OnRoad, follow
 from .jams import Jam, jams_of
@@ -60,7 +60,7 @@ class Trajectories(OnRoad):
         return f"<trajectories of {self.cars} cars, steps {self.first} to {self.first + len(self) - 1}>"
 
     def __getattr__(self, name: str) -> Any:
-        renamed("`Trajectories`", name, IN_TRAJECTORIES)
+        need_current_name("`Trajectories`", name, IN_TRAJECTORIES)
         raise AttributeError(f"trajectories have no attribute {name!r}")
 
     def time_headways(self, cell: int, lane: int = 0) -> Array:

@@ -3,12 +3,14 @@ from __future__ import annotations
 
 import ast
 
+# Each of these texts continues a message that begins with the rejected Python in backquotes.
 _LATER_TURNS = "is not possible: all turns of a loop are written out, so let an `if` decide what the later ones do"
 _NO_MEMORY = "is not possible: a rule has no memory, and changes only its own names"
 _ONLY_NUMBERS = "is not a number: a rule has only numbers, each with a name of its own"
 _ABOVE = "is not possible inside a rule: write a function with `def` above it, and call that"
 _ONE_VALUE = "is not possible: give the value a name above the function, or make it a parameter"
 
+# The advice for each class of `ast`, by its name.
 _INSTEAD = {
     "While": "may not end: write `for i in range(n)` with a constant n",
     "Break": _LATER_TURNS,

@@ -272,7 +272,7 @@ def _expected_files(place: Path, kind: Any, inputs: Optional[Mapping[str, Union[
 
 
 def _all_files_in(place: Path, kind: Any, before: Mapping[str, tuple[str, ...]]) -> dict[str, list[_File]]:
-    """As `_wanted`, for all tables of a folder, whose inputs are unknown."""
+    """As `_expected_files`, for all tables of a folder, whose inputs are unknown."""
     files: dict[str, list[_File]] = {}
     for name in sorted(file.stem for file in place.glob("[!.]*.csv")):
         part = _PART.fullmatch(name)

@@ -38,9 +38,10 @@ class RejectionError(ProgramError):
 
 
 class Processes:
-    """The running processes of one `results`, or of one call outside of all tasks, so that all of them can be stopped.
+    """The running processes of one `trlab.results`, which runs each input in a task, or of one call of the program
+    outside of all tasks. They can be stopped together.
 
-    Processes of a `results` inside a call belong to the `outer` one too."""
+    Processes of a `results` inside a task belong to the `outer` one too."""
 
     def __init__(self, outer: Optional[Processes] = None, is_stopped: bool = False) -> None:
         self.is_stopped = is_stopped

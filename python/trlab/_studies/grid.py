@@ -13,7 +13,7 @@ from typing import TYPE_CHECKING, Any, Union, cast
 from .._errors import ParameterError
 from .._inputs.jobs import Job
 from .._inputs.sweeps import Sweep
-from .._renamed import IN_GRID, renamed
+from .._renamed import IN_GRID, need_current_name
 from .._runs.many import results as results_of
 from .keys import as_fraction, key_for, written
 from .roads import KnownRoads, all_of, known_roads, without_key
@@ -124,7 +124,7 @@ class Grid:
         return f"<grid of {len(self.inputs)} inputs by {', '.join(self.names)}>"
 
     def __getattr__(self, name: str) -> Any:
-        renamed("a grid", name, IN_GRID)
+        need_current_name("a grid", name, IN_GRID)
         raise AttributeError(f"a grid has no {name!r}")
 
     def results(self, **options: Any) -> Iterator[tuple[Any, Any]]:

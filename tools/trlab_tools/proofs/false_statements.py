@@ -80,6 +80,8 @@ THREE_CELLS = job(1, NASCH, 1, "0..")
 BLOCKED = job(2, NASCH, 2, "01....")
 
 # Each with the law, its file, the old text and the new one; the runs; and the expressions of the law and of the false statement.
+# The expressions have the symbols of docs/LAWS.md, such as D and N, for the first run, and b.D and c.D for the second and third;
+# counterexamples.py defines them.
 FALSE = [
     # Bounds on the flow
     False_("step_stays_under_triangle", "Bounds", "IsDistanceUnderTriangle road 1 tally.distance", "IsDistanceUnderTriangle road 1 (tally.distance + 1)",

@@ -16,7 +16,8 @@ use trlab_jobs::Subject;
 /// A request for an explanation.
 #[derive(Clone, Copy)]
 pub enum ExplainRequest {
-    /// Explain the input on standard input in this form. Without a subject, its first word determines its kind.
+    /// Explain the input on standard input in this form. Without a subject, its first word outside comments
+    /// determines its kind.
     Text(Option<Subject>, Form),
     /// Explain the cause or the reason with this number.
     Number(Topic, u32),

@@ -33,7 +33,7 @@ def draw() -> str:
     diagram.curve(exact, GREEN)
     measured = means("1992/full_table.csv", "0.")
     diagram.line(measured, BLUE)
-    diagram.circles(measured, BLUE, 2.4)
+    diagram.circles(measured, BLUE, radius=2.4)
     diagram.title("flow against density, v_max = 5")
     diagram.label(0.29, 0.74, "p = 0, exact", GREY)
     diagram.label(0.18, 0.335, "p = 1/2, measured", BLUE)

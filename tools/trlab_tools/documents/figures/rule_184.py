@@ -23,7 +23,7 @@ def triangles(drawing: Drawing) -> None:
         diagram.line([(0, 0), (top, limit * top), (1, 0)], stroke)
         road = ["sweep 1", f"key {0:064}", f"limit {limit}", f"length {LENGTH}", "lanes 1", RULE, "warm 700", "measure 100"]
         measured = flows([*road, *(f"cars {cars}" for cars in CARS)])
-        diagram.circles([(cars / LENGTH, flow) for cars, flow in zip(CARS, measured)], stroke, 2.6)
+        diagram.circles([(cars / LENGTH, flow) for cars, flow in zip(CARS, measured)], stroke, radius=2.6)
         diagram.label(top + 0.03, limit * top + 0.02, f"v_max = {limit}", stroke)
     diagram.title("flow against density, p = 0")
 

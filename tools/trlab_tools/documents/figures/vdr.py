@@ -12,8 +12,9 @@ RULE = [f"rule vdr {parts(BRAKE)} {parts(BRAKE_AT_START)}"]
 # The initial state of each run.
 LANES = {"from moving cars": moving_cars(CARS, CELLS, LIMIT), "from one jam": "0" * CARS + "." * (CELLS - CARS)}
 TABLE = "1998/table.csv"
-# At these densities all runs stay on the branch of their initial state.
-BOTH = 0.055, 0.14
+# Between these densities all runs stay on the branch of their initial state.
+BOTH_BRANCHES = 0.055, 0.14
+# The highest density of the diagram.
 WIDEST = 0.2
 
 
@@ -29,15 +30,16 @@ def jam_line(density: float) -> float:
 
 def branches(drawing: Drawing) -> None:
     """The flow of each run, with the two lines, and the densities of both branches in grey."""
-    diagram = Diagram(drawing, PANELS[2], WIDEST, 0.85, 0.05, 0.2)
-    low, high = diagram.across(BOTH[0]), diagram.across(BOTH[1])
-    drawing.box(low, TOP, high - low, BOTTOM - TOP, "#eeeeee", "none", 0)
+    diagram = Diagram(drawing, PANELS[2], widest=WIDEST, highest=0.85, density_step=0.05, flow_step=0.2)
+    low, high = map(diagram.across, BOTH_BRANCHES)
+    drawing.box(low, TOP, high - low, BOTTOM - TOP, fill="#eeeeee", stroke="none", round_by=0)
     diagram.title_flow("cars per step")
-    diagram.curve(free_line, BLUE, 0, 0.165)
-    diagram.curve(jam_line, RED, 0, WIDEST)
+    diagram.curve(free_line, BLUE, end=0.165)
+    diagram.curve(jam_line, RED, end=WIDEST)
     for begin, fill in ("moving", BLUE), ("jam", RED):
         branch = {density: flows for density, flows in runs(TABLE, f"{begin}_").items() if density <= WIDEST}
-        diagram.circles([(density, flow) for density, flows in branch.items() for flow in flows], fill, 2.8, 0.6)
+        points = [(density, flow) for density, flows in branch.items() for flow in flows]
+        diagram.circles(points, fill, radius=2.8, opacity=0.6)
     diagram.label(0.083, 0.53, "free line", BLUE, "end")
     diagram.label(0.195, 0.14, "jam line", RED, "end")
     drawing.text((low + high) / 2, 50, "two flows", "middle", SMALL, "#606060")
