@@ -200,7 +200,9 @@ END {
     end_snapshot()
     if (!cells) refuse("there is no snapshot: did trlab reject its input, or is `--from` after the last step?")
     fastest += 0
-    for (place in now) finish(now[place], substr(place, 1, index(place, SUBSEP) - 1))
+    # In an order of its own, because each awk goes through the elements of an array in another one.
+    for (lane = 0; lane < lanes; lane++)
+        for (cell = 0; cell < cells; cell++) if ((lane, cell) in now) finish(now[lane, cell], lane)
     across = (lanes > 1 ? 300 : 600) / cells
     if (across > 12) across = 12
     down = steps * across > 700 ? 700 / steps : across

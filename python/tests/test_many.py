@@ -51,7 +51,7 @@ class Results(unittest.TestCase):
         is_over = threading.Event()
 
         def call(number):
-            self.assertTrue(number > 0 or is_over.wait(10))
+            self.assertTrue(number > 0 or is_over.wait(LIMIT))
             return number
 
         results = trlab.results([0, 1, 2], call=call, at_once=2)

@@ -4,8 +4,12 @@ import os
 import subprocess
 import tempfile
 from collections.abc import Iterator
+from unittest import mock
 
 from .. import TOP, program
+
+# Debian's awk, and that of most other systems.
+AWKS = "mawk", "gawk"
 
 
 @contextlib.contextmanager
@@ -16,6 +20,15 @@ def folder_of_reader() -> Iterator[str]:
         for name in "docs", "examples":
             os.symlink(TOP / name, os.path.join(folder, name))
         yield folder
+
+
+@contextlib.contextmanager
+def awk_of(path: str) -> Iterator[None]:
+    """Within it this program is the command `awk`."""
+    with tempfile.TemporaryDirectory() as folder:
+        os.symlink(path, os.path.join(folder, "awk"))
+        with mock.patch.dict(os.environ, PATH=os.pathsep.join([folder, os.environ["PATH"]])):
+            yield
 
 
 def run(lines: str, folder: str) -> tuple[str, bool]:

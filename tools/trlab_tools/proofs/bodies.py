@@ -425,8 +425,9 @@ class Crate:
         """The verdict on one of the bodies that were tried together, from what the prover says."""
         changed = self.changed_by(body)
         if body.function:
-            goals = tuple(f"`returns-clause-{clause}`" for clause in self.clauses_against(body, round_) if clause)
-            lines = [line for line in lines if not goals or any(goal in line for goal in goals)]
+            goals = [f"`returns-clause-{clause}`" for clause in self.clauses_against(body, round_) if clause]
+            # The goal of a law's only clause has no name.
+            lines = [line for line in lines if not goals or any(goal in line for goal in ["`returns`", *goals])]
         refused = {change: self.refusal(lines, path) for path, change in changed.items()}
         return Verdict({change: line for change, line in refused.items() if line}, self.message_of(lines, changed))
 
