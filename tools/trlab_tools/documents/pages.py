@@ -7,7 +7,7 @@ from ..finding import match_in
 from . import standing
 
 # For pages with many blocks, which do not count.
-MAX_WORDS_OUTSIDE_BLOCKS = {"README.md": 1230, "docs/TUTORIAL.md": 930, "docs/CHEATSHEET.md": 640, "docs/FAQ.md": 850}
+MAX_WORDS_OUTSIDE_BLOCKS = {"README.md": 1290, "docs/TUTORIAL.md": 980, "docs/CHEATSHEET.md": 640, "docs/FAQ.md": 850}
 INDEX = "docs/README.md"
 # A number with decimals.
 NUMBER = re.compile(r"\d+\.\d+")
