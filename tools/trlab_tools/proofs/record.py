@@ -21,6 +21,8 @@ HEAD = "# Written by `tools/mutants --write`: each wrong body, a function that i
 # The logic in the output of `rt --version`.
 LOGIC = re.compile(r"\blogic (\w+)")
 MAX_CHARACTERS = 150
+# Where the prover would look for a proof by hand; the row of a record already names the function.
+PLACE_OF_ANSWERS = re.compile(r"expected answers in \S+; ")
 # What the prover says of the functions that each body changes, by the body's name and their paths.
 Recorded = dict[str, dict[str, str]]
 
@@ -95,6 +97,7 @@ def verdict_on(crate: Crate, body: Body, recorded: Recorded) -> Verdict:
 
 def shortened(line: str) -> str:
     """The beginning of what the prover says, with the words that show whether a clause was refused."""
+    line = PLACE_OF_ANSWERS.sub("", line)
     refusal = OF_CLAUSE.search(line)
     return line[:max(MAX_CHARACTERS, refusal.end() if refusal else 0)].replace("\t", " ")
 
