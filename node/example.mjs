@@ -3,6 +3,7 @@
 import { RejectedInputError, sweep } from "./trlab.mjs";
 
 const ALWAYS = 2 ** 31, p = 1 / 4;
+/** @param {number[]} counts The cars of each road of the sweep. */
 const file = counts => `sweep 1
 key ${"0".repeat(64)}
 limit 5

@@ -1,4 +1,4 @@
-// trlab for scripts: jobs, series, sweeps and driver programs, computed by the program in WebAssembly. trlab.d.ts has the types.
+// trlab for scripts: jobs, series, sweeps and driver programs, computed by the program in WebAssembly. trlab.d.mts has the types.
 
 import { ParameterError, ProgramError, RejectedInputError } from "./errors.mjs";
 import { rowOf, snapshotsFrom } from "./results.mjs";

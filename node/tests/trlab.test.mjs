@@ -88,7 +88,7 @@ test("invalid arguments", { skip: missing }, () => {
 });
 
 test("the types name the exports of the module", () => {
-  const types = readFileSync(new URL("../trlab.d.ts", import.meta.url), "utf8");
+  const types = readFileSync(new URL("../trlab.d.mts", import.meta.url), "utf8");
   const named = new Set([...types.matchAll(/^export (?:function|class) (\w+)/gm)].map(it => it[1]));
   assert.deepEqual([...named].sort(), Object.keys(trlab).sort());
 });

@@ -64,16 +64,16 @@ export interface Each<Result> {
 }
 
 /** Compute a job, and return its snapshots. */
-export function run(job: Input, options?: Steps): Snapshot[];
 export function run(job: Input, options: Steps & Each<Snapshot>): undefined;
+export function run(job: Input, options?: Steps): Snapshot[];
 
 /** Compute a job, and return the counts of its windows. */
-export function series(job: Input, options?: Steps): Window[];
 export function series(job: Input, options: Steps & Each<Window>): undefined;
+export function series(job: Input, options?: Steps): Window[];
 
 /** Compute a sweep, and return its points. */
-export function sweep(sweep: Input): Point[];
 export function sweep(sweep: Input, options: Each<Point>): undefined;
+export function sweep(sweep: Input): Point[];
 
 /** Verify a driver program. */
 export function check(program: Input): AcceptedProgram;
