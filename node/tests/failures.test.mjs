@@ -11,15 +11,17 @@ const MEMORY = 3, PAGE = 65536;
 /** The most bytes of the module's memory. */
 const LIMIT = 2 ** 32 - 2 ** 20;
 const bytesOf = text => new TextEncoder().encode(text);
-/** The end of a call: its status, or the error that stopped it, and its output. */
-function ended(words, text, module, prepare = () => {}) {
+/** The end of a call: its status, or the error that stopped it, and its output. All blocks of memory are above the address
+ * `base`, if there is one, and otherwise above the data of the module. */
+function ended(words, text, module, { prepare = () => {}, base } = {}) {
   const pieces = [], put = (bytes, isError) => isError || pieces.push(bytes);
   const host = hostOf({ words, input: bytesOf(text), put });
   let status, instance;
   prepare(host.known, () => instance);
   try {
     instance = new WebAssembly.Instance(module, host.importsOf(module));
-    status = host.start(instance)();
+    const { memory, main, __heap_base } = instance.exports;
+    status = host.start({ exports: { memory, main, __heap_base: { value: base ?? __heap_base.value } } })();
   } catch (fault) {
     status = fault instanceof Exit ? fault.status : fault;
   }
@@ -50,7 +52,7 @@ test("each allocation fails in turn", { skip: missing }, () => {
       }
     };
     for (let number = 1; ; number++) {
-      const { status, output } = ended(words, text, module, refuse(number));
+      const { status, output } = ended(words, text, module, { prepare: refuse(number) });
       if (refused < number) break;
       assert.ok(status === MEMORY || status === 0, `${words}, allocation ${number}: ${status}`);
       if (status === 0) assert.equal(output, right.output);
@@ -83,7 +85,7 @@ test("a stack that overflows is an error, and never a wrong output", { skip: mis
             return main(...given);
           };
         };
-        const { status, output } = ended(words, text, withStack(power), fill);
+        const { status, output } = ended(words, text, withStack(power), { prepare: fill });
         const isStopped = status instanceof WebAssembly.RuntimeError;
         if (isStopped) stopped.add(power);
         assert.ok(isStopped ? right.output.startsWith(output) : status === 0 && output === right.output, `${words}, 2**${power} bytes: ${status}`);
@@ -91,6 +93,18 @@ test("a stack that overflows is an error, and never a wrong output", { skip: mis
     }
   }
   assert.ok(stopped.has(14) && !stopped.has(19), [...stopped].join());
+});
+
+test("addresses of 31 and 32 bits give the same output", { skip: missing }, () => {
+  const module = new WebAssembly.Module(moduleBytes());
+  // Above 2 GiB an address is negative for instructions that have a sign. The second heap has blocks on both sides of 2 GiB.
+  for (const base of [2 ** 31, 2 ** 31 - 2 ** 14, LIMIT - 2 ** 26]) {
+    for (const [words, text] of CALLS) {
+      const { status, output } = ended(words, text, module, { base });
+      assert.equal(status, 0, `${words} above ${base}`);
+      assert.equal(output, ended(words, text, module).output);
+    }
+  }
 });
 
 test("the memory ends 1 MiB below 4 GiB", { skip: missing }, () => {
