@@ -34,7 +34,7 @@ MAX_WORDS = {
     "docs/FILES.md": 2450,
     "docs/GLOSSARY.md": 780,
     "docs/LAB.md": 1750,
-    "docs/LAWS.md": 3990,
+    "docs/LAWS.md": 4280,
     "docs/LAWS_BY_EXAMPLE.md": 400,
     "docs/MODELS.md": 2200,
     "docs/PROGRAMS.md": 2700,
