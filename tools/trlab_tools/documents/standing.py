@@ -36,7 +36,7 @@ MAX_WORDS = {
     "docs/LAB.md": 1750,
     "docs/LAWS.md": 4280,
     "docs/LAWS_BY_EXAMPLE.md": 400,
-    "docs/MODELS.md": 2080,
+    "docs/MODELS.md": 2030,
     "docs/PROGRAMS.md": 2650,
     "docs/PYTHON.md": 2780,
     "docs/README.md": 310,
