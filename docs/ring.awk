@@ -1,4 +1,4 @@
-# A moving picture of the output of `trlab run` on one lane: a ring of cars, as an animated SVG image for browsers.
+# An animation of the output of `trlab run` on one lane: a ring of cars, as an SVG image for browsers.
 #
 #   ./trlab run < examples/platoon.job | awk -f docs/ring.awk > ring.svg
 #
@@ -83,7 +83,7 @@ function car_of(car,  count, parts, k, colours, first) {
 
 END {
     if (failed) exit 1
-    if (shown < 2) refuse("a moving picture needs two snapshots: did trlab reject its input?")
+    if (shown < 2) refuse("an animation needs two snapshots: did trlab reject its input?")
     radius = 0.45 * 2 * 3.14159265 * 120 / cells
     radius = radius > 8 ? 8 : radius < 2 ? 2 : radius
     print "<svg xmlns=\"http://www.w3.org/2000/svg\" viewBox=\"-140 -140 280 280\" width=\"280\" height=\"280\">"

@@ -162,7 +162,7 @@ def best_of(runs: Mapping[Name, tuple[Any, ...]], count: int) -> dict[Name, Time
 
 def agreement() -> str:
     """The number of best times so far that were found twice."""
-    return f"{sum(SETTLED)} of {len(SETTLED)} best times were found twice, to 2 percent or 0.5 ms"
+    return f"Of {len(SETTLED)} best times, {sum(SETTLED)} were confirmed by another run, to 2 percent or 0.5 ms"
 
 
 def memory(command: Sequence[str], path: str, output: str = os.devnull) -> int:

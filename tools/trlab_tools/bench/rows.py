@@ -16,13 +16,9 @@ ROWS_OF_PAGE = [
     ("`vdr 33554432 1610612736`", 100000, 30000),
     ("`rickert 536870912 1073741824`", 100000, 60000),
     ("`nasch 536870912`", 1000, 300),
-    ("`nasch 536870912`", 100, 30),
     ("`nasch 536870912`", 100, 5),
-    ("memory, `nasch 536870912`", 100000, 30000),
     ("sweep of 7 points, `nasch 536870912`, 4 runners", 1000, 3500),
     ("`nasch 536870912`, 4 workers", 100000, 30000),
-    ("`nasch 536870912`, four runs at once", 100000, 30000),
-    ("`rickert 536870912 1073741824`, 4 workers", 50000, 30000),
 ]
 # The ratio behind a time, such as ` (0.85)`.
 RATIO = re.compile(r" \(\d+\.\d+\)$")

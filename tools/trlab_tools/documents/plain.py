@@ -1,7 +1,7 @@
 """Is the English of messages and pages plain? Help texts, explanations, the messages of ./trlab, the docstrings of the
 Python package, the pages for users and those with a word limit may use few of the words that often replace a noun or a
-condition. The guides, and so the references, must have enough of the words that connect and advise, and sentences that are
-neither choppy nor long."""
+condition. The pages of each kind, and all pages for users together, must have enough of the words that connect and advise,
+and sentences that are neither choppy nor long."""
 import ast
 import os
 import re
@@ -19,17 +19,24 @@ COMMENT = re.compile(r"//[^\n]*")
 LITERAL = re.compile(r'"((?:[^"\\]|\\.)*)"', re.S)
 MESSAGE = re.compile(r'\b(?:say|fail|echo) "([^"]*)"')
 DOCUMENTED = ast.Module, ast.ClassDef, ast.FunctionDef
-GUIDES = "README TUTORIAL CHEATSHEET FAQ MODELS PROGRAMS PYTHON STUDIES LAWS LAWS_BY_EXAMPLE LAB ERRORS SPEED".split()
-FOLDERS = "cases examples node studies studies/1992 studies/1996 studies/1998 studies/exact studies/paper studies/triangle".split()
-PAGES = ["README.md", *(f"docs/{name}.md" for name in GUIDES), *(f"{name}/README.md" for name in FOLDERS)]
-# The pages of each kind may together not have fewer connecting words per 1000 than half of the share in Python's language
-# reference.
-CONNECTED = {
-    "guides": "README TUTORIAL CHEATSHEET FAQ MODELS PROGRAMS PYTHON STUDIES LAB SPEED COURSE".split(),
-    "references": "LAWS VERIFIER FILES RELIABILITY".split(),
-    "pages for maintainers": "ARCHITECTURE BOOK CALLS DECISIONS EMBEDDING EXTENDING GLOSSARY GUARANTEES README".split(),
+# The pages of each kind. Together they may not have fewer connecting words per 1000 than half of the share in Python's
+# language reference.
+GUIDES = "TUTORIAL CHEATSHEET FAQ MODELS PROGRAMS PYTHON STUDIES LAB SPEED COURSE LAWS_BY_EXAMPLE".split()
+REFERENCES = "LAWS VERIFIER FILES RELIABILITY ERRORS GLOSSARY".split()
+STUDIES = "studies studies/1992 studies/1996 studies/1998 studies/exact studies/paper studies/triangle".split()
+MAINTAINERS = "ARCHITECTURE BOOK CALLS DECISIONS EMBEDDING EXTENDING GLOSSARY GUARANTEES README".split()
+PAGES_FOR_USERS = {
+    "guides": ["README.md", *(f"docs/{name}.md" for name in GUIDES), "examples/README.md", "node/README.md"],
+    "references": [f"docs/{name}.md" for name in REFERENCES],
+    "studies": [f"{name}/README.md" for name in STUDIES],
 }
-CONNECTING = {"can": 2.2, "when": 2.0, "will": 1.4, "should": 1.3, "but": 0.8}
+KINDS = {
+    **PAGES_FOR_USERS,
+    "pages for users": [page for pages in PAGES_FOR_USERS.values() for page in pages],
+    "pages for maintainers": [f"docs/dev/{name}.md" for name in MAINTAINERS],
+}
+PAGES = [*KINDS["pages for users"], "cases/README.md"]
+CONNECTING = {"can": 2.2, "when": 2.0, "will": 1.45, "should": 1.3, "but": 0.8}
 MEAN_SENTENCE = 14, 20  # words
 # Parts of a page that are not sentences; where a paragraph or an item begins; and where a sentence does.
 NO_SENTENCES = re.compile(r"^```.*?^```$|<!-- .*? -->.*?<!-- end -->|^ *(?:\||!\[|<img|#).*?$|\]\([^)]*\)", re.M | re.S)
@@ -81,17 +88,10 @@ def sentences(text: str) -> Iterator[list[str]]:
                 yield words
 
 
-def path_of(kind: str, name: str) -> str:
-    """The path of a page of this kind."""
-    if kind == "pages for maintainers":
-        return f"docs/dev/{name}.md"
-    return "README.md" if name == "README" else f"docs/{name}.md"
-
-
 def pages_are_connected() -> Verdicts:
     """Whether the pages of each kind together have enough of each connecting word, and the mean length of their sentences."""
-    for kind, names in CONNECTED.items():
-        all_sentences = [words for name in names for words in sentences(content(path_of(kind, name)))]
+    for kind, pages in KINDS.items():
+        all_sentences = [words for page in pages for words in sentences(content(page))]
         words = re.findall(r"[a-z][\w'-]*", " ".join(" ".join(words) for words in all_sentences).lower())
         for word, least in CONNECTING.items():
             share = 1000 * words.count(word) / len(words)
