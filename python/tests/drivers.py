@@ -1,6 +1,6 @@
 """The drivers of selenium for Chromium and Firefox without a window. Chromium has a driver of its own. The one of Firefox,
-geckodriver, is not packaged by Debian, so that the commands of selenium are sent to Firefox in its own protocol, Marionette, as
-geckodriver would do."""
+geckodriver, is not packaged by Debian, and selenium can only fetch it from the network. So the commands of selenium that the
+tests need are sent to Firefox in its own protocol, Marionette, as geckodriver would do."""
 import json
 import shutil
 import socket
@@ -21,11 +21,6 @@ from tests.waiting import LIMIT, first_of
 CHROMIUM = shutil.which("chromium") or shutil.which("chromium-browser") or shutil.which("google-chrome") or ""
 CHROMEDRIVER = shutil.which("chromedriver") or ""
 FIREFOX = shutil.which("firefox-esr") or shutil.which("firefox") or ""
-SETTINGS = {
-    "marionette.port": 0, "app.update.disabledForTesting": True, "browser.shell.checkDefaultBrowser": False,
-    "datareporting.policy.dataSubmissionEnabled": False, "browser.aboutwelcome.enabled": False, "browser.startup.page": 0,
-    "remote.prefs.recommended": True,
-}
 # The names of the commands in Marionette.
 COMMANDS = {
     Command.GET: "WebDriver:Navigate", Command.GET_CURRENT_URL: "WebDriver:GetCurrentURL", Command.REFRESH: "WebDriver:Refresh",
@@ -84,8 +79,9 @@ class Marionette:
 
     def __init__(self, calm: bool, dark: bool) -> None:
         self.folder = tempfile.TemporaryDirectory()
-        settings = {**SETTINGS, "ui.prefersReducedMotion": int(calm), "layout.css.prefers-color-scheme.content-override": int(not dark)}
-        lines = [f"user_pref({json.dumps(name)}, {json.dumps(value)});\n" for name, value in settings.items()]
+        scheme = "layout.css.prefers-color-scheme.content-override"
+        settings = {"marionette.port": 0, "ui.prefersReducedMotion": int(calm), scheme: int(not dark)}
+        lines = [f'user_pref("{name}", {value});\n' for name, value in settings.items()]
         (Path(self.folder.name) / "user.js").write_text("".join(lines))
         words = ["--headless", "--marionette", "--remote-allow-system-access", "--no-remote", "--profile", self.folder.name]
         self.firefox = subprocess.Popen([FIREFOX, *words, "about:blank"], stdout=subprocess.DEVNULL, stderr=subprocess.DEVNULL)
