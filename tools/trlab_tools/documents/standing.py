@@ -25,8 +25,8 @@ MAX_WORDS_OF_A_DECISION = 60
 # whole: what another page says goes, and otherwise the limit rises. No page is cut for its limit.
 MAX_WORDS = {
     "CHANGELOG.md": 1500,
-    "CONTRIBUTING.md": 2010,
-    "README.md": 1530,
+    "CONTRIBUTING.md": 2040,
+    "README.md": 1330,
     "docs/CHEATSHEET.md": 730,
     "docs/COURSE.md": 2130,
     "docs/ERRORS.md": 1760,
