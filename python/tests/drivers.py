@@ -21,6 +21,7 @@ from tests.waiting import LIMIT, first_of
 CHROMIUM = shutil.which("chromium") or shutil.which("chromium-browser") or shutil.which("google-chrome") or ""
 CHROMEDRIVER = shutil.which("chromedriver") or ""
 FIREFOX = shutil.which("firefox-esr") or shutil.which("firefox") or ""
+SETTINGS = {"marionette.port": 0}  # of Firefox, which chooses a port
 # The names of the commands in Marionette.
 COMMANDS = {
     Command.GET: "WebDriver:Navigate", Command.GET_CURRENT_URL: "WebDriver:GetCurrentURL", Command.REFRESH: "WebDriver:Refresh",
@@ -79,9 +80,8 @@ class Marionette:
 
     def __init__(self, calm: bool, dark: bool) -> None:
         self.folder = tempfile.TemporaryDirectory()
-        scheme = "layout.css.prefers-color-scheme.content-override"
-        settings = {"marionette.port": 0, "ui.prefersReducedMotion": int(calm), scheme: int(not dark)}
-        lines = [f'user_pref("{name}", {value});\n' for name, value in settings.items()]
+        settings = {**SETTINGS, "ui.prefersReducedMotion": int(calm), "layout.css.prefers-color-scheme.content-override": int(not dark)}
+        lines = [f"user_pref({json.dumps(name)}, {json.dumps(value)});\n" for name, value in settings.items()]
         (Path(self.folder.name) / "user.js").write_text("".join(lines))
         words = ["--headless", "--marionette", "--remote-allow-system-access", "--no-remote", "--profile", self.folder.name]
         self.firefox = subprocess.Popen([FIREFOX, *words, "about:blank"], stdout=subprocess.DEVNULL, stderr=subprocess.DEVNULL)
