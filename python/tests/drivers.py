@@ -1,6 +1,6 @@
 """The drivers of selenium for Chromium and Firefox without a window. Chromium has a driver of its own. The one of Firefox,
-geckodriver, is not packaged by Debian, so that the commands of selenium are sent to Firefox in its own protocol, Marionette, as
-geckodriver would do."""
+geckodriver, is not packaged by Debian, and selenium can only fetch it from the network. So the commands of selenium that the
+tests need are sent to Firefox in its own protocol, Marionette, as geckodriver would do."""
 import json
 import shutil
 import socket
@@ -21,11 +21,7 @@ from tests.waiting import LIMIT, first_of
 CHROMIUM = shutil.which("chromium") or shutil.which("chromium-browser") or shutil.which("google-chrome") or ""
 CHROMEDRIVER = shutil.which("chromedriver") or ""
 FIREFOX = shutil.which("firefox-esr") or shutil.which("firefox") or ""
-SETTINGS = {
-    "marionette.port": 0, "app.update.disabledForTesting": True, "browser.shell.checkDefaultBrowser": False,
-    "datareporting.policy.dataSubmissionEnabled": False, "browser.aboutwelcome.enabled": False, "browser.startup.page": 0,
-    "remote.prefs.recommended": True,
-}
+SETTINGS = {"marionette.port": 0}  # of Firefox, which chooses a port
 # The names of the commands in Marionette.
 COMMANDS = {
     Command.GET: "WebDriver:Navigate", Command.GET_CURRENT_URL: "WebDriver:GetCurrentURL", Command.REFRESH: "WebDriver:Refresh",

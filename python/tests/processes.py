@@ -11,6 +11,7 @@ from pathlib import Path
 from typing import Union
 from unittest import mock
 
+from tests.waiting import holds
 from trlab import find_program
 
 PYTHON = Path(__file__).resolve().parents[1]
@@ -25,6 +26,14 @@ class Marked(subprocess.Popen[str]):
         pipe = subprocess.PIPE
         super().__init__(command, env=environment, text=True, stdin=pipe, stdout=pipe, stderr=subprocess.DEVNULL)
         self.mark = mark
+
+    def comes_to_run(self, count: int) -> bool:
+        """Whether this number of programs comes to run for the process before it ends."""
+
+        def do_run() -> bool:
+            return len(marked(self.mark, find_program())) == count
+
+        return holds(lambda: do_run() or self.poll() is not None) and do_run()
 
 
 def logging_program(folder: Folder) -> Path:

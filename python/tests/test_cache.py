@@ -14,6 +14,7 @@ from unittest import mock
 
 import trlab
 from tests.processes import PYTHON, calls, child, kill, logging_program, marked
+from tests.skips import needs_pools
 from tests.waiting import holds
 from trlab import Job, Nasch, ParameterError, ProgramError, RejectedInputError, ResultFilesError, Rickert, Sweep
 from trlab._runs import cache as caching
@@ -293,10 +294,10 @@ class Killed(unittest.TestCase):
         with tempfile.TemporaryDirectory() as cache:
             running = child(LONG, "threads", "interrupt", cache)
             self.assertEqual(running.stdout.readline(), "first\n")
-            self.assertTrue(holds(lambda: len(marked(running.mark, trlab.find_program())) == 3))
+            self.assertTrue(running.comes_to_run(3))
             mine = child(LONG, "threads", "interrupt", cache)
             self.assertEqual(mine.stdout.readline(), "first\n")
-            self.assertTrue(holds(lambda: len(marked(mine.mark, trlab.find_program())) == 3))
+            self.assertTrue(mine.comes_to_run(3))
             running.kill()
             running.communicate()
             self.assertTrue(holds(lambda: not marked(running.mark)))
@@ -324,7 +325,7 @@ class Stopped(unittest.TestCase):
             process = child(LONG, executor, ending, cache)
             try:
                 self.assertEqual(process.stdout.readline(), "first\n")
-                self.assertTrue(holds(lambda: len(marked(process.mark, trlab.find_program())) == 3))
+                self.assertTrue(process.comes_to_run(3))
                 if ending == "interrupt":
                     process.send_signal(signal.SIGINT)
                 else:
@@ -340,21 +341,29 @@ class Stopped(unittest.TestCase):
             finally:
                 kill(process)
 
-    def test_all_kinds_of_ends(self):
+    def try_all(self, executor):
         expected = {
             "interrupt": ["KeyboardInterrupt\n", "over\n"], "raise": ["KeyError\n", "over\n"], "break": ["over\n"],
             "hold": [""],
         }
-        for executor in "threads", "pool", "processes":
-            for ending, lines in expected.items():
-                with self.subTest(executor=executor, ending=ending):
-                    self.assertEqual(self.try_one(executor, ending), lines)
+        for ending, lines in expected.items():
+            with self.subTest(executor=executor, ending=ending):
+                self.assertEqual(self.try_one(executor, ending), lines)
 
+    def test_all_kinds_of_ends(self):
+        self.try_all("threads")
+        self.try_all("pool")
+
+    @needs_pools
+    def test_all_kinds_of_ends_with_processes(self):
+        self.try_all("processes")
+
+    @needs_pools
     def test_a_killed_run_leaves_nothing_in_other_processes(self):
         with tempfile.TemporaryDirectory() as cache:
             running = child(LONG, "processes", "interrupt", cache)
             self.assertEqual(running.stdout.readline(), "first\n")
-            self.assertTrue(holds(lambda: len(marked(running.mark, trlab.find_program())) == 3))
+            self.assertTrue(running.comes_to_run(3))
             running.kill()
             running.wait()
             self.assertTrue(holds(lambda: not marked(running.mark, trlab.find_program())))

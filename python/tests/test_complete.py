@@ -12,6 +12,7 @@ from unittest import mock
 
 import trlab
 from tests.processes import MARK, PYTHON, child, kill, marked
+from tests.skips import needs_pools
 from tests.waiting import holds
 from trlab import (
     ExitStatusError, IncompleteOutputError, Job, Nasch, OutputFormatError, ProgramError, RejectedInputError, Rickert,
@@ -252,7 +253,7 @@ class Signals(unittest.TestCase):
             process = child(ENDLESS, way, cache)
             try:
                 self.assertEqual(process.stdout.readline(), "ready\n")
-                self.assertTrue(holds(lambda: len(marked(process.mark, find_program())) == programs))
+                self.assertTrue(process.comes_to_run(programs))
                 if in_thread:
                     process.stdin.write(f"{int(number)}\n")
                     process.stdin.flush()
@@ -266,17 +267,28 @@ class Signals(unittest.TestCase):
             finally:
                 kill(process)
 
+    def try_all(self, way, programs):
+        for number in signal.SIGTERM, signal.SIGHUP:
+            with self.subTest(way=way, signal=number):
+                self.assertEqual(self.try_one(way, number, programs), -number)
+
+    def try_in_thread(self, way, programs):
+        """Another thread gets the signal. The same happens if it comes just before the main thread waits."""
+        with self.subTest(way=way):
+            self.assertEqual(self.try_one(way, signal.SIGTERM, programs, in_thread=True), -signal.SIGTERM)
+
     def test_all_kinds_of_ends(self):
-        for way, programs in {"sweep": 1, "snapshots": 1, "inner": 2, "threads": 2, "pool": 2, "processes": 2}.items():
-            for number in signal.SIGTERM, signal.SIGHUP:
-                with self.subTest(way=way, signal=number):
-                    self.assertEqual(self.try_one(way, number, programs), -number)
+        for way, programs in {"sweep": 1, "snapshots": 1, "inner": 2, "threads": 2, "pool": 2}.items():
+            self.try_all(way, programs)
 
     def test_a_signal_that_does_not_interrupt_the_main_thread(self):
-        """Another thread gets it. The same happens if it comes just before the main thread waits."""
-        for way, programs in {"sweep": 1, "inner": 2, "threads": 2, "processes": 2}.items():
-            with self.subTest(way=way):
-                self.assertEqual(self.try_one(way, signal.SIGTERM, programs, in_thread=True), -signal.SIGTERM)
+        for way, programs in {"sweep": 1, "inner": 2, "threads": 2}.items():
+            self.try_in_thread(way, programs)
+
+    @needs_pools
+    def test_signals_with_processes(self):
+        self.try_all("processes", 2)
+        self.try_in_thread("processes", 2)
 
     def test_a_signal_while_a_program_is_started(self):
         process = child(IN_BETWEEN)

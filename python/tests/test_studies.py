@@ -107,6 +107,11 @@ def words_of(figure):
     return sorted(text for text in texts if any(letter.isalpha() for letter in text))
 
 
+def printed_pages():
+    """The output of each short script, as its page shows it."""
+    return dict(PRINTED.findall((STUDIES / "paper" / "README.md").read_text(encoding="utf-8")))
+
+
 def rows(file):
     """The lines of a table after its heading, by the names of their inputs."""
     lines_of_table = (line.split(",", 1) for line in file.read_text().splitlines()[1:])
@@ -222,11 +227,20 @@ class Studies(unittest.TestCase):
             study.save(shared.plt.subplots()[1])
             self.assertEqual({file.name for file in Path(folder).iterdir()}, {"table.csv", "texts", "figure.svg"})
 
-    def test_short_scripts_print_their_page(self):
-        pages = dict(PRINTED.findall((STUDIES / "paper" / "README.md").read_text(encoding="utf-8")))
-        self.assertEqual(set(pages), {file.stem for file in (STUDIES / "paper").glob("*.py")})
-        self.assertEqual(set(pages), {*QUICK, *SLOW})
-        names = [*QUICK, *(SLOW if os.environ.get("TRLAB_SLOW_STUDIES") else [])]
+    def test_each_short_script_is_on_the_page(self):
+        scripts = {file.stem for file in (STUDIES / "paper").glob("*.py")}
+        self.assertEqual(set(printed_pages()), scripts)
+        self.assertEqual(scripts, {*QUICK, *SLOW})
+
+    def test_quick_scripts_print_their_page(self):
+        self.try_scripts(QUICK)
+
+    @unittest.skipUnless(os.environ.get("TRLAB_SLOW_STUDIES"), f"some 6 minutes, only with TRLAB_SLOW_STUDIES=1: {', '.join(SLOW)}")
+    def test_slow_scripts_print_their_page(self):
+        self.try_scripts(SLOW)
+
+    def try_scripts(self, names):
+        pages = printed_pages()
         with tempfile.TemporaryDirectory() as folder, ThreadPoolExecutor() as pool:
             results = pool.map(lambda name: run_python(Path(folder) / name, f"studies/paper/{name}.py"), names)
             for name, drawn in zip(names, results):

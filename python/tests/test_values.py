@@ -18,7 +18,7 @@ from unittest import mock
 
 import trlab
 from tests.expected import NEEDS_TWO_LANES
-from tests.skips import needs
+from tests.skips import needs, needs_pools
 from tests.waiting import LIMIT
 from trlab import (
     Job, Nasch, Own, Snapshot, Snapshots, Point, RejectedInputError, RenamedError, Rickert, SlowToStart, Sweep, Table,
@@ -65,6 +65,7 @@ class Values(unittest.TestCase):
             self.assertEqual(str(copy), str(error))
             self.assertEqual(vars(copy), vars(error))
 
+    @needs_pools
     def test_errors_come_out_of_other_processes(self) -> None:
         rejected = replace(JOB, rule=Rickert(0, 0))
         with ProcessPoolExecutor(1) as processes:

@@ -75,9 +75,16 @@ def run(words: Sequence[str], text: bytes = b"", env: Optional[dict[str, str]] =
 
 
 def side_by_side(work: Callable[[Any], Any], items: Iterable[Any], chunk: int = 50) -> Iterator[Any]:
-    """The results of a function for items, in their order; as many processes as processors compute them."""
+    """The results of a function for items, in their order; as many processes as processors compute them, or only this one,
+    if processes cannot share the locks of a pool, for which Python needs /dev/shm."""
     find()  # a command without a program ends here
-    with ProcessPoolExecutor(max(1, (os.cpu_count() or 1))) as pool:
+    try:
+        pool = ProcessPoolExecutor(os.cpu_count() or 1)
+    except (ImportError, OSError) as error:
+        print(f"one process is used, which takes longer: processes cannot share a lock in /dev/shm ({error})", flush=True)
+        yield from map(work, items)
+        return
+    with pool:
         yield from pool.map(work, items, chunksize=chunk)
 
 

@@ -7,7 +7,7 @@ from ..finding import match_in
 from . import standing
 
 # For pages with many blocks, which do not count.
-MAX_WORDS_OUTSIDE_BLOCKS = {"README.md": 1290, "docs/TUTORIAL.md": 980, "docs/CHEATSHEET.md": 640, "docs/FAQ.md": 850}
+MAX_WORDS_OUTSIDE_BLOCKS = {"README.md": 1000, "docs/TUTORIAL.md": 980, "docs/CHEATSHEET.md": 640, "docs/FAQ.md": 850}
 INDEX = "docs/README.md"
 # A number with decimals.
 NUMBER = re.compile(r"\d+\.\d+")
@@ -61,10 +61,9 @@ def reproduced_numbers_are_of_studies() -> Verdicts:
 
 
 def speed_is_of_the_table() -> Verdicts:
-    """The two numbers of README.md's section on speed are in one row of docs/SPEED.md."""
-    section = match_in(r"^## Speed\n(.*?)^## ", standing.content("README.md"), re.M | re.S)[1]
+    """The two numbers of README.md that cite docs/SPEED.md are in one row there."""
+    cited = NUMBER.findall(match_in(r"^\|.*\(docs/SPEED\.md\).*$", standing.content("README.md"), re.M)[0])
     row = match_in(CITED_ROW, standing.content("docs/SPEED.md"))[0]
-    cited = NUMBER.findall(section)
     yield len(cited) == 2, "README.md has to cite two speeds"
     for number in cited:
         yield number in NUMBER.findall(row), f"README.md cites the speed {number}, which is not in the row of docs/SPEED.md"

@@ -1,4 +1,4 @@
-"""Are the statements of documents about each other and about the sources true (numbers of decisions, versions, crates,
+"""Are the statements of documents about each other and about the sources true (numbers of decisions, crates,
 files, names, clauses, excerpts of sources, a figure), and are they written in short lines and in modern English?
 
 Each function yields verdicts, each with a message in case it is False."""
@@ -25,8 +25,8 @@ MAX_WORDS_OF_A_DECISION = 60
 # whole: what another page says goes, and otherwise the limit rises. No page is cut for its limit.
 MAX_WORDS = {
     "CHANGELOG.md": 1500,
-    "CONTRIBUTING.md": 2010,
-    "README.md": 1530,
+    "CONTRIBUTING.md": 2040,
+    "README.md": 1330,
     "docs/CHEATSHEET.md": 730,
     "docs/COURSE.md": 2130,
     "docs/ERRORS.md": 1760,
@@ -159,15 +159,6 @@ def citations_exist() -> Verdicts:
             continue
         for number in sorted(cited):
             yield number in known_numbers, f"{name} cites decision {number}, which does not exist"
-
-
-def versions_agree() -> Verdicts:
-    """The program, the Python module and the newest changes have the same version."""
-    program = match_in(r'VERSION: &str = "(\S+)', content("crates/trlab_command_line/src/help.rt"))[1]
-    module = match_in(r'^__version__ = "(.*)"$', content("python/trlab/_version.py"), re.M)[1]
-    changes = match_in(r"^## (\d\S*)", content("CHANGELOG.md"), re.M)[1]
-    yield module == program, f"python/trlab/_version.py has version {module}, the program {program}"
-    yield changes == program, f"CHANGELOG.md has version {changes}, the program {program}"
 
 
 def levels_agree() -> Verdicts:
@@ -343,7 +334,6 @@ def verdicts() -> Verdicts:
     for test in (
         decisions_are_short,
         citations_exist,
-        versions_agree,
         levels_agree,
         sources_are_shown_as_they_are,
         layers_agree,
