@@ -7,7 +7,7 @@ from ..command import Verdicts
 from ..finding import match_in
 from ..proofs import bodies, record
 from ..proofs.false_statements import FALSE
-from . import standing
+from .standing import QUOTED, content
 
 PAGE = "docs/dev/GUARANTEES.md"
 # The list of files in which one promise is read, and a row of it: a file of crates/, and what to read there.
@@ -24,11 +24,11 @@ def defines(text: str, name: str) -> bool:
 
 def walk_leads_to_definitions() -> Verdicts:
     """Each file of the list has the names that are to be read in it, and a file above it cites the first of them."""
-    steps = STEP.findall(match_in(WALK, standing.content(PAGE))[1])
+    steps = STEP.findall(match_in(WALK, content(PAGE))[1])
     yield len(steps) >= 10, f"{PAGE} has no list of the files in which a promise is read"
     above: list[str] = []
     for file, cell in steps:
-        text, names = standing.content(f"crates/{file}"), standing.QUOTED.findall(cell)
+        text, names = content(f"crates/{file}"), QUOTED.findall(cell)
         for name in names:
             yield defines(text, name), f"{PAGE}: {file} does not define {name}"
         is_cited = any(re.search(rf"\b{names[0]}\b", other) for other in above)
@@ -68,7 +68,7 @@ def numbers_of_tests() -> dict[str, tuple[int, ...]]:
 
 def numbers_are_right() -> Verdicts:
     """GUARANTEES has the numbers of wrong bodies, false laws and cases that the files have."""
-    text = re.sub(r"\s+", " ", standing.content(PAGE))
+    text = re.sub(r"\s+", " ", content(PAGE))
     for form, right in numbers_of_tests().items():
         found = [tuple(map(int, match.groups())) for match in re.finditer(form, text)]
         yield found == [right], f"{PAGE} has {found} instead of {right} in {form!r}"
@@ -78,7 +78,7 @@ def trusted_libraries_are_listed() -> Verdicts:
     """GUARANTEES names each library of the toolchain that crates.txt names, and no other."""
     crates = bodies.libraries_of()
     used = {name for names in crates.values() for name in names} - crates.keys()
-    listed = set(standing.QUOTED.findall(match_in(TRUSTED, standing.content(PAGE))[1]))
+    listed = set(QUOTED.findall(match_in(TRUSTED, content(PAGE))[1]))
     yield listed == used, f"{PAGE} and crates.txt have different trusted libraries: {sorted(listed ^ used)}"
 
 

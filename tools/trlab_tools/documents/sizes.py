@@ -6,7 +6,7 @@ from collections.abc import Iterable
 from .. import TOP
 from ..command import Verdicts
 from ..proofs import bodies
-from . import standing
+from .standing import DECISIONS, FENCED, content, decisions, documents
 
 THOUSAND = 1000
 # The crates of the layer "Tests and examples" of crates.txt.
@@ -36,9 +36,9 @@ def size_of_sources() -> str:
 
 def size_of_pages() -> str:
     """What decision 163 has to say of all pages."""
-    pages = [standing.content(name) for name in standing.documents()]
-    blocks = [block for page in pages for block in standing.FENCED.findall(page)]
-    tables = [line for page in pages for line in standing.FENCED.sub("", page).splitlines() if line.startswith("|")]
+    pages = [content(name) for name in documents()]
+    blocks = [block for page in pages for block in FENCED.findall(page)]
+    tables = [line for page in pages for line in FENCED.sub("", page).splitlines() if line.startswith("|")]
     return f"have {words(pages)} words**, of which {words(blocks)} are in code blocks and {words(tables)} in tables"
 
 
@@ -51,6 +51,6 @@ def share_of_imports() -> str:
 
 def verdicts() -> Verdicts:
     """Whether each of these decisions has its sizes."""
-    decisions = {number: " ".join(text.split()) for number, text in standing.decisions()}
+    texts = {number: " ".join(text.split()) for number, text in decisions()}
     for number, right in (146, size_of_sources()), (163, size_of_pages()), (164, share_of_imports()):
-        yield right in decisions[number], f"decision {number} in {standing.DECISIONS} has to say: .. {right} .."
+        yield right in texts[number], f"decision {number} in {DECISIONS} has to say: .. {right} .."
