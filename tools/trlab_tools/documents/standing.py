@@ -25,7 +25,7 @@ MAX_WORDS_OF_A_DECISION = 60
 # whole: what another page says goes, and otherwise the limit rises. No page is cut for its limit.
 MAX_WORDS = {
     "CHANGELOG.md": 1500,
-    "CONTRIBUTING.md": 2040,
+    "CONTRIBUTING.md": 2080,
     "README.md": 1330,
     "docs/CHEATSHEET.md": 730,
     "docs/COURSE.md": 2130,
@@ -45,14 +45,14 @@ MAX_WORDS = {
     "docs/STUDIES.md": 2450,
     "docs/TUTORIAL.md": 1440,
     "docs/VERIFIER.md": 1020,
-    "docs/dev/ARCHITECTURE.md": 2430,
+    "docs/dev/ARCHITECTURE.md": 2050,
     "docs/dev/CALLS.md": 760,
     "docs/dev/BOOK.md": 1380,
     "docs/dev/DECISIONS.md": 3440,
-    "docs/dev/EMBEDDING.md": 720,
-    "docs/dev/EXTENDING.md": 1290,
-    "docs/dev/GLOSSARY.md": 790,
-    "docs/dev/GUARANTEES.md": 4980,
+    "docs/dev/EMBEDDING.md": 520,
+    "docs/dev/EXTENDING.md": 1250,
+    "docs/dev/GLOSSARY.md": 470,
+    "docs/dev/GUARANTEES.md": 5300,
     "docs/dev/README.md": 60,
 }
 MAX_CHARACTERS = 110
@@ -94,8 +94,8 @@ FIELDS_OF = re.compile(rf"\bfields? {LISTED} of (`[A-Z]\w*`)")
 # A record with its fields in a file of definitions, and a function with its contract in a source.
 RECORD = re.compile(r"^pub record (\w+)(.*?)(?=^\S|\Z)", re.M | re.S)
 CONTRACT = re.compile(r"\bfn (\w+)(.*?)(?=\n *\{\n|\bfn |\Z)", re.S)
-# A block of a document that shows a file of crates/.
-SHOWN = re.compile(r"^`(crates/[^`]+)`:\n\n```\w*\n(.*?)^```$", re.M | re.S)
+# A block of a document that shows a file of crates/, or a part of it.
+SHOWN = re.compile(r"^(From )?`(crates/[^`]+)`[^\n]*:\n\n```\w*\n(.*?)^```$", re.M | re.S)
 
 
 @functools.cache
@@ -171,11 +171,11 @@ def levels_agree() -> Verdicts:
 
 
 def sources_are_shown_as_they_are() -> Verdicts:
-    """A block after the name of a file of crates/ is the content of this file."""
+    """A block after the name of a file of crates/ is the content of this file, or after `From` a part of it."""
     for name in documents():
-        for path, shown in SHOWN.findall(content(name)):
-            is_same = os.path.exists(os.path.join(TOP, path)) and content(path) == shown
-            yield is_same, f"{name} shows a different content of {path}"
+        for is_part, path, shown in SHOWN.findall(content(name)):
+            text = content(path) if os.path.exists(os.path.join(TOP, path)) else ""
+            yield text == shown or is_part and shown in text, f"{name} shows a different content of {path}"
 
 
 def layers_agree() -> Verdicts:
