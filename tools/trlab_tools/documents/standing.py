@@ -25,7 +25,7 @@ MAX_WORDS_OF_A_DECISION = 60
 # whole: what another page says goes, and otherwise the limit rises. No page is cut for its limit.
 MAX_WORDS = {
     "CHANGELOG.md": 1500,
-    "CONTRIBUTING.md": 2080,
+    "CONTRIBUTING.md": 2170,
     "README.md": 1330,
     "docs/CHEATSHEET.md": 730,
     "docs/COURSE.md": 2130,
