@@ -26,6 +26,7 @@ from .. import TOP
 from ..finding import match_in
 from . import trials
 from .functions import Exports, Function, functions_in
+from .kinds import KINDS, PROOF, VALUES, Refusal, clauses_in, only_of_the_wrong_body, refusal_of
 
 # The line with the name of a wrong body.
 NAME = re.compile(r"(?m)^# (\w+)$")
@@ -40,15 +41,17 @@ pub {name}_spec : {{M : Type 1}} → stated.statement M
 {name}_spec = ?
 """
 # What is not proved at a place of a source.
-NOTE = re.compile(r"note: (src/\S+):(\d+):\d+: (it is not proved.*)")
-# An error in a proof file only because it names something that the edit took away.
-BY_NAME = re.compile(r"has no field|is not in scope|has no `|was not admitted")
+NOTE = re.compile(r"note: (src/\S+):(\d+):\d+: ((?:it is not proved|`search` found no proof).*)")
+# An error in a proof file only because it names something that the edit took away, or depends on what does.
+BY_NAME = re.compile(r"has no field|is not in scope|has no `|was not admitted|were not checked")
 
 # The processor seconds of a trial at most: a search that has no end is no verdict.
 LIMIT = 1800
 # The exit statuses of a check that says whether all is proved.
 PROVED, NOT_PROVED = 0, 1
 
+# A refusal that says nothing of a clause: the prover cannot read this form of code.
+NOT_COVERED = re.compile(r"does not cover")
 # A goal of a clause: what a function ensures, a type's invariant, or a loop's.
 OF_CLAUSE = re.compile(r"what the function ensures|invariant|`(?:returns|loop)|/Proof\.antt|did not prove|which antt refuses")
 
@@ -80,20 +83,26 @@ class Change(NamedTuple):
 
 
 class Verdict(NamedTuple):
-    """The functions that are not proved with a body, each with the line of the prover about it, and its message if there are none."""
+    """The functions that are not proved with a body, each with what the prover says of it, and its message if there are none."""
 
-    refusing: dict[Change, str]
+    refusing: dict[Change, Refusal]
     message: str
 
     @property
     def why(self) -> str:
         """The line about the first function that is not proved, or the message."""
-        return next(iter(self.refusing.values()), self.message)
+        return next((refusal.line for refusal in self.refusing.values()), self.message)
 
     @property
     def by_clauses(self) -> list[Change]:
         """The functions of which a clause is not proved, and not only that a call may be made or that a sum fits its type."""
-        return [change for change, line in self.refusing.items() if OF_CLAUSE.search(line)]
+        return [change for change, refusal in self.refusing.items() if OF_CLAUSE.search(refusal.line)]
+
+    @property
+    def kind(self) -> str:
+        """The strongest kind of its refusals."""
+        kinds = {self.refusing[change].kind for change in self.by_clauses}
+        return next((kind for kind in KINDS if kind in kinds), "")
 
 
 def read(path: str) -> str:
@@ -369,16 +378,27 @@ class Crate:
         with open(os.path.join(folder, "Proof.antt"), "w", encoding="utf-8") as file:
             file.write(HOLE.format(crate=self.name, path=".".join(path), name=path[-1]))
 
-    def try_bodies(self, bodies: Sequence[Body], work: str) -> trials.Trial:
-        """What the prover says of the crate with these bodies. It begins with what earlier trials left in the folder `work`."""
-        changed = sorted(set().union(*map(self.changed_by, bodies)))
+    def try_bodies(self, bodies: Sequence[Body], work: str, bare: Collection[str] = ()) -> trials.Trial:
+        """What the prover says of the functions that these bodies change, in the crate with these bodies; or of `bare` functions,
+        without their proofs by hand. It begins with what earlier trials left in the folder `work`."""
+        changed = sorted(bare or set().union(*map(self.changed_by, bodies)))
         with tempfile.TemporaryDirectory() as copy:
             self.write_copy(copy, bodies, set(changed))
+            for function in bare:
+                os.remove(self.answers_of(function, copy))
             place = trials.path_of([self.name, changed, self.libraries, *self.sum_below, trials.sum_of([copy], copy)])
             trial = trials.find(place) or self.ask(copy, changed, work)
             if not trial.is_kept and trial.status in (PROVED, NOT_PROVED):
                 trials.keep(place, trial)
             return trial._replace(lines=[self.line_with_function(copy, line) for line in trial.lines])
+
+    def answers_of(self, function: str, folder: str = "") -> str:
+        """The path of a function's proof by hand, in the crate or in a copy."""
+        return os.path.join(folder or self.folder, "proofs", *function.split("::"), "Answers.antt")
+
+    def has_answers(self, function: str) -> bool:
+        """Whether a function has a proof by hand."""
+        return os.path.exists(self.answers_of(function))
 
     def ask(self, copy: str, changed: Iterable[str], work: str) -> trials.Trial:
         """What the prover says of functions in a copy of the crate. (Lines that begin with a space show a goal.)"""
@@ -404,13 +424,25 @@ class Crate:
         function = function_around(note[1], text, offset)
         return f"note: {function and function.path_in(self.paths)}: {note[3]}"
 
-    def refusal(self, lines: Sequence[str], function: str) -> Optional[str]:
-        """The line by which the prover refuses a clause of a function, or None."""
+    def lines_about(self, lines: Iterable[str], function: str) -> list[str]:
+        """The lines about the goals of a function, but for those of a proof file that names something that the edit took away."""
+        begins = f"./proofs/{function.replace('::', '/')}/", f"note: {function}: "
+        return [line for line in lines if line.startswith(begins) and not BY_NAME.search(line) and not NOT_COVERED.search(line)]
+
+    def refusal(self, lines: Sequence[str], function: str) -> Optional[Refusal]:
+        """The strongest refusal of a clause of a function, or else the first one of anything; or None."""
+        refusals = [refusal_of(line, self.has_answers(function)) for line in self.lines_about(lines, function)]
+        if refusals:
+            of_clauses = [refusal for refusal in refusals if OF_CLAUSE.search(refusal.line)]
+            return functools.reduce(Refusal.strongest, of_clauses or refusals[:1])
+        status = self.status_of(lines, function)
+        return refusal_of(status, self.has_answers(function)) if status else None
+
+    def status_of(self, lines: Sequence[str], function: str) -> Optional[str]:
+        """What the prover says of a function as a whole, if it rejects a clause and prints no line about a goal; or None."""
         begin, path = f"fn {self.name}::{function}: ", function.replace("::", "/")
-        begins = f"./proofs/{path}/", f"note: {function}: "
-        if errors := [line for line in lines if line.startswith(begins)]:
-            by_more = [line for line in errors if not BY_NAME.search(line)]
-            return next(filter(OF_CLAUSE.search, by_more), by_more[0] if by_more else None)
+        if any(line.startswith((f"./proofs/{path}/", f"note: {function}: ")) for line in lines):
+            return None
         status = next((line.removeprefix(begin) for line in lines if line.startswith(begin)), "")
         blamed, is_refused, _ = status.partition("which antt refuses")
         # (a lemma is refused for what is stated, the answers of another function for that function)
@@ -421,15 +453,36 @@ class Crate:
         is_own = any(own.match(name) or ".Answers." not in name for name in refused)
         return status if is_own or "did not prove" in status else None
 
+    def lines_for(self, body: Body, round_: Iterable[Body], lines: Sequence[str]) -> Sequence[str]:
+        """The lines of the prover about a body, of those that were tried together."""
+        goals = [f"`returns-clause-{clause}`" for clause in self.clauses_against(body, round_) if clause] if body.function else []
+        # The goal of a law's only clause has no name.
+        return [line for line in lines if not goals or any(goal in line for goal in ["`returns`", *goals])]
+
     def verdict(self, lines: Sequence[str], body: Body, round_: Iterable[Body]) -> Verdict:
         """The verdict on one of the bodies that were tried together, from what the prover says."""
         changed = self.changed_by(body)
-        if body.function:
-            goals = [f"`returns-clause-{clause}`" for clause in self.clauses_against(body, round_) if clause]
-            # The goal of a law's only clause has no name.
-            lines = [line for line in lines if not goals or any(goal in line for goal in ["`returns`", *goals])]
+        lines = self.lines_for(body, round_, lines)
         refused = {change: self.refusal(lines, path) for path, change in changed.items()}
-        return Verdict({change: line for change, line in refused.items() if line}, self.message_of(lines, changed))
+        return Verdict({change: refusal for change, refusal in refused.items() if refusal}, self.message_of(lines, changed))
+
+    def weak(self, verdict: Verdict) -> list[str]:
+        """The functions of which only a proof by hand refuses a body, if no other one shows more."""
+        if verdict.kind != PROOF:
+            return []
+        return [change.path for change in verdict.by_clauses if self.has_answers(change.path)]
+
+    def strengthened(self, verdict: Verdict, bare: Sequence[str], bare_of_right: Sequence[str]) -> Verdict:
+        """The verdict on a body, or a stronger one by trials of it and of the right body without proofs by hand."""
+        refusing = dict(verdict.refusing)
+        for change in verdict.by_clauses:
+            lines = [line for line in self.lines_about(bare, change.path) if OF_CLAUSE.search(line)]
+            begins = f"note: {change.path}: ", f"fn {self.name}::{change.path}: "
+            open_of_right = clauses_in("\n".join(line for line in bare_of_right if line.startswith(begins)))
+            refusals = [refusal_of(line, has_answers=False) for line in only_of_the_wrong_body(lines, open_of_right)]
+            refusals += [Refusal(VALUES, line) for line in lines if refusal_of(line, has_answers=True).kind == VALUES]
+            refusing[change] = functools.reduce(Refusal.strongest, refusals, refusing[change])
+        return verdict._replace(refusing=refusing)
 
     def message_of(self, lines: Sequence[str], changed: Iterable[str]) -> str:
         """What the prover says of functions that no clause refuses."""

@@ -1,9 +1,9 @@
 """The verdicts on a crate's wrong bodies, recorded in its file wrong.verdicts, so that ./test does not have to ask for all of
 them again each time.
 
-A record is current if nothing has changed on which a verdict depends: the crate's sources, definitions, proofs and wrong
-bodies, the sources and definitions of the crates below, and the toolchain's logic. Every body of a crate whose record is not
-current is tried again, and so is a sample of the others, which changes with the sources of the program."""
+A record is current if nothing has changed on which its verdicts depend: the crate's sources, definitions and proofs, the sources
+and definitions of the crates below, and the toolchain's logic; and a row is, if its body has the same edits. All others are tried
+again, and so is a sample of the bodies, which changes with the sources of the program."""
 import functools
 import hashlib
 import os
@@ -14,17 +14,18 @@ from collections.abc import Iterable
 from .. import TOP
 from . import trials
 from .bodies import OF_CLAUSE, Body, Crate, Verdict
+from .kinds import KINDS, Refusal
 
 # The mean number of rounds of which one is tried again although its verdicts are recorded.
 ONE_OF = 16
-HEAD = "# Written by `tools/mutants --write`: each wrong body, a function that it changes, and what the prover says of it.\n"
+HEAD = "# Written by `tools/mutants --write`: each wrong body, the sum of its edits, and the kind and the words of a function's refusal.\n"
 # The logic in the output of `rt --version`.
 LOGIC = re.compile(r"\blogic (\w+)")
 MAX_CHARACTERS = 150
 # Where the prover would look for a proof by hand; the row of a record already names the function.
 PLACE_OF_ANSWERS = re.compile(r"expected answers in \S+; ")
-# What the prover says of the functions that each body changes, by the body's name and their paths.
-Recorded = dict[str, dict[str, str]]
+# The refusals of the functions that each body changes, by the body's name and their paths.
+Recorded = dict[str, dict[str, Refusal]]
 
 
 @functools.cache
@@ -37,11 +38,16 @@ def logic() -> str:
 
 
 def sum_of(crate: Crate) -> str:
-    """The checksum of all on which the verdicts on a crate's bodies depend."""
+    """The checksum of all on which the verdicts on a crate's bodies depend, but for the bodies."""
     crates = os.path.dirname(crate.folder)
-    parts_of_crate = [os.path.join(crate.folder, part) for part in ("src", "specs", "proofs", "must-fail", "wrong.edit")]
+    parts_of_crate = [os.path.join(crate.folder, part) for part in ("src", "specs", "proofs")]
     lower = [os.path.join(crates, name, part) for name in crate.lower for part in ("src", "specs")]
     return hashlib.sha256(f"{logic()} {trials.sum_of([*parts_of_crate, *lower], os.path.dirname(crates))}".encode()).hexdigest()
+
+
+def sum_of_body(body: Body) -> str:
+    """The checksum of what a body changes."""
+    return hashlib.sha256(repr((body.edits, body.function)).encode()).hexdigest()[:16]
 
 
 @functools.cache
@@ -62,37 +68,31 @@ def path_of(crate: Crate) -> str:
 
 
 def read(crate: Crate) -> Recorded:
-    """The record of a crate; nothing if it is not current, or if it has a body, or a function of a body, that is not there."""
+    """The rows of a record that are current: none if the crate has changed, and none of a body that has."""
     if not os.path.exists(path_of(crate)):
         return {}
     with open(path_of(crate), encoding="utf-8") as file:
         head, *rows = [line.rstrip("\n").split("\t") for line in file if not line.startswith("#")]
     if head != ["sources", sum_of(crate)]:
         return {}
+    bodies = {(body.name, sum_of_body(body)): body for body in crate.bodies}
     recorded: Recorded = {}
-    for body, path, line in rows:
-        recorded.setdefault(body, {})[path] = line
-    return recorded if is_of(crate, recorded) else {}
+    for name, edits, path, kind, line in rows:
+        body = bodies.get((name, edits))
+        if body and kind in KINDS and path in crate.changed_by(body):
+            recorded.setdefault(name, {})[path] = Refusal(kind, line)
+    return recorded
 
 
-def is_of(crate: Crate, recorded: Recorded) -> bool:
-    """Whether the crate has all bodies of a record, and each changes the functions that the record has for it."""
-    bodies = {body.name: body for body in crate.bodies}
-    return recorded.keys() <= bodies.keys() and all(
-        paths.keys() <= crate.changed_by(bodies[name]).keys() for name, paths in recorded.items()
-    )
-
-
-def has_round(crate: Crate, number: int, round_: Iterable[Body], recorded: Recorded) -> bool:
-    """Whether the verdicts on the bodies of a round are those of the record: it has all of them, and the sample has not drawn
-    this round."""
-    return recorded.keys() >= {body.name for body in round_} and not is_in_sample(crate, number)
+def known_of(crate: Crate, number: int, round_: Iterable[Body], recorded: Recorded) -> list[Body]:
+    """The bodies of a round whose verdicts are those of the record: all that it has, unless the sample has drawn this round."""
+    return [] if is_in_sample(crate, number) else [body for body in round_ if body.name in recorded]
 
 
 def verdict_on(crate: Crate, body: Body, recorded: Recorded) -> Verdict:
     """The verdict on a body that is in the record."""
     changed = crate.changed_by(body)
-    return Verdict({changed[path]: line for path, line in recorded[body.name].items()}, "")
+    return Verdict({changed[path]: refusal for path, refusal in recorded[body.name].items()}, "")
 
 
 def shortened(line: str) -> str:
@@ -105,9 +105,9 @@ def shortened(line: str) -> str:
 def write(crate: Crate, verdicts: list[tuple[Body, Verdict]]) -> None:
     """Record the verdicts on all bodies of a crate. A body that no function refuses gets no row, so that it is tried again."""
     rows = [
-        f"{body.name}\t{change.path}\t{shortened(line)}\n"
+        "\t".join([body.name, sum_of_body(body), change.path, refusal.kind, shortened(refusal.line)]) + "\n"
         for body, verdict in sorted(verdicts, key=lambda pair: pair[0].name)
-        for change, line in verdict.refusing.items()
+        for change, refusal in verdict.refusing.items()
     ]
     with open(path_of(crate), "w", encoding="utf-8") as file:
         file.writelines([HEAD, f"sources\t{sum_of(crate)}\n", *rows])
