@@ -3,13 +3,12 @@ Python package, the pages for users and those with a word limit may use few of t
 condition. The guides, and so the references, must have enough of the words that connect and advise, and sentences that are
 neither choppy nor long."""
 import ast
-import os
 import re
 from collections.abc import Iterator
 
-from .. import TOP
 from ..command import Verdicts
-from .standing import MAX_WORDS
+from .files import content, files_below
+from .lengths import MAX_WORDS
 
 # Words that often replace a noun or a condition.
 STAND_INS = re.compile(r"\b(?:what|whoever|alone|told|stands?|where)\b", re.I)
@@ -22,33 +21,21 @@ DOCUMENTED = ast.Module, ast.ClassDef, ast.FunctionDef
 GUIDES = "README TUTORIAL CHEATSHEET FAQ MODELS PROGRAMS PYTHON STUDIES LAWS LAWS_BY_EXAMPLE LAB ERRORS SPEED".split()
 FOLDERS = "cases examples node studies studies/1992 studies/1996 studies/1998 studies/exact studies/paper studies/triangle".split()
 PAGES = ["README.md", *(f"docs/{name}.md" for name in GUIDES), *(f"{name}/README.md" for name in FOLDERS)]
-# The pages of each kind may together not have fewer connecting words per 1000 than half of the share in Python's language
-# reference.
+# The pages of each kind, which together must have enough connecting words.
 CONNECTED = {
     "guides": "README TUTORIAL CHEATSHEET FAQ MODELS PROGRAMS PYTHON STUDIES LAB SPEED COURSE".split(),
     "references": "LAWS VERIFIER FILES RELIABILITY".split(),
     "pages for maintainers": "ARCHITECTURE BOOK CALLS DECISIONS EMBEDDING EXTENDING GLOSSARY GUARANTEES README".split(),
 }
+# The least share of each word per 1000 words: half of the share in Python's language reference.
 CONNECTING = {"can": 2.2, "when": 2.0, "will": 1.4, "should": 1.3, "but": 0.8}
-MEAN_SENTENCE = 14, 20  # words
+MIN_MEAN_SENTENCE, MAX_MEAN_SENTENCE = 14, 20  # words
 # Parts of a page that are not sentences; where a paragraph or an item begins; and where a sentence does.
 NO_SENTENCES = re.compile(r"^```.*?^```$|<!-- .*? -->.*?<!-- end -->|^ *(?:\||!\[|<img|#).*?$|\]\([^)]*\)", re.M | re.S)
 PARAGRAPH = re.compile(r"\n\s*\n|\n(?= *(?:- |\d+\. ))")
 SENTENCE = re.compile(r"(?<=[.!?:])\s+(?=[A-Z`*\"\[])")
 # Blocks, code, links, and headings, which may be questions.
 NO_PROSE = re.compile(r"^```.*?^```$|`[^`]*`|\]\([^)]*\)|^#[^\n]*$", re.M | re.S)
-
-
-def files_below(folder: str, ending: str) -> Iterator[str]:
-    """The files in a folder, and in the folders below it, with this ending."""
-    for path, _, names in sorted(os.walk(os.path.join(TOP, folder))):
-        yield from (os.path.join(path, name) for name in sorted(names) if name.endswith(ending))
-
-
-def content(path: str) -> str:
-    """The text of a file."""
-    with open(os.path.join(TOP, path), encoding="utf-8") as file:
-        return file.read()
 
 
 def literals(path: str) -> str:
@@ -88,16 +75,24 @@ def path_of(kind: str, name: str) -> str:
     return "README.md" if name == "README" else f"docs/{name}.md"
 
 
+def words_in(sentence_words: list[list[str]]) -> list[str]:
+    """All words of sentences in lower case, without marks of punctuation."""
+    text = " ".join(" ".join(words) for words in sentence_words)
+    return re.findall(r"[a-z][\w'-]*", text.lower())
+
+
 def pages_are_connected() -> Verdicts:
     """Whether the pages of each kind together have enough of each connecting word, and the mean length of their sentences."""
     for kind, names in CONNECTED.items():
         all_sentences = [words for name in names for words in sentences(content(path_of(kind, name)))]
-        words = re.findall(r"[a-z][\w'-]*", " ".join(" ".join(words) for words in all_sentences).lower())
-        for word, least in CONNECTING.items():
+        words = words_in(all_sentences)
+        for word, minimum in CONNECTING.items():
             share = 1000 * words.count(word) / len(words)
-            yield share >= least, f"the {kind} have only {share:.1f} {word!r} per 1000 words: give reasons, contrasts and advice"
+            message = f"the {kind} have only {share:.1f} {word!r} per 1000 words: give reasons, contrasts and advice"
+            yield share >= minimum, message
         mean = sum(map(len, all_sentences)) / len(all_sentences)
-        yield MEAN_SENTENCE[0] <= mean <= MEAN_SENTENCE[1], f"the sentences of the {kind} have {mean:.1f} words on average"
+        is_right = MIN_MEAN_SENTENCE <= mean <= MAX_MEAN_SENTENCE
+        yield is_right, f"the sentences of the {kind} have {mean:.1f} words on average"
 
 
 def verdicts() -> Verdicts:

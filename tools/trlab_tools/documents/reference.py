@@ -12,7 +12,7 @@ from typing import Optional
 
 from .. import TOP
 from ..command import Verdicts
-from .standing import content
+from .files import content
 
 MODULE = TOP / "python" / "trlab"
 GUIDE = "docs/PYTHON.md"
