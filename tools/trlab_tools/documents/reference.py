@@ -87,10 +87,12 @@ def members_of(package: Package, node: ast.ClassDef, described: set[Function]) -
         if method in described:
             continue
         described.add(method)
-        is_property = any(ast.unparse(word) == "property" for word in method.decorator_list)
-        words = "" if is_property else f"({', '.join(arguments(method.args))})"
-        result = result_of(method).replace(" ->", ":") if is_property else result_of(method)
-        yield f"**`.{method.name}{words}{result}`**\n\n{prose(docstring)}"
+        is_property = any(ast.unparse(decorator) == "property" for decorator in method.decorator_list)
+        if is_property:
+            signature = result_of(method).replace(" ->", ":")
+        else:
+            signature = f"({', '.join(arguments(method.args))}){result_of(method)}"
+        yield f"**`.{method.name}{signature}`**\n\n{prose(docstring)}"
 
 
 def section(package: Package, name: str, described: set[Function]) -> str:
