@@ -26,6 +26,17 @@ class Marked(subprocess.Popen[str]):
         super().__init__(command, env=environment, text=True, stdin=pipe, stdout=pipe, stderr=subprocess.DEVNULL)
         self.mark = mark
 
+    def read_line(self) -> str:
+        """The next line of the output, or nothing at its end."""
+        assert self.stdout is not None
+        return self.stdout.readline()
+
+    def write_line(self, line: str = "") -> None:
+        """Write a line to the standard input."""
+        assert self.stdin is not None
+        self.stdin.write(f"{line}\n")
+        self.stdin.flush()
+
 
 def logging_program(folder: Folder) -> Path:
     """A script that runs trlab, and writes the first argument of each call into a file."""
