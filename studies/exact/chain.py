@@ -136,4 +136,9 @@ def stationary(chain: Chain, most_states: int = MAX_STATES) -> Means:
         shares = by_elimination(chain.rows)
     else:
         shares = by_iteration(chain.rows)
-    return Means(*(sum(share * mean for share, mean in zip(shares, column)) for column in zip(*chain.means)))
+    return Means(*(weighted_sum(shares, means_of_states) for means_of_states in zip(*chain.means)))
+
+
+def weighted_sum(weights: Sequence[Number], values: Sequence[Number]) -> Number:
+    """The sum of values, each times its weight."""
+    return sum(weight * value for weight, value in zip(weights, values))

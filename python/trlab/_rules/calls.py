@@ -81,7 +81,7 @@ class Calls(Conditions):
             self.fail(node, "needs one number")
         value = self.number(node.args[0])
         with self.at(node):
-            bounds = [Number(self.emitter.new("get", rest=[name])) for name in ("gap", "limit")]
+            bounds = [Number(self.emitter.new("get", constants=[name])) for name in ("gap", "limit")]
             return self.numbers.extreme("min", [Number(value.plus), *bounds])
 
     def _drawn(self, node: ast.Call) -> Flag:
@@ -136,7 +136,7 @@ class Calls(Conditions):
                 "car.speed == 0 else p`"
             )
         try:
-            return self.emitter.emit("draw", result, rest=[word, parts(probability("the probability", value))])
+            return self.emitter.emit("draw", result, constants=[word, parts(probability("the probability", value))])
         except ParameterError as error:
             self.fail(expression, f"is not a probability: {error}")
 

@@ -111,7 +111,7 @@ class Arithmetic:
             return operand * by if name == "mul" else operand // by
         if by == 0:
             return 0
-        return operand if by == 1 else self._emitter.new(name, operand, rest=[by])
+        return operand if by == 1 else self._emitter.new(name, operand, constants=[by])
 
     def extreme(self, name: str, numbers: Sequence[Number]) -> Number:
         """The smallest or the largest number."""

@@ -182,7 +182,7 @@ def _lines(items: Sequence[Item], numbers: dict[Optional[Register], int]) -> Wri
     jump_targets = {targets[instruction.target] for instruction in instructions if instruction.target is not None}
     lines, last_place = [], None
     for number, instruction in enumerate(instructions):
-        operands = [*(f"r{numbers[register]}" for register in instruction.registers()), *map(str, instruction.rest)]
+        operands = [*(f"r{numbers[register]}" for register in instruction.registers()), *map(str, instruction.constants)]
         if instruction.target is not None:
             operands.append(f"L{targets[instruction.target]}")
         label = f"L{number}: " if number in jump_targets else ""
