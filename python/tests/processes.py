@@ -35,6 +35,17 @@ class Marked(subprocess.Popen[str]):
 
         return holds(lambda: do_run() or self.poll() is not None) and do_run()
 
+    def read_line(self) -> str:
+        """The next line of the output, or nothing at its end."""
+        assert self.stdout is not None
+        return self.stdout.readline()
+
+    def write_line(self, line: str = "") -> None:
+        """Write a line to the standard input."""
+        assert self.stdin is not None
+        self.stdin.write(f"{line}\n")
+        self.stdin.flush()
+
 
 def logging_program(folder: Folder) -> Path:
     """A script that runs trlab, and writes the first argument of each call into a file."""

@@ -8,8 +8,11 @@ import subprocess
 import sys
 import tempfile
 import unittest
+from collections.abc import Sequence
+from contextlib import AbstractContextManager
 from dataclasses import replace
 from pathlib import Path
+from typing import TypeVar, Union
 from unittest import mock
 
 import trlab
@@ -22,6 +25,8 @@ from trlab._runs.cache import Cache
 from trlab._runs.calls import ask
 from trlab._runs.ownership import new_path
 from trlab._runs.requests import Request
+
+Entered = TypeVar("Entered")
 
 SHAPE = Sweep(limit=5, length=100, rule=Nasch(0.25), warm=10, measure=20, cars=[10, 20])
 SWEEPS = {f"key_{key}": replace(SHAPE, key=key) for key in range(5)}
@@ -74,7 +79,7 @@ sys.stdin.read()
 
 
 class Keys(unittest.TestCase):
-    def test_a_call_an_input_or_a_program_that_changes_has_another_key(self):
+    def test_a_call_an_input_or_a_program_that_changes_has_another_key(self) -> None:
         with tempfile.TemporaryDirectory() as folder:
             keys = [
                 key_of_call(["series"], "a"), key_of_call(["series", "--every", "2"], "a"), key_of_call(["series"], "b")
@@ -85,7 +90,7 @@ class Keys(unittest.TestCase):
         self.assertEqual(len(set(keys)), 6)
         self.assertEqual(key_of_call(["series"], "a"), keys[0])
 
-    def test_a_program_that_is_replaced_under_its_path_has_another_key(self):
+    def test_a_program_that_is_replaced_under_its_path_has_another_key(self) -> None:
         with tempfile.TemporaryDirectory() as folder:
             keys = set()
             for version in "1", "2":
@@ -93,7 +98,7 @@ class Keys(unittest.TestCase):
                     keys.add(key_of_call(["series"], "a"))
         self.assertEqual(len(keys), 2)
 
-    def test_a_script_has_the_key_of_the_program_that_it_runs(self):
+    def test_a_script_has_the_key_of_the_program_that_it_runs(self) -> None:
         with tempfile.TemporaryDirectory() as folder:
             keys = set()
             for version in "1", "2":
@@ -106,12 +111,12 @@ class Keys(unittest.TestCase):
         self.assertEqual(len(keys), 2)
 
 
-def key_of_call(arguments, text):
+def key_of_call(arguments: Sequence[str], text: str) -> str:
     """The key of the call with these words and this input."""
     return caching.key_of(Request(tuple(arguments), text))
 
 
-def other_version(folder, version="0"):
+def other_version(folder: Union[str, Path], version: str = "0") -> Path:
     path = Path(folder) / f"trlab_{version}"
     path.write_text(f"#!/bin/sh\necho trlab {version}\n")
     path.chmod(0o755)
@@ -119,30 +124,30 @@ def other_version(folder, version="0"):
 
 
 class Kept(unittest.TestCase):
-    def setUp(self):
+    def setUp(self) -> None:
         self.folder = Path(self.entered(tempfile.TemporaryDirectory()))
         self.entered(mock.patch.dict("os.environ", TRLAB=str(logging_program(self.folder))))
         self.cache = self.folder / "cache"
         self.expected = {name: sweep.sweep() for name, sweep in SWEEPS.items()}
 
-    def entered(self, manager):
+    def entered(self, manager: AbstractContextManager[Entered]) -> Entered:
         value = manager.__enter__()
         self.addCleanup(manager.__exit__, None, None, None)
         return value
 
-    def new_calls(self):
+    def new_calls(self) -> int:
         """Runs all sweeps, compares their tables, and returns the number of calls of the program."""
         before = calls(self.folder, "sweep")
         self.assertEqual(dict(trlab.results(SWEEPS, cache=self.cache)), self.expected)
         self.assertEqual([file.name for file in self.cache.iterdir() if file.name.startswith(".")], [])
         return calls(self.folder, "sweep") - before
 
-    def test_a_second_run_calls_nothing(self):
+    def test_a_second_run_calls_nothing(self) -> None:
         self.assertEqual(self.new_calls(), 5)
         self.assertEqual(self.new_calls(), 0)
         self.assertEqual(len(list(self.cache.glob("*.out"))), 5)
 
-    def test_the_result_of_a_call_is_computed_again_from_the_kept_output(self):
+    def test_the_result_of_a_call_is_computed_again_from_the_kept_output(self) -> None:
         steps = [
             dict(trlab.results([JOB], cache=self.cache, call=lambda job: job.series(every=3)[place].step))[0]
             for place in range(3)
@@ -150,7 +155,7 @@ class Kept(unittest.TestCase):
         self.assertEqual(steps, [3, 6, 9])
         self.assertEqual(calls(self.folder, "series"), 1)
 
-    def test_a_damaged_file_is_never_a_result(self):
+    def test_a_damaged_file_is_never_a_result(self) -> None:
         self.new_calls()
         path, other_path, *_ = sorted(self.cache.glob("*.out"))
         content = path.read_bytes()
@@ -165,7 +170,7 @@ class Kept(unittest.TestCase):
                 self.assertEqual(self.new_calls(), 1)
                 self.assertEqual(path.read_bytes(), content)
 
-    def test_a_name_that_is_not_a_file_is_replaced(self):
+    def test_a_name_that_is_not_a_file_is_replaced(self) -> None:
         """A pipe, a device or a link has the name of an output: nothing is read from it, and no call waits for it."""
         self.new_calls()
         path = min(self.cache.glob("*.out"))
@@ -181,7 +186,7 @@ class Kept(unittest.TestCase):
                 self.assertEqual(path.read_bytes(), content)
         self.assertEqual(victim.read_text(), "untouched")
 
-    def test_a_folder_with_the_name_of_an_output_is_named(self):
+    def test_a_folder_with_the_name_of_an_output_is_named(self) -> None:
         self.new_calls()
         path = min(self.cache.glob("*.out"))
         path.unlink()
@@ -191,14 +196,14 @@ class Kept(unittest.TestCase):
         )
         self.assertEqual([file.name for file in self.cache.iterdir() if file.name.startswith(".")], [])
 
-    def test_a_cache_has_a_name(self):
+    def test_a_cache_has_a_name(self) -> None:
         self.assertRaisesRegex(ParameterError, "current folder", trlab.results, SWEEPS, cache="")
         self.assertRaisesRegex(ParameterError, "must be the path of a folder", trlab.results, SWEEPS, cache=True)
         with tempfile.NamedTemporaryFile() as file:
             for cache in file.name, f"{file.name}/cache":
                 self.assertRaisesRegex(ParameterError, "is a file, or below one", trlab.results, SWEEPS, cache=cache)
 
-    def test_a_read_only_cache_is_read_and_a_warning_says_that_nothing_is_kept(self):
+    def test_a_read_only_cache_is_read_and_a_warning_says_that_nothing_is_kept(self) -> None:
         script = """
 import os, sys, warnings, trlab
 from tests.test_cache import SWEEPS
@@ -230,14 +235,14 @@ print(tables == {name: sweep.sweep() for name, sweep in SWEEPS.items()}, *messag
         self.assertRegex(messages[0], f"not kept, because {self.cache} cannot be written to")
         self.assertEqual(len(list(self.cache.iterdir())), 4)
 
-    def test_a_full_disk_is_an_error(self):
+    def test_a_full_disk_is_an_error(self) -> None:
         full = OSError(errno.ENOSPC, "No space left on device")
         with mock.patch("trlab._runs.cache.os.fsync", side_effect=full), self.assertRaises(OSError) as caught:
             dict(trlab.results(SWEEPS, cache=self.cache))
         self.assertEqual(caught.exception.errno, errno.ENOSPC)
         self.assertEqual(list(self.cache.iterdir()), [])
 
-    def test_a_rejected_input_and_a_failed_run_are_not_kept(self):
+    def test_a_rejected_input_and_a_failed_run_are_not_kept(self) -> None:
         for _ in range(2):
             self.assertRaisesRegex(
                 RejectedInputError, "fault line 5 cause 4", list,
@@ -250,13 +255,13 @@ print(tables == {name: sweep.sweep() for name, sweep in SWEEPS.items()}, *messag
         self.assertEqual(calls(self.folder, "run"), 4)
         self.assertEqual(list(self.cache.iterdir()), [])
 
-    def test_snapshots_one_by_one(self):
+    def test_snapshots_one_by_one(self) -> None:
         for _ in range(2):
             results = dict(trlab.results([JOB], call=lambda job: next(job.snapshots()), cache=self.cache))
             self.assertEqual(results, {0: JOB.run()[0]})
         self.assertEqual(len(list(self.cache.iterdir())), 1)
 
-    def test_outputs_can_be_read_by_those_who_can_read_the_folder(self):
+    def test_outputs_can_be_read_by_those_who_can_read_the_folder(self) -> None:
         self.new_calls()
         before = os.umask(0o027)
         try:
@@ -269,15 +274,14 @@ print(tables == {name: sweep.sweep() for name, sweep in SWEEPS.items()}, *messag
 
 
 class Killed(unittest.TestCase):
-    def test_a_killed_run_continues_from_its_last_result(self):
+    def test_a_killed_run_continues_from_its_last_result(self) -> None:
         with tempfile.TemporaryDirectory() as folder:
             program = str(logging_program(folder))
             cache = Path(folder) / "cache"
             killed = child(MANY, str(cache), TRLAB=program)
             for _ in range(7):
-                killed.stdout.readline()
-                killed.stdin.write("\n")
-                killed.stdin.flush()
+                killed.read_line()
+                killed.write_line()
             killed.kill()
             killed.communicate()
             self.assertTrue(holds(lambda: not marked(killed.mark)))
@@ -290,13 +294,13 @@ class Killed(unittest.TestCase):
             third_output, _ = child(MANY, str(cache), TRLAB=program).communicate()
         self.assertEqual(json.loads(third_output.splitlines()[-1]), json.loads(second_output.splitlines()[-1]))
 
-    def test_programs_of_a_killed_run_end_and_the_next_one_removes_its_files(self):
+    def test_programs_of_a_killed_run_end_and_the_next_one_removes_its_files(self) -> None:
         with tempfile.TemporaryDirectory() as cache:
             running = child(LONG, "threads", "interrupt", cache)
-            self.assertEqual(running.stdout.readline(), "first\n")
+            self.assertEqual(running.read_line(), "first\n")
             self.assertTrue(running.comes_to_run(3))
             mine = child(LONG, "threads", "interrupt", cache)
-            self.assertEqual(mine.stdout.readline(), "first\n")
+            self.assertEqual(mine.read_line(), "first\n")
             self.assertTrue(mine.comes_to_run(3))
             running.kill()
             running.communicate()
@@ -306,7 +310,7 @@ class Killed(unittest.TestCase):
             self.assertEqual(len([file for file in Path(cache).iterdir() if file.name.startswith(".new")]), 3)
             kill(mine)
 
-    def test_only_files_of_ended_processes_are_removed(self):
+    def test_only_files_of_ended_processes_are_removed(self) -> None:
         with tempfile.TemporaryDirectory() as folder:
             own, of_other_machine = new_path(Path(folder), "new"), Path(folder) / ".new-trlab-another_machine-1-1-00"
             number = str(os.getpid())
@@ -320,20 +324,19 @@ class Killed(unittest.TestCase):
 class Stopped(unittest.TestCase):
     """After Ctrl-C, an exception, a loop that is left, or an exit of Python, no process of trlab continues."""
 
-    def try_one(self, executor, ending):
+    def try_one(self, executor: str, ending: str) -> list[str]:
         with tempfile.TemporaryDirectory() as cache:
             process = child(LONG, executor, ending, cache)
             try:
-                self.assertEqual(process.stdout.readline(), "first\n")
+                self.assertEqual(process.read_line(), "first\n")
                 self.assertTrue(process.comes_to_run(3))
                 if ending == "interrupt":
                     process.send_signal(signal.SIGINT)
                 else:
-                    process.stdin.write("\n")
-                    process.stdin.flush()
-                lines = [process.stdout.readline()]
+                    process.write_line()
+                lines = [process.read_line()]
                 while lines[-1] not in ("over\n", ""):
-                    lines.append(process.stdout.readline())
+                    lines.append(process.read_line())
                 self.assertEqual(marked(process.mark, trlab.find_program()), [])
                 # The cache would have the other results if the programs had not been stopped.
                 self.assertEqual(sorted(file.name[:5] for file in Path(cache).iterdir()), [key_of_short()[:5]])
@@ -341,7 +344,7 @@ class Stopped(unittest.TestCase):
             finally:
                 kill(process)
 
-    def try_all(self, executor):
+    def try_all(self, executor: str) -> None:
         expected = {
             "interrupt": ["KeyboardInterrupt\n", "over\n"], "raise": ["KeyError\n", "over\n"], "break": ["over\n"],
             "hold": [""],
@@ -350,19 +353,19 @@ class Stopped(unittest.TestCase):
             with self.subTest(executor=executor, ending=ending):
                 self.assertEqual(self.try_one(executor, ending), lines)
 
-    def test_all_kinds_of_ends(self):
+    def test_all_kinds_of_ends(self) -> None:
         self.try_all("threads")
         self.try_all("pool")
 
     @needs_pools
-    def test_all_kinds_of_ends_with_processes(self):
+    def test_all_kinds_of_ends_with_processes(self) -> None:
         self.try_all("processes")
 
     @needs_pools
-    def test_a_killed_run_leaves_nothing_in_other_processes(self):
+    def test_a_killed_run_leaves_nothing_in_other_processes(self) -> None:
         with tempfile.TemporaryDirectory() as cache:
             running = child(LONG, "processes", "interrupt", cache)
-            self.assertEqual(running.stdout.readline(), "first\n")
+            self.assertEqual(running.read_line(), "first\n")
             self.assertTrue(running.comes_to_run(3))
             running.kill()
             running.wait()
@@ -370,7 +373,7 @@ class Stopped(unittest.TestCase):
             kill(running)
 
 
-def key_of_short():
+def key_of_short() -> str:
     """The key of the short job in `LONG`."""
     return key_of_call(["series"], Job(limit=5, length=10, cars=1, rule=Nasch(0), steps=1).text())
 

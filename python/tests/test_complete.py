@@ -7,7 +7,10 @@ import sys
 import tempfile
 import threading
 import unittest
+from collections.abc import Callable, Generator
+from contextlib import AbstractContextManager
 from pathlib import Path
+from typing import Any, Union, cast
 from unittest import mock
 
 import trlab
@@ -25,7 +28,7 @@ JOB = Job(limit=5, length=20, cars=4, rule=Nasch(0.25), steps=6)
 TWO_LANES = Job(limit=5, length=20, lanes=2, cars=7, rule=Rickert(0.25, 1), steps=6)
 SWEEP = Sweep(limit=5, length=20, rule=Nasch(0.25), warm=5, measure=6, cars=[3, 4, 5])
 
-CALLS = {
+CALLS: dict[str, Callable[[], object]] = {
     "run": lambda: JOB.run(every=2),
     "run of two lanes": lambda: TWO_LANES.run(every=3, first=0),
     "snapshots": lambda: list(JOB.snapshots(every=2)),
@@ -34,7 +37,11 @@ CALLS = {
 }
 
 
-def replaced_program(folder, lines):
+def called(call: Callable[[], object]) -> object:
+    return call()
+
+
+def replaced_program(folder: Union[str, Path], lines: str) -> AbstractContextManager[object]:
     """A program in the shell: `real` in its lines is trlab with the same arguments."""
     path = Path(folder) / "fake_trlab"
     path.write_text(
@@ -45,65 +52,63 @@ def replaced_program(folder, lines):
 
 
 class Lines(unittest.TestCase):
-    def test_the_number_of_lines_is_that_of_the_program(self):
+    def test_the_number_of_lines_is_that_of_the_program(self) -> None:
         jobs = [JOB, TWO_LANES, Job(limit=1, length=1, cars=0, rule=Nasch(0), steps=0)]
         for text in (job.text() for job in jobs):
-            for options in (
-                [], ["--every", "2"], ["--from", "3"], ["--every=4", "--from=1"], ["--every", "7"], ["--from", "9"],
-            ):
+            for options in "", "--every 2", "--from 3", "--every=4 --from=1", "--every 7", "--from 9":
                 for command in "run", "series":
-                    arguments = (command, *options)
+                    arguments = (command, *options.split())
                     with self.subTest(words=arguments):
                         self.assertEqual(Request(arguments, text).lines(), self.lines(arguments, text))
         self.assertEqual(Request(("sweep",), SWEEP.text()).lines(), self.lines(("sweep",), SWEEP.text()))
         self.assertIsNone(Request(("check",), "motion\n").lines())
 
-    def lines(self, arguments, text):
+    def lines(self, arguments: tuple[str, ...], text: str) -> int:
         return subprocess_output(Request(arguments, text)).count("\n")
 
 
 class Incomplete(unittest.TestCase):
-    def setUp(self):
+    def setUp(self) -> None:
         folder = tempfile.TemporaryDirectory()
         self.addCleanup(folder.cleanup)
         self.folder = Path(folder.name)
         self.cache = self.folder / "cache"
 
-    def try_all(self, lines, *errors):
+    def try_all(self, lines: str, *errors: type[Exception]) -> None:
         """Every call of such a program raises one of these errors, and no output is kept."""
-        errors = errors or (IncompleteOutputError,)
+        expected = errors or (IncompleteOutputError,)
         with replaced_program(self.folder, lines):
             for name, call in CALLS.items():
                 with self.subTest(call=name):
-                    self.assertRaises(errors, call)
-                    results = trlab.results([call], call=lambda call: call(), cache=self.cache)
-                    self.assertRaises(errors, list, results)
+                    self.assertRaises(expected, call)
+                    results = trlab.results([call], call=called, cache=self.cache)
+                    self.assertRaises(expected, list, results)
                     self.assertEqual(list(self.cache.iterdir()), [])
 
-    def test_no_output(self):
+    def test_no_output(self) -> None:
         self.try_all("cat >/dev/null")
 
-    def test_cut_between_two_lines(self):
+    def test_cut_between_two_lines(self) -> None:
         for lines in 1, 2, 3, -1:
             self.try_all(f'real "$@" | head -n {lines}', IncompleteOutputError, OutputFormatError)
 
-    def test_cut_in_the_middle_of_a_line(self):
+    def test_cut_in_the_middle_of_a_line(self) -> None:
         for length in 3, 50, 70:
             self.try_all(f'real "$@" | head -c {length}', IncompleteOutputError, OutputFormatError)
 
-    def test_a_last_line_without_its_end(self):
+    def test_a_last_line_without_its_end(self) -> None:
         self.try_all('printf %s "$(real "$@")"', IncompleteOutputError, OutputFormatError)
 
-    def test_too_many_lines(self):
+    def test_too_many_lines(self) -> None:
         self.try_all('real "$@"; echo 1')
         self.try_all('real "$@"; printf 1')
         self.try_all('cat >input; real "$@" <input; real "$@" <input'.replace("input", f'"{self.folder}/input"'))
 
-    def test_the_exit_status_is_reported_first(self):
+    def test_the_exit_status_is_reported_first(self) -> None:
         self.try_all('real "$@" | head -n 1; exit 3', ProgramError)
         self.try_all("kill -9 $$", ProgramError)
 
-    def test_an_endless_output_is_stopped(self):
+    def test_an_endless_output_is_stopped(self) -> None:
         for lines in (
             "while :; do echo 0; done", "while :; do printf 0; done", "cat /dev/zero", 'real "$@"; cat /dev/zero',
         ):
@@ -116,26 +121,26 @@ class Incomplete(unittest.TestCase):
                             self.assertRaisesRegex(IncompleteOutputError, "wrote more than an answer has", call)
             self.assertTrue(holds(lambda: not marked(mark, "/bin/sh")))
 
-    def test_snapshots_one_by_one_end_with_the_error(self):
+    def test_snapshots_one_by_one_end_with_the_error(self) -> None:
         with replaced_program(self.folder, 'real "$@" | head -n 4'):
             snapshots = JOB.snapshots()
             self.assertEqual([next(snapshots).step for _ in range(2)], [0, 1])
             self.assertRaisesRegex(IncompleteOutputError, "`trlab run` wrote 4 of the 14 lines", next, snapshots)
 
-    def test_bytes_that_are_not_text(self):
+    def test_bytes_that_are_not_text(self) -> None:
         with replaced_program(self.folder, r"printf '\377\n'"):
             self.assertRaisesRegex(OutputFormatError, "bytes that are not text", check, "motion\ngo 0\n")
 
-    def test_a_verdict_without_its_end(self):
+    def test_a_verdict_without_its_end(self) -> None:
         with replaced_program(self.folder, 'printf %s "$(real "$@")"'):
             program = "motion\nget r0, gap\nget r1, limit\nmin r0, r0, r1\ngo r0\n"
             self.assertRaisesRegex(IncompleteOutputError, "without its end", check, program)
 
-    def test_a_rejection_that_is_not_explained(self):
+    def test_a_rejection_that_is_not_explained(self) -> None:
         with replaced_program(self.folder, '[ "$1" = explain ] && real "$@" || { echo fault line 1 cause 1; exit 1; }'):
             self.assertRaisesRegex(ProgramError, "accepts", JOB.run)
 
-    def test_a_kept_output_that_is_not_complete_is_replaced(self):
+    def test_a_kept_output_that_is_not_complete_is_replaced(self) -> None:
         request = Request(("series",), JOB.text())
         table = JOB.series()
         cut = "".join(f"{line}\n" for line in subprocess_output(request).splitlines()[:3]).encode()
@@ -146,7 +151,7 @@ class Incomplete(unittest.TestCase):
         self.assertEqual(results, {0: table})
 
 
-def subprocess_output(request):
+def subprocess_output(request: Request) -> str:
     command = [find_program(), *request.arguments]
     return subprocess.run(command, input=request.text, stdout=subprocess.PIPE, text=True, check=True).stdout
 
@@ -168,19 +173,19 @@ for call in calls:
 
 
 class Statuses(unittest.TestCase):
-    def test_a_status_that_would_be_lost_is_an_error(self):
+    def test_a_status_that_would_be_lost_is_an_error(self) -> None:
         environment = {**os.environ, "PYTHONPATH": str(PYTHON), "TRLAB": find_program()}
-        for prefix in [], ["env", "--ignore-signal=CHLD"]:
-            command = [*prefix, sys.executable, "-c", EACH_CALL]
+        for prefix in "", "env --ignore-signal=CHLD":
+            command = [*prefix.split(), sys.executable, "-c", EACH_CALL]
             process = subprocess.run(command, env=environment, stdout=subprocess.PIPE, text=True, check=True)
             printed = process.stdout.splitlines()
             self.assertEqual(printed.count("ExitStatusError True"), len(printed) if prefix else 0, process.stdout)
 
-    def test_a_status_that_another_takes_is_an_error(self):
+    def test_a_status_that_another_takes_is_an_error(self) -> None:
         """A server that waits for any child process takes the statuses of all."""
         is_over = threading.Event()
 
-        def reap():
+        def reap() -> None:
             while not is_over.is_set():
                 try:
                     os.waitpid(-1, 0)
@@ -248,15 +253,14 @@ trlab.Sweep(limit=5, length=100000, lanes=2, cars=[99999], rule=trlab.Rickert(0.
 class Signals(unittest.TestCase):
     """SIGTERM and SIGHUP end a study as they would without trlab, and its programs with it."""
 
-    def try_one(self, way, number, programs, in_thread=False):
+    def try_one(self, way: str, number: int, programs: int, in_thread: bool = False) -> int:
         with tempfile.TemporaryDirectory() as cache:
             process = child(ENDLESS, way, cache)
             try:
-                self.assertEqual(process.stdout.readline(), "ready\n")
+                self.assertEqual(process.read_line(), "ready\n")
                 self.assertTrue(process.comes_to_run(programs))
                 if in_thread:
-                    process.stdin.write(f"{int(number)}\n")
-                    process.stdin.flush()
+                    process.write_line(str(int(number)))
                 else:
                     process.send_signal(number)
                 status = process.wait()
@@ -267,30 +271,30 @@ class Signals(unittest.TestCase):
             finally:
                 kill(process)
 
-    def try_all(self, way, programs):
+    def try_all(self, way: str, programs: int) -> None:
         for number in signal.SIGTERM, signal.SIGHUP:
             with self.subTest(way=way, signal=number):
                 self.assertEqual(self.try_one(way, number, programs), -number)
 
-    def try_in_thread(self, way, programs):
+    def try_in_thread(self, way: str, programs: int) -> None:
         """Another thread gets the signal. The same happens if it comes just before the main thread waits."""
         with self.subTest(way=way):
             self.assertEqual(self.try_one(way, signal.SIGTERM, programs, in_thread=True), -signal.SIGTERM)
 
-    def test_all_kinds_of_ends(self):
+    def test_all_kinds_of_ends(self) -> None:
         for way, programs in {"sweep": 1, "snapshots": 1, "inner": 2, "threads": 2, "pool": 2}.items():
             self.try_all(way, programs)
 
-    def test_a_signal_that_does_not_interrupt_the_main_thread(self):
+    def test_a_signal_that_does_not_interrupt_the_main_thread(self) -> None:
         for way, programs in {"sweep": 1, "inner": 2, "threads": 2}.items():
             self.try_in_thread(way, programs)
 
     @needs_pools
-    def test_signals_with_processes(self):
+    def test_signals_with_processes(self) -> None:
         self.try_all("processes", 2)
         self.try_in_thread("processes", 2)
 
-    def test_a_signal_while_a_program_is_started(self):
+    def test_a_signal_while_a_program_is_started(self) -> None:
         process = child(IN_BETWEEN)
         try:
             self.assertEqual(process.wait(), -signal.SIGTERM)
@@ -298,10 +302,10 @@ class Signals(unittest.TestCase):
         finally:
             kill(process)
 
-    def test_a_handler_of_the_script_stays(self):
+    def test_a_handler_of_the_script_stays(self) -> None:
         self.assertEqual(self.try_one("handled", signal.SIGTERM, 1), 7)
 
-    def test_afterwards_the_signals_are_as_before(self):
+    def test_afterwards_the_signals_are_as_before(self) -> None:
         before = [signal.getsignal(number) for number in (signal.SIGTERM, signal.SIGHUP)]
         results = trlab.results([JOB, JOB])
         first = next(results)
@@ -310,8 +314,8 @@ class Signals(unittest.TestCase):
         self.assertEqual(dict([first, *results]), {0: JOB.run(), 1: JOB.run()})
         self.assertEqual([signal.getsignal(number) for number in (signal.SIGTERM, signal.SIGHUP)], before)
 
-    def test_a_process_that_was_forked_has_none_of_it(self):
-        results = trlab.results([JOB, JOB])
+    def test_a_process_that_was_forked_has_none_of_it(self) -> None:
+        results = cast("Generator[Any, None, None]", trlab.results([JOB, JOB]))
         next(results)
         number = os.fork()
         if number == 0:
@@ -319,7 +323,7 @@ class Signals(unittest.TestCase):
         self.assertEqual(os.waitpid(number, 0)[1], 0)
         results.close()
 
-    def test_the_first_process_of_a_container(self):
+    def test_the_first_process_of_a_container(self) -> None:
         command = ["unshare", "--pid", "--fork", "--kill-child"]
         if subprocess.run([*command, "true"], stderr=subprocess.DEVNULL).returncode:
             self.skipTest("unshare is not allowed")
@@ -334,7 +338,7 @@ class Signals(unittest.TestCase):
 
 
 class Encodings(unittest.TestCase):
-    def test_errors_do_not_depend_on_the_locale(self):
+    def test_errors_do_not_depend_on_the_locale(self) -> None:
         script = (
             "import trlab, json\n"
             "for program in 'motion\\ng\\u00e9t r0, speed\\n', 'motion\\nget \\u00e9\\u00e9 r0, speed\\n':\n"
@@ -344,7 +348,9 @@ class Encodings(unittest.TestCase):
         )
         outputs = set()
         without_utf_8 = {"LC_ALL": "C", "PYTHONUTF8": "0", "PYTHONCOERCECLOCALE": "0"}
-        for changes in {}, without_utf_8, {"LC_ALL": "C.UTF-8", "PYTHONUTF8": "1"}:
+        with_utf_8 = {"LC_ALL": "C.UTF-8", "PYTHONUTF8": "1"}
+        unchanged: dict[str, str] = {}
+        for changes in unchanged, without_utf_8, with_utf_8:
             environment = {**os.environ, "PYTHONPATH": str(PYTHON), "TRLAB": find_program(), **changes}
             process = subprocess.run(
                 [sys.executable, "-c", script], env=environment, stdout=subprocess.PIPE, text=True, check=True
@@ -353,7 +359,7 @@ class Encodings(unittest.TestCase):
             outputs.add(process.stdout)
         self.assertEqual(len(outputs), 1)
 
-    def test_bytes_that_were_not_text_reach_the_program(self):
+    def test_bytes_that_were_not_text_reach_the_program(self) -> None:
         with self.assertRaises(RejectedInputError) as caught:
             check(b"motion\ng\xff\xfft r0, speed\n".decode("utf-8", "surrogateescape"))
         self.assertEqual(caught.exception.line, 2)

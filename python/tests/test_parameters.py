@@ -246,7 +246,7 @@ class Parameters(unittest.TestCase):
 
 class WeakPromotion(unittest.TestCase):
     @unittest.skipIf("NPY_PROMOTION_STATE" in os.environ, "these tests run under one of the two rules of promotion now")
-    def test_the_same_with_the_rules_of_numpy_2(self):
+    def test_the_same_with_the_rules_of_numpy_2(self) -> None:
         environment = {**os.environ, "NPY_PROMOTION_STATE": "weak", "PYTHONPATH": os.pathsep.join(sys.path)}
         command = [sys.executable, "-B", "-m", "unittest", "tests.test_parameters"]
         process = subprocess.run(
@@ -256,7 +256,7 @@ class WeakPromotion(unittest.TestCase):
 
 
 class KnownPitfalls(unittest.TestCase):
-    def test_small_integers_of_numpy(self):
+    def test_small_integers_of_numpy(self) -> None:
         warnings.simplefilter("ignore", TrlabWarning)
         shape = dict(limit=5, rule=Nasch(0.1), steps=100)
         for length, cars in (
@@ -273,7 +273,7 @@ class KnownPitfalls(unittest.TestCase):
         sweep = replace(SWEEP, warm=numpy.uint16(60000), measure=numpy.uint16(10000), start=random_cells(1))
         self.assertEqual([job.steps for job in sweep.jobs()], [70000])
 
-    def test_stored_values_are_those_of_python(self):
+    def test_stored_values_are_those_of_python(self) -> None:
         job = Job(
             limit=numpy.int8(5), length=numpy.uint8(9), density=numpy.float32(0.5), steps=numpy.int64(5),
             lanes=numpy.int8(2),
@@ -290,7 +290,7 @@ class KnownPitfalls(unittest.TestCase):
         self.assertIs(type(sweep.warm), int)
         self.assertEqual({type(number) for number in replace(SWEEP, cars=numpy.array([3, 4])).cars}, {int})
 
-    def test_an_occupancy_is_not_a_road(self):
+    def test_an_occupancy_is_not_a_road(self) -> None:
         lists = [0, 1, 0, 1], [0, 0, 0], [1, 1], [[0, 1], [1, 0]], (0, 1.0), [True, False], [None, True]
         for road in (
             *lists, [0, numpy.bool_(True), None], *map(numpy.array, lists), numpy.zeros(5), numpy.ones((2, 5), bool),
@@ -303,7 +303,7 @@ class KnownPitfalls(unittest.TestCase):
             self.assertEqual(replace(job, steps=5).count(), job.cells())
             self.assertEqual(job.continued(job.run()[-1]).count(), job.cells())
 
-    def test_speeds_of_snapshots_are_roads(self):
+    def test_speeds_of_snapshots_are_roads(self) -> None:
         two_lanes = Job(limit=5, length=20, lanes=2, cars=9, start=random_cells(1), rule=Rickert(0.25, 1), steps=5)
         for job in ROADS, two_lanes:
             snapshots = job.run()
@@ -313,14 +313,14 @@ class KnownPitfalls(unittest.TestCase):
             with self.assertRaisesRegex(ParameterError, r"shape .* not \(\d+, [12], "):
                 replace(ROADS, start=snapshots.speeds(), length=None)
 
-    def test_numbers_of_many_digits(self):
+    def test_numbers_of_many_digits(self) -> None:
         for make in (*WHOLE.values(), *SHARES.values()):
             for number in 10**5000, -(10**5000), Odd(10**5000):
                 self.assertIs(outcome(make, number), ParameterError)
         for written in "1e-99999999", Decimal("1e-999999"), Decimal("1e-99999999"), "0." + 9999 * "1":
             self.assertRaisesRegex(ParameterError, "brake must be a number between 0 and 1", Nasch, written)
 
-    def test_a_density_of_less_than_one_car(self):
+    def test_a_density_of_less_than_one_car(self) -> None:
         message = "on 100 cells is less than one car: the lowest density above 0 is 0.01 there"
         with self.assertRaisesRegex(ParameterError, message):
             replace(ROADS, start=random_cells(1), length=100, density=0.004).text()
@@ -328,7 +328,7 @@ class KnownPitfalls(unittest.TestCase):
         self.assertEqual(sweep.counts(), [0, 1])
         self.assertRaisesRegex(ParameterError, message, replace, sweep, densities=[0, 1e-9])
 
-    def test_a_wrong_option_runs_nothing(self):
+    def test_a_wrong_option_runs_nothing(self) -> None:
         for options in (
             {"every": -1}, {"workers": 17}, {"every": None}, {"first": 31}, {"every": 500001}, {"workers": True},
         ):
@@ -337,7 +337,7 @@ class KnownPitfalls(unittest.TestCase):
                 self.assertRaisesRegex(ParameterError, "(every|first|workers) must be", JOB.snapshots, **options)
                 self.assertRaisesRegex(ParameterError, "(every|first|workers) must be", JOB.series, **options)
 
-    def test_a_road_of_two_lanes_sets_lanes_and_length(self):
+    def test_a_road_of_two_lanes_sets_lanes_and_length(self) -> None:
         job = replace(ROADS, start=["0..", "..1"], length=None)
         self.assertEqual(job.lanes, 2)
         self.assertEqual(job.length, 3)

@@ -9,8 +9,10 @@ import sys
 import tempfile
 import unittest
 import zipfile
+from collections.abc import Callable, Iterable
 from fractions import Fraction
 from pathlib import Path
+from typing import Any, Union
 
 import trlab
 from tests.processes import PYTHON
@@ -18,17 +20,23 @@ from tests.skips import needs
 from trlab import (
     Grid, Job, Nasch, ParameterError, StudyFileError, Sweep, Table, Window, find_program, moving, random_cells,
 )
-from trlab import read_study
+from trlab import Probability, read_study
 
 WORDS = ["series", "--every", "15", "--from", "5"]
 
 
-def job(p, seed, key):
+def job(p: Probability, seed: int, key: int) -> Job:
     return Job(limit=5, length=50, cars=9, rule=Nasch(p), start=random_cells(key), steps=35, key=key)
 
 
-def sweep_from(start):
-    def sweep(p, seed, key):
+def series_of(job: Union[Job, Sweep]) -> Table[Window]:
+    """The series that `WORDS` request."""
+    assert isinstance(job, Job)
+    return job.series(every=15, first=5)
+
+
+def sweep_from(start: str) -> Callable[..., Sweep]:
+    def sweep(p: Probability, seed: int, key: int) -> Sweep:
         cars = [number % 40 + 1 for number in range(250)] if start == "many" else [5, 10, 15]
         return Sweep(
             limit=5, length=50, rule=Nasch(p), warm=5, measure=10, cars=cars, key=key,
@@ -38,17 +46,17 @@ def sweep_from(start):
     return sweep
 
 
-SAVED = []
-PARAMETERS = {"p": [0.25, Fraction(1, 3), "1/2"], "seed": [0, 1]}
+SAVED: list[bytes] = []
+PARAMETERS: dict[str, Iterable[object]] = {"p": [0.25, Fraction(1, 3), "1/2"], "seed": [0, 1]}
 
 
 class Folder(unittest.TestCase):
-    def setUp(self):
+    def setUp(self) -> None:
         folder = tempfile.TemporaryDirectory()
         self.addCleanup(folder.cleanup)
         self.path = Path(folder.name) / "study.trlab"
 
-    def saved(self):
+    def saved(self) -> bytes:
         """The bytes of a study, which is in the file then."""
         if not SAVED:
             Grid(job, **PARAMETERS).save(self.path, WORDS)
@@ -59,20 +67,20 @@ class Folder(unittest.TestCase):
 
 class Studies(Folder):
     @needs("pandas")
-    def test_the_frame_is_the_same_to_the_last_bit(self):
+    def test_the_frame_is_the_same_to_the_last_bit(self) -> None:
         from pandas.testing import assert_frame_equal
 
-        grids = {name: (Grid(sweep_from(name), **PARAMETERS), []) for name in ("even", "random", "moving", "many")}
-        for name, (grid, words) in {**grids, "jobs": (Grid(job, **PARAMETERS), WORDS)}.items():
+        grids = {name: Grid(sweep_from(name), **PARAMETERS) for name in ("even", "random", "moving", "many")}
+        for name, grid in {**grids, "jobs": Grid(job, **PARAMETERS)}.items():
             with self.subTest(name):
-                grid.save(self.path, words)
-                expected = grid.run(call=(lambda job: job.series(every=15, first=5)) if words else None)
+                grid.save(self.path, WORDS if name == "jobs" else [])
+                expected = grid.run(call=series_of if name == "jobs" else None)
                 frame = read_study(self.path).run()
                 assert_frame_equal(frame, expected, check_exact=True, check_flags=True)
                 self.assertEqual(frame.attrs, expected.attrs)
 
     @needs("pandas")
-    def test_options_are_those_of_results(self):
+    def test_options_are_those_of_results(self) -> None:
         self.saved()
         with tempfile.TemporaryDirectory() as cache:
             frames = [read_study(self.path).run(cache=cache, at_once=2) for _ in range(2)]
@@ -80,7 +88,7 @@ class Studies(Folder):
         self.assertTrue(frames[0].equals(frames[1]))
         self.assertRaisesRegex(ParameterError, "leave out `call`", read_study(self.path).run, call=Job.series)
 
-    def test_tables_need_no_package(self):
+    def test_tables_need_no_package(self) -> None:
         self.saved()
         script = "import sys\nfor name in 'numpy', 'pandas':\n    sys.modules[name] = None\n" \
             "import trlab\nfor place, table in trlab.read_study(sys.argv[1]).results():\n    print(place.p, len(table))"
@@ -91,7 +99,7 @@ class Studies(Folder):
             sorted(process.stdout.splitlines()), sorted(f"{p} 2" for p in ("0.25", "1/3", "1/2") for _ in range(2))
         )
 
-    def test_the_contents_of_a_study(self):
+    def test_the_contents_of_a_study(self) -> None:
         grid = Grid(job, **PARAMETERS)
         self.saved()
         study = read_study(self.path)
@@ -102,13 +110,13 @@ class Studies(Folder):
             self.assertEqual(input.words, tuple(WORDS))
             self.assertEqual(input.texts, (grid.inputs[place].text(),))
         self.assertEqual(
-            dict(study.results()), {place: job.series(every=15, first=5) for place, job in grid.inputs.items()}
+            dict(study.results()), {place: series_of(job) for place, job in grid.inputs.items()}
         )
         program = hashlib.sha256(Path(find_program()).read_bytes()).hexdigest()
         self.assertEqual(study.version, trlab.__version__)
         self.assertEqual(study.program, program)
 
-    def test_the_same_study_is_the_same_bytes(self):
+    def test_the_same_study_is_the_same_bytes(self) -> None:
         content = self.saved()
         Grid(job, **PARAMETERS).save(self.path, WORDS)
         self.assertEqual(self.path.read_bytes(), content)
@@ -117,7 +125,7 @@ class Studies(Folder):
         for input in Grid(job, **PARAMETERS).inputs.values():
             self.assertIn(input.text().encode(), content)
 
-    def test_anyone_can_run_a_line_of_a_study(self):
+    def test_anyone_can_run_a_line_of_a_study(self) -> None:
         self.saved()
         with zipfile.ZipFile(self.path) as file:
             about = json.loads(file.read("study.json"))
@@ -126,10 +134,10 @@ class Studies(Folder):
         process = subprocess.run([find_program(), *choice["words"]], input=text, stdout=subprocess.PIPE, check=True)
         self.assertEqual(
             Table.read(Window, process.stdout),
-            Grid(job, **PARAMETERS).inputs[(Fraction(1, 3), 1)].series(every=15, first=5),
+            series_of(Grid(job, **PARAMETERS).inputs[(Fraction(1, 3), 1)]),
         )
 
-    def test_results_that_cannot_be_saved(self):
+    def test_results_that_cannot_be_saved(self) -> None:
         grid = Grid(job, **PARAMETERS)
         for words in [], ["run"], ["sweep"], ["series", "--every", "16"], ["series; id"]:
             self.assertRaisesRegex(
@@ -140,7 +148,7 @@ class Studies(Folder):
         )
         self.assertFalse(self.path.exists())
 
-    def test_another_program(self):
+    def test_another_program(self) -> None:
         self.saved()
         other = self.path.parent / "other"
         other.write_text(f'#!/bin/sh\n[ "$1" != --version ] || exec echo trlab 9\nexec "{find_program()}" "$@"\n')
@@ -161,13 +169,16 @@ class Studies(Folder):
 class OtherFiles(Folder):
     """Damaged, foreign and hostile files."""
 
-    def reject(self, content, message="."):
+    def reject(self, content: bytes, message: str = ".") -> None:
         self.path.write_bytes(content)
         with self.assertRaises(StudyFileError) as caught:
             read_study(self.path)
         self.assertRegex(str(caught.exception), message)
 
-    def rewritten(self, change=lambda about: None, members=lambda texts: None, compression=zipfile.ZIP_STORED):
+    def rewritten(
+        self, change: Callable[[Any], object] = lambda about: None, members: Callable[[dict[str, bytes]], object] = lambda texts: None,
+        compression: int = zipfile.ZIP_STORED,
+    ) -> bytes:
         """The bytes of a study whose study.json or members were changed."""
         with zipfile.ZipFile(io.BytesIO(self.saved())) as file:
             texts = {name: file.read(name) for name in file.namelist()}
@@ -181,12 +192,12 @@ class OtherFiles(Folder):
                 file.writestr(name, text)
         return archive.getvalue()
 
-    def test_a_changed_study_is_a_study(self):
+    def test_a_changed_study_is_a_study(self) -> None:
         """The helper of these tests makes valid studies, so that each rejection below has its own reason."""
         self.path.write_bytes(self.rewritten())
         self.assertEqual(len(read_study(self.path).inputs), 6)
 
-    def test_every_cut_and_changed_byte(self):
+    def test_every_cut_and_changed_byte(self) -> None:
         content = self.saved()
         for length in range(0, len(content), 97):
             with self.subTest(length=length):
@@ -196,15 +207,15 @@ class OtherFiles(Folder):
         self.reject(b"no archive")
         self.reject(b"")
 
-    def test_paths_that_are_not_files(self):
+    def test_paths_that_are_not_files(self) -> None:
         self.assertRaises(FileNotFoundError, read_study, self.path)
         self.assertRaisesRegex(StudyFileError, "is not a file", read_study, self.path.parent)
         os.mkfifo(self.path)
         self.assertRaisesRegex(StudyFileError, "is not a file", read_study, self.path)
 
-    def test_members_of_study_json(self):
+    def test_members_of_study_json(self) -> None:
         """Each member is missing once, and has each of these values once."""
-        values = None, True, 1, "x", [], {}, [1], [None], [True], 1.5
+        values: list[object] = [None, True, 1, "x", [], {}, [1], [None], [True], 1.5]
         for name in "format", "trlab", "program", "program_version", "parameters", "choices":
             self.reject(self.rewritten(lambda about: about.pop(name) and None))
             for value in values:
@@ -222,31 +233,32 @@ class OtherFiles(Folder):
                 with self.subTest(name=name, value=value):
                     self.reject(self.rewritten(lambda about: about["choices"][0]["roads"].update({name: value})))
 
-    def test_parameters_that_no_study_has(self):
+    def test_parameters_that_no_study_has(self) -> None:
         for names in ["p"], ["p", "p"], ["p", "class"], ["p", "_x"], ["p", "import os"], ["p", "q", "seed"]:
             self.reject(self.rewritten(lambda about: about.update(parameters=names)))
-        fractions = {"fraction": "1/0"}, {"fraction": 1}, {"fraction": "x"}, {"a": "1"}
-        for value in None, True, [], {}, *fractions, float("inf"), float("nan"):
+        fractions: list[object] = [{"fraction": "1/0"}, {"fraction": 1}, {"fraction": "x"}, {"a": "1"}]
+        for value in [None, True, [], {}, *fractions, float("inf"), float("nan")]:
             with self.subTest(value=value):
                 self.reject(self.rewritten(lambda about: about["choices"][0].update(values=[value, 0])))
 
-    def test_words_that_give_no_table(self):
+    def test_words_that_give_no_table(self) -> None:
         """Only tables, and no steps that the windows leave out."""
         options = ["--every", "16"], ["--every", "x"], ["--from", "35"], ["; id"]
         for words in ["run"], ["check"], ["sweep"], ["--version"], *(["series", *option] for option in options):
             self.reject(self.rewritten(lambda about: about["choices"][0].update(words=words)))
 
-    def test_choices_that_contradict_each_other(self):
-        for change in (
+    def test_choices_that_contradict_each_other(self) -> None:
+        changes: list[Callable[[list[dict[str, Any]]], object]] = [
             lambda choices: choices.pop(), lambda choices: choices.clear(), lambda choices: choices.append(choices[0]),
             lambda choices: choices[0].update(choices[1]),
             lambda choices: choices[0].update(values=choices[1]["values"]),
-        ):
+        ]
+        for change in changes:
             self.reject(self.rewritten(lambda about: change(about["choices"]) and None))
         for name in "../../etc/passwd", "/etc/passwd", "study.json":
             self.reject(self.rewritten(lambda about: about["choices"][0].update(files=[name])))
 
-    def test_other_json(self):
+    def test_other_json(self) -> None:
         for change in lambda about: [about], lambda about: 1, lambda about: {"format": about["format"]}:
             self.reject(self.rewritten(change))
         for text in b"[" * 10**6, b'{"a": ' + b"9" * 10**5 + b"}", b"\xff", b"":
@@ -254,7 +266,7 @@ class OtherFiles(Folder):
         self.reject(self.rewritten(members=lambda texts: texts.pop("study.json") and None))
         self.reject(self.rewritten(lambda about: about.update(format="trlab study 2")), "another version")
 
-    def test_members_of_the_archive(self):
+    def test_members_of_the_archive(self) -> None:
         first = "inputs/000000.job"
         for change in (
             lambda texts: texts.pop(first) and None, lambda texts: texts.update({"more": b""}),
@@ -264,7 +276,7 @@ class OtherFiles(Folder):
         ):
             self.reject(self.rewritten(members=change))
 
-    def test_names_that_lead_elsewhere(self):
+    def test_names_that_lead_elsewhere(self) -> None:
         name = "inputs/../../evil.job"
         content = self.rewritten(
             lambda about: about["choices"][0].update(files=[name]),
@@ -272,7 +284,7 @@ class OtherFiles(Folder):
         )
         self.reject(content, "another name")
 
-    def test_huge_members(self):
+    def test_huge_members(self) -> None:
         self.reject(self.rewritten(compression=zipfile.ZIP_DEFLATED), "compressed")
         # All entries of the directory are of one long member.
         content = self.saved()
@@ -282,13 +294,13 @@ class OtherFiles(Folder):
         tail = end[:8] + struct.pack("<HHII", 60000, 60000, len(entries), begin) + end[20:]
         self.reject(content[:begin] + entries + tail)
 
-    def test_two_members_of_one_name(self):
+    def test_two_members_of_one_name(self) -> None:
         self.path.write_bytes(self.saved())
         with zipfile.ZipFile(self.path, "a") as file, self.assertWarns(UserWarning):
             file.writestr("inputs/000000.job", "")
         self.reject(self.path.read_bytes(), "two members")
 
-    def test_locked_members(self):
+    def test_locked_members(self) -> None:
         content = bytearray(self.saved())
         place = content.index(b"PK\1\2")
         while place >= 0:

@@ -122,16 +122,21 @@ def without_processor(words: str) -> str:
 
 def constant(head: str, types: str, values: str, alignment: str) -> str:
     """A constant in which four zero bytes follow each pointer."""
-    found: list[tuple[str, str]] = []
+    items: list[tuple[str, str]] = []
     end = 0
-    while value := IN_CONSTANT.match(values, end):
-        found.append((value[1] or value[3], value[2] or value[4]))
-        end = value.end() + len(", ")
-    if [kind for kind, _ in found] != types.split(", ") or end != len(values) + len(", "):
+    while item := IN_CONSTANT.match(values, end):
+        items.append((item[1] or item[3], item[2] or item[4]))
+        end = item.end() + len(", ")
+    if [kind for kind, _ in items] != types.split(", ") or end != len(values) + len(", "):
         raise UnknownForm(values)
-    narrow = [part for kind, value in found for part in ([(kind, value), ("i32", "0")] if kind == "ptr" else [(kind, value)])]
-    kinds, items = (", ".join(parts) for parts in ((kind for kind, _ in narrow), (f"{kind} {value}" for kind, value in narrow)))
-    return f"{head} <{{ {kinds} }}> <{{ {items} }}>, align {alignment}"
+    narrow_items: list[tuple[str, str]] = []
+    for kind, value in items:
+        narrow_items.append((kind, value))
+        if kind == "ptr":
+            narrow_items.append(("i32", "0"))
+    narrow_types = ", ".join(kind for kind, _ in narrow_items)
+    narrow_values = ", ".join(f"{kind} {value}" for kind, value in narrow_items)
+    return f"{head} <{{ {narrow_types} }}> <{{ {narrow_values} }}>, align {alignment}"
 
 
 class Narrowing:
@@ -158,24 +163,25 @@ class Narrowing:
         return self.rewritten(line)
 
     def rewritten(self, line: str) -> str:
-        if found := LOAD.fullmatch(line):
-            name, place, alignment = found.groups()
+        """The line or lines for a line that loads, stores or makes a pointer, or that lists attributes or values."""
+        if match := LOAD.fullmatch(line):
+            name, place, alignment = match.groups()
             number = self.new()
             return f"  {number} = load i64, ptr {place}, align {alignment}\n  {name} = inttoptr i64 {number} to ptr"
-        if found := STORE.fullmatch(line):
-            value, place, alignment = found.groups()
+        if match := STORE.fullmatch(line):
+            value, place, alignment = match.groups()
             number = self.new()
             return f"  {number} = ptrtoint ptr {value} to i64\n  store i64 {number}, ptr {place}, align {alignment}"
-        if found := ALLOCA.fullmatch(line):
-            return f"  {found[1]} = alloca i64, align {found[2]}"
-        if found := ADDRESS.fullmatch(line):
-            return f"  {found[1]} = ptrtoint ptr {found[2]} to i64"
-        if found := OF_PAIR.fullmatch(line):
-            return self.part(*found.groups())
-        if found := ATTRIBUTE_LINE.fullmatch(line):
-            return f"attributes {found[1]} = {{ {without_processor(found[2])} }}"
-        if (found := CONSTANT.fullmatch(line)) and TYPES_IN_CONSTANT.fullmatch(found[2]):
-            return constant(*found.groups())
+        if match := ALLOCA.fullmatch(line):
+            return f"  {match[1]} = alloca i64, align {match[2]}"
+        if match := ADDRESS.fullmatch(line):
+            return f"  {match[1]} = ptrtoint ptr {match[2]} to i64"
+        if match := OF_PAIR.fullmatch(line):
+            return self.part(*match.groups())
+        if match := ATTRIBUTE_LINE.fullmatch(line):
+            return f"attributes {match[1]} = {{ {without_processor(match[2])} }}"
+        if (match := CONSTANT.fullmatch(line)) and TYPES_IN_CONSTANT.fullmatch(match[2]):
+            return constant(*match.groups())
         raise UnknownForm(line)
 
     def part(self, name: str, first: str, second: str, pair: str, index: str) -> str:

@@ -98,41 +98,47 @@ def eliminated(left: list[Row], last: int, to_others: Fraction) -> Row:
 
 def arrows(rows: Sequence[Row]) -> list[list[tuple[int, float]]]:
     """For each state the states that lead to it, each with the probability of that transition."""
-    found: list[list[tuple[int, float]]] = [[] for _ in rows]
+    sources: list[list[tuple[int, float]]] = [[] for _ in rows]
     for state, row in enumerate(rows):
         for target, chance in row.items():
-            found[target].append((state, float(chance)))
-    return found
+            sources[target].append((state, float(chance)))
+    return sources
 
 
-def step(now: Sequence[float], into: Sequence[Sequence[tuple[int, float]]]) -> list[float]:
-    """The probabilities of the states one step later."""
-    return [sum([now[state] * chance for state, chance in its]) for its in into]
+def step(now: Sequence[float], sources: Sequence[Sequence[tuple[int, float]]]) -> list[float]:
+    """The probabilities of the states one step later, from the states that lead to each."""
+    return [sum([now[state] * chance for state, chance in sources_of_state]) for sources_of_state in sources]
 
 
 def by_iteration(rows: Sequence[Row], accuracy: float = 1e-16) -> list[float]:
     """The stationary probabilities in floating point numbers: steps from equal ones, until none changes them."""
-    into, now, moved = arrows(rows), [1 / len(rows)] * len(rows), 1.0
-    while moved > accuracy:
-        after = step(now, into)
-        moved, now = max(abs(new - old) for new, old in zip(after, now)), after
+    sources, now, largest_change = arrows(rows), [1 / len(rows)] * len(rows), 1.0
+    while largest_change > accuracy:
+        after = step(now, sources)
+        largest_change = max(abs(new - old) for new, old in zip(after, now))
+        now = after
     total = sum(now)
     return [share / total for share in now]
 
 
-def expected_distance(found: Chain, steps: int) -> float:
+def expected_distance(chain: Chain, steps: int) -> float:
     """The mean of the cells driven in the step after `steps` steps from the first state."""
-    into, now = arrows(found.rows), [1.0] + [0.0] * (len(found.rows) - 1)
+    sources, now = arrows(chain.rows), [1.0] + [0.0] * (len(chain.rows) - 1)
     for _ in range(steps):
-        now = step(now, into)
-    return sum(share * float(means.distance) for share, means in zip(now, found.means))
+        now = step(now, sources)
+    return sum(share * float(means.distance) for share, means in zip(now, chain.means))
 
 
-def stationary(found: Chain, most_states: int = MAX_STATES) -> Means:
+def stationary(chain: Chain, most_states: int = MAX_STATES) -> Means:
     """The means of the stationary state, as fractions if the chain has at most `most_states` states."""
     shares: Sequence[Number]
-    if len(found.rows) <= most_states:
-        shares = by_elimination(found.rows)
+    if len(chain.rows) <= most_states:
+        shares = by_elimination(chain.rows)
     else:
-        shares = by_iteration(found.rows)
-    return Means(*(sum(share * mean for share, mean in zip(shares, column)) for column in zip(*found.means)))
+        shares = by_iteration(chain.rows)
+    return Means(*(weighted_sum(shares, means_of_states) for means_of_states in zip(*chain.means)))
+
+
+def weighted_sum(weights: Sequence[Number], values: Sequence[Number]) -> Number:
+    """The sum of values, each times its weight."""
+    return sum(weight * value for weight, value in zip(weights, values))

@@ -27,13 +27,21 @@ class Outcome(NamedTuple):
 
 def cars_on(lane: str) -> Iterator[int]:
     """The cells of the cars."""
-    return (cell for cell, sign in enumerate(lane) if sign != EMPTY)
+    return (cell for cell, character in enumerate(lane) if character != EMPTY)
 
 
-def gap(lane: str, cell: int, way: int = 1) -> int:
-    """The number of empty cells from a cell to the next car, ahead (way 1) or behind (way -1)."""
-    others = len(lane) - 1
-    return next((k for k in range(others) if lane[(cell + way * (k + 1)) % len(lane)] != EMPTY), others)
+def cars_of(state: State) -> list[tuple[int, int]]:
+    """The lane and the cell of each car."""
+    return [(number, cell) for number, lane in enumerate(state) for cell in cars_on(lane)]
+
+
+def gap(lane: str, cell: int, direction: int = 1) -> int:
+    """The number of empty cells from a cell to the next car, ahead (direction 1) or behind (direction -1)."""
+    other_cells = len(lane) - 1
+    for empty in range(other_cells):
+        if lane[(cell + direction * (empty + 1)) % len(lane)] != EMPTY:
+            return empty
+    return other_cells
 
 
 def leader(lane: str, cell: int) -> int:
@@ -48,19 +56,21 @@ def lane_of(length: int, speeds: dict[int, int]) -> str:
 
 def motions(state: State, model: Any) -> Iterator[Outcome]:
     """All ways in which the cars can move."""
-    cars, odds = [], []
-    for number, lane in enumerate(state):
-        for cell in cars_on(lane):
-            cars.append((number, cell))
-            odds.append(model.motion(Seen(int(lane[cell]), gap(lane, cell), leader(lane, cell))).items())
-    for chosen in product(*odds):
+    cars, length = cars_of(state), len(state[0])
+    # For each car its possible speeds, with their probabilities.
+    choices = []
+    for number, cell in cars:
+        lane = state[number]
+        seen = Seen(int(lane[cell]), gap(lane, cell), leader(lane, cell))
+        choices.append(model.motion(seen).items())
+    for chosen in product(*choices):
         probability, distance = Fraction(1), 0
         lanes: list[dict[int, int]] = [{} for _ in state]
         for (number, cell), (speed, chance) in zip(cars, chosen):
-            lanes[number][(cell + speed) % len(state[0])] = speed
+            lanes[number][(cell + speed) % length] = speed
             probability *= chance
             distance += speed
-        yield Outcome(probability, tuple(lane_of(len(state[0]), lane) for lane in lanes), distance, 0)
+        yield Outcome(probability, tuple(lane_of(length, lane) for lane in lanes), distance, 0)
 
 
 def side(state: State, number: int, cell: int) -> Side:
@@ -70,25 +80,34 @@ def side(state: State, number: int, cell: int) -> Side:
     return Side(int(lane[cell]), gap(lane, cell), leader(lane, cell), gap(other, cell), back, number)
 
 
+def chance_to_change(state: State, number: int, cell: int, model: Any) -> Fraction:
+    """The probability that a car changes lanes: 0 if its side cell is occupied."""
+    if state[1 - number][cell] != EMPTY:
+        return Fraction(0)
+    chance: Fraction = model.change(side(state, number, cell))
+    return chance
+
+
 def lane_changes(state: State, model: Any) -> Iterator[Outcome]:
     """All ways in which the cars can change lanes."""
     if len(state) == 1:
         yield Outcome(Fraction(1), state, 0, 0)
         return
-    cars, odds = [], []
-    for number, lane in enumerate(state):
-        for cell in cars_on(lane):
-            chance = model.change(side(state, number, cell)) if state[1 - number][cell] == EMPTY else Fraction(0)
-            cars.append((number, cell))
-            odds.append([(new, p) for new, p in ((1 - number, chance), (number, 1 - chance)) if p])
-    for chosen in product(*odds):
+    cars, length = cars_of(state), len(state[0])
+    # For each car its possible lanes, with their probabilities.
+    choices = []
+    for number, cell in cars:
+        change = chance_to_change(state, number, cell, model)
+        lanes_of_car = [(1 - number, change), (number, 1 - change)]
+        choices.append([(new_number, chance) for new_number, chance in lanes_of_car if chance > 0])
+    for chosen in product(*choices):
         probability, changes = Fraction(1), 0
         lanes: list[dict[int, int]] = [{} for _ in state]
-        for (number, cell), (new, chance) in zip(cars, chosen):
-            lanes[new][cell] = int(state[number][cell])
+        for (number, cell), (new_number, chance) in zip(cars, chosen):
+            lanes[new_number][cell] = int(state[number][cell])
             probability *= chance
-            changes += new != number
-        yield Outcome(probability, tuple(lane_of(len(state[0]), lane) for lane in lanes), 0, changes)
+            changes += new_number != number
+        yield Outcome(probability, tuple(lane_of(length, lane) for lane in lanes), 0, changes)
 
 
 def steps(state: State, model: Any) -> Iterator[Outcome]:
@@ -101,7 +120,7 @@ def steps(state: State, model: Any) -> Iterator[Outcome]:
 @lru_cache(maxsize=None)
 def next_states(state: State, model: Any) -> dict[State, Fraction]:
     """The probability of each next state."""
-    found: dict[State, Fraction] = {}
+    probabilities: dict[State, Fraction] = {}
     for outcome in steps(state, model):
-        found[outcome.state] = found.get(outcome.state, Fraction(0)) + outcome.probability
-    return found
+        probabilities[outcome.state] = probabilities.get(outcome.state, Fraction(0)) + outcome.probability
+    return probabilities

@@ -97,15 +97,17 @@ def parts_of(content: str) -> list[Part]:
 
 def calls_of(part: Part, front: str) -> Optional[Calls]:
     """The command lines of a part and their input; None if its words are not a command."""
-    words, text = part.words, part.text or ""
-    if words == "words":
+    command, text = part.words, part.text or ""
+    if command == "words":
+        # Each line of the text is a command line, and the front is their input.
         return Calls([line.split() for line in text.split("\n")[:-1]], front)
-    if words in PARALLEL_OPTIONS:
-        return Calls([[words], [words, *PARALLEL_OPTIONS[words].split()]], front + text)
-    if words == "check" or words in EXPLAINED:
-        return Calls([words.split()], front + text)
-    if words in NUMBERED:
-        return Calls([[*words.split(), text.strip()]], "")
+    if command in PARALLEL_OPTIONS:
+        return Calls([[command], [command, *PARALLEL_OPTIONS[command].split()]], front + text)
+    if command == "check" or command in EXPLAINED:
+        return Calls([command.split()], front + text)
+    if command in NUMBERED:
+        number = text.strip()
+        return Calls([[*command.split(), number]], "")
     return None
 
 

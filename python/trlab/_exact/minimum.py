@@ -118,8 +118,12 @@ def _distances_on(lane: str, limit: int, time: int) -> list[int]:
         """P(i) - limit * i, for i as the place."""
         return place // cars * empty + sums[place % cars] - limit * place
 
-    # A lap adds the same to every height, so only the first lap of a window counts, or the last one.
-    first, last = (0, min(time, cars - 1)) if empty >= limit * cars else (max(0, time - cars + 1), time)
+    # A lap adds the same to every height, so only the first lap of a window counts if this is at least 0, or the last one.
+    added_by_lap = empty - limit * cars
+    if added_by_lap >= 0:
+        first, last = 0, min(time, cars - 1)
+    else:
+        first, last = max(0, time - cars + 1), time
     lowest = _minima([height(place) for place in range(first, cars + last)], last - first + 1)
     return [limit * (time + car) - sums[car] + low for car, low in enumerate(lowest)]
 

@@ -82,6 +82,7 @@ class Job:
         warn_of_uneven_lanes(self.start, [self.count()], self.length, self.lanes)
 
     def _store_road(self) -> None:
+        """Stores a road that was given as `start`, with its length and lanes."""
         need_no_name(self.start)
         road = lanes_of(self.start, self.limit)
         if self.cars is not None or self.density is not None:

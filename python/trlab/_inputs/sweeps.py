@@ -120,6 +120,7 @@ class Sweep:
         return input_text(lines + [f"cars {cars}" for cars in self.counts()])
 
     def _need_one_input(self) -> None:
+        """Raises `ParameterError` if the sweep is not a single input, with the method to use."""
         steps, count = self.warm + self.measure, len(self.counts())
         if self.start != even:
             raise ParameterError("a sweep file begins with evenly spaced cars, but this sweep does not: use `jobs()`")

@@ -68,7 +68,8 @@ class Snapshots(ResultList[Snapshot]):
         from .arrays import numpy
 
         number_type = numpy.dtype(dtype)
-        if number_type.kind not in "fi" or number_type.itemsize < (4 if number_type.kind == "f" else 2):
+        least_size = {"f": 4, "i": 2}.get(number_type.kind)
+        if least_size is None or number_type.itemsize < least_size:
             raise ParameterError(
                 f"speeds need float32, float64 or a signed whole number from int16 on, not {number_type}"
             )

@@ -24,7 +24,7 @@ METHODS = {"motion": "car.draw, car.safe", "change": "car.draw"}
 
 
 class Calls(Conditions):
-    """Calls, and the random words that they use: each with whether the function gives its number."""
+    """Calls. `words` has the random words that they use, each with whether the function gives its number."""
 
     def __init__(self, kind: str, attempt: Attempt) -> None:
         super().__init__(kind, attempt)
@@ -67,13 +67,13 @@ class Calls(Conditions):
 
     def _extreme(self, name: str, node: ast.Call) -> Number:
         """The value of `min`, `max` or `abs`."""
-        is_one = name == "abs"
+        takes_one = name == "abs"
         has_stars = any(isinstance(argument, ast.Starred) for argument in node.args)
-        if node.keywords or has_stars or (len(node.args) < 2) != is_one:
-            self.fail(node, f"needs {'one number' if is_one else 'two or more numbers'}")
+        if node.keywords or has_stars or (len(node.args) < 2) != takes_one:
+            self.fail(node, f"needs {'one number' if takes_one else 'two or more numbers'}")
         values = [self.number(argument) for argument in node.args]
         with self.at(node):
-            return Number(self.numbers.size(values[0])) if is_one else self.numbers.extreme(name, values)
+            return Number(self.numbers.size(values[0])) if takes_one else self.numbers.extreme(name, values)
 
     def _safe(self, node: ast.Call) -> Number:
         """The number, but at least 0 and at most the gap and the limit."""
@@ -81,7 +81,7 @@ class Calls(Conditions):
             self.fail(node, "needs one number")
         value = self.number(node.args[0])
         with self.at(node):
-            bounds = [Number(self.emitter.new("get", rest=[name])) for name in ("gap", "limit")]
+            bounds = [Number(self.emitter.new("get", constants=[name])) for name in ("gap", "limit")]
             return self.numbers.extreme("min", [Number(value.plus), *bounds])
 
     def _drawn(self, node: ast.Call) -> Flag:
@@ -92,7 +92,8 @@ class Calls(Conditions):
                 node, "needs a probability: write `car.draw(p)`, or `car.draw(p, word=k)` with a random word k, 0 to 15"
             )
         word = self._word(node)
-        if self.words.setdefault(word, bool(names)) != bool(names):
+        is_given = names != []
+        if self.words.setdefault(word, is_given) != is_given:
             self.fail(node, f"uses random word {word}, which another draw uses too: give all draws their `word=`")
         with self.at(node):
             result, next_word = Register(self.emitter.place.text), self._next_word
@@ -135,7 +136,7 @@ class Calls(Conditions):
                 "car.speed == 0 else p`"
             )
         try:
-            return self.emitter.emit("draw", result, rest=[word, parts(probability("the probability", value))])
+            return self.emitter.emit("draw", result, constants=[word, parts(probability("the probability", value))])
         except ParameterError as error:
             self.fail(expression, f"is not a probability: {error}")
 

@@ -52,10 +52,12 @@ class Conditions(Expressions):
         sums = [self.sum(operand) for operand in [node.left, *node.comparators]]
         skip = Label()
         with self.at(node):
-            for place, (operator, left, right) in enumerate(zip(node.ops, sums, sums[1:]), 1):
-                is_last = place == len(node.ops)
-                to, truth = (target, when) if is_last or not when else (skip, False)
-                self.numbers.compare(operator, right - left, to, truth)
+            *first_comparisons, last_comparison = zip(node.ops, sums, sums[1:])
+            for operator, left, right in first_comparisons:
+                # One comparison that is false decides the whole.
+                self.numbers.compare(operator, right - left, skip if when else target, False)
+            operator, left, right = last_comparison
+            self.numbers.compare(operator, right - left, target, when)
             self.emitter.label(skip)
 
     def _branch_at_value(self, value: Value, node: ast.expr, target: Label, when: bool) -> None:

@@ -48,7 +48,7 @@ class Instruction:
     name: str
     writes: Optional[Register]
     reads: tuple[Register, ...]
-    rest: tuple[object, ...]
+    constants: tuple[object, ...]
     target: Optional[Label]
     place: Place
     difference: Optional[int] = None
@@ -76,26 +76,26 @@ class Emitter:
         self._paths: dict[Label, list[set[object]]] = {}
 
     def emit(
-        self, name: str, writes: Optional[Register] = None, *reads: Operand, rest: Sequence[object] = (),
+        self, name: str, writes: Optional[Register] = None, *reads: Operand, constants: Sequence[object] = (),
         target: Optional[Label] = None, difference: Optional[int] = None,
     ) -> None:
         """Adds an instruction, unless no path leads here."""
         registers = tuple(self.held(operand) for operand in reads)
         if not self.is_live:
             return
-        for number in rest:
+        for number in constants:
             self._need_small(number)
-        self._items.append(Instruction(name, writes, registers, tuple(rest), target, self.place, difference))
+        self._items.append(Instruction(name, writes, registers, tuple(constants), target, self.place, difference))
         if target is not None:
             self._paths.setdefault(target, []).append(set(self.assigned))
         self.is_live = name not in ENDS
 
     def new(
-        self, name: str, *reads: Operand, rest: Sequence[object] = (), difference: Optional[int] = None
+        self, name: str, *reads: Operand, constants: Sequence[object] = (), difference: Optional[int] = None
     ) -> Register:
         """The same with a new register for the result."""
         result = Register(self.place.text)
-        self.emit(name, result, *reads, rest=rest, difference=difference)
+        self.emit(name, result, *reads, constants=constants, difference=difference)
         return result
 
     def held(self, operand: Operand) -> Register:
@@ -103,7 +103,7 @@ class Emitter:
         if isinstance(operand, Register):
             return operand
         if not self.shares:
-            return self.new("num", rest=[operand])
+            return self.new("num", constants=[operand])
         self._need_small(operand)
         return self._constants.setdefault(operand, Register(str(operand)))
 
@@ -122,7 +122,7 @@ class Emitter:
     def items(self, place: Place) -> list[Item]:
         """The whole program, which begins with its shared constants, at this place."""
         constants = [
-            Instruction("num", register, reads=(), rest=(number,), target=None, place=place)
+            Instruction("num", register, reads=(), constants=(number,), target=None, place=place)
             for number, register in self._constants.items()
         ]
         return [*constants, *self._items]

@@ -75,9 +75,9 @@ class Expressions(Names):
     def _one_if(self, jump: Callable[[Label], None]) -> Number:
         """1 if this jumps, and otherwise 0."""
         result, end = Register("a condition"), Label()
-        self.emitter.emit("num", result, rest=[1])
+        self.emitter.emit("num", result, constants=[1])
         jump(end)
-        self.emitter.emit("num", result, rest=[0])
+        self.emitter.emit("num", result, constants=[0])
         self.emitter.label(end)
         return Number(result)
 
@@ -136,7 +136,7 @@ class Expressions(Names):
             self.reject(node, node, "has no meaning in a rule")
         with self.at(node):
             if node.attr in INPUTS[self.kind]:
-                return Number(self.emitter.new("get", rest=[node.attr]))
+                return Number(self.emitter.new("get", constants=[node.attr]))
             if node.attr == "side" and self.kind == "change":
                 return Flag(self.emitter.new("side"))
         inputs = ", ".join(INPUTS[self.kind]) + (" and side" if self.kind == "change" else "")
@@ -189,6 +189,6 @@ class Expressions(Names):
     def _store(self, to: Register, part: int | Register) -> None:
         """Copies a part of a number to a register."""
         if isinstance(part, int):
-            self.emitter.emit("num", to, rest=[part])
+            self.emitter.emit("num", to, constants=[part])
         elif part is not to:
             self.emitter.emit("copy", to, part)

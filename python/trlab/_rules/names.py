@@ -16,10 +16,11 @@ from .outside import instead_of
 from .reading import UNKNOWN, Function, plain
 
 _OPERATORS = (
-    ast.Constant, ast.Name, ast.Load, ast.IfExp, ast.BoolOp, ast.boolop, ast.Compare, ast.Lt, ast.LtE, ast.Gt, ast.GtE,
-    ast.Eq,
-    ast.NotEq, ast.UnaryOp, ast.UAdd, ast.USub, ast.Not, ast.BinOp, ast.Add, ast.Sub, ast.Mult, ast.Div, ast.FloorDiv,
-    ast.Mod,
+    ast.Constant, ast.Name, ast.Load,
+    ast.IfExp, ast.BoolOp, ast.boolop,
+    ast.Compare, ast.Lt, ast.LtE, ast.Gt, ast.GtE, ast.Eq, ast.NotEq,
+    ast.UnaryOp, ast.UAdd, ast.USub, ast.Not,
+    ast.BinOp, ast.Add, ast.Sub, ast.Mult, ast.Div, ast.FloorDiv, ast.Mod,
 )
 """The syntax of expressions that Python itself calculates if all names in them are constants."""
 
@@ -208,19 +209,31 @@ def _first_line_of(node: ast.AST) -> str:
 @lru_cache(maxsize=4096)
 def _names_in(node: ast.AST) -> Optional[list[ast.Name]]:
     """The names in an expression; None if it has more than operators, names and constants."""
-    parts = [_names_in(child) for child in ast.iter_child_nodes(node)] if isinstance(node, _OPERATORS) else [None]
-    if None in parts:
+    if not isinstance(node, _OPERATORS):
         return None
-    this_name = [node] if isinstance(node, ast.Name) else []
-    return this_name + [name for part in parts for name in part or []]
+    names = [node] if isinstance(node, ast.Name) else []
+    for child in ast.iter_child_nodes(node):
+        names_in_child = _names_in(child)
+        if names_in_child is None:
+            return None
+        names += names_in_child
+    return names
 
 
 def _calculated(node: ast.expr, names: dict[str, Any]) -> Any:
     """The value of an expression with these names. A text has no calculations, because it could become very long."""
     if isinstance(node, (ast.Constant, ast.Name)):
         return node.value if isinstance(node, ast.Constant) else names[node.id]
-    leaves = [leaf for operation in ast.walk(node) if isinstance(operation, ast.BinOp) for leaf in ast.walk(operation)]
-    values = [names[leaf.id] if isinstance(leaf, ast.Name) else getattr(leaf, "value", None) for leaf in leaves]
-    if any(isinstance(value, (str, bytes)) for value in values):
+    operations = [part for part in ast.walk(node) if isinstance(part, ast.BinOp)]
+    if any(_has_text(operation, names) for operation in operations):
         raise TypeError("a text is not a number")
     return eval(compile(ast.Expression(node), "constant", "eval"), {"__builtins__": {}}, names)
+
+
+def _has_text(operation: ast.BinOp, names: dict[str, Any]) -> bool:
+    """Whether a text, or a name of a text, is in an operation."""
+    for part in ast.walk(operation):
+        value = names[part.id] if isinstance(part, ast.Name) else getattr(part, "value", None)
+        if isinstance(value, (str, bytes)):
+            return True
+    return False

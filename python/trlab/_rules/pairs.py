@@ -42,9 +42,14 @@ def constant(number: int) -> Number:
 
 def summand(number: Number) -> Sum:
     """A number as a sum."""
-    plus, minus = (() if isinstance(part, int) else (part,) for part in (number.plus, number.minus))
-    offset = sum(sign * part for sign, part in ((1, number.plus), (-1, number.minus)) if isinstance(part, int))
-    return Sum(plus, minus, offset)
+    plus, of_plus = _register_and_constant(number.plus)
+    minus, of_minus = _register_and_constant(number.minus)
+    return Sum(plus, minus, of_plus - of_minus)
+
+
+def _register_and_constant(part: Operand) -> tuple[tuple[Register, ...], int]:
+    """A part of a number as registers to be added and a constant."""
+    return ((), part) if isinstance(part, int) else ((part,), 0)
 
 
 class Arithmetic:
@@ -88,7 +93,10 @@ class Arithmetic:
 
     def quotient(self, number: Number, by: int) -> Number:
         """The quotient, rounded down: a negative part is rounded up."""
-        minus = 0 if number.minus == 0 else self._by("div", self.total([self._emitter.held(number.minus)], by - 1), by)
+        minus: Operand = 0
+        if number.minus != 0:
+            increased = self.total([self._emitter.held(number.minus)], by - 1)
+            minus = self._by("div", increased, by)
         return Number(self._by("div", number.plus, by), minus, number.why)
 
     def remainder(self, number: Number, by: int) -> Number:
@@ -103,14 +111,15 @@ class Arithmetic:
             return operand * by if name == "mul" else operand // by
         if by == 0:
             return 0
-        return operand if by == 1 else self._emitter.new(name, operand, rest=[by])
+        return operand if by == 1 else self._emitter.new(name, operand, constants=[by])
 
     def extreme(self, name: str, numbers: Sequence[Number]) -> Number:
         """The smallest or the largest number."""
-        other = "max" if name == "min" else "min"
+        opposite = "max" if name == "min" else "min"
         plus = self._best(name, [number.plus for number in numbers])
-        minus = self._best(other, [number.minus for number in numbers])
-        return Number(plus, minus, next((number.why for number in numbers if number.minus != 0), None))
+        minus = self._best(opposite, [number.minus for number in numbers])
+        first_negative = next((number for number in numbers if number.minus != 0), None)
+        return Number(plus, minus, None if first_negative is None else first_negative.why)
 
     def size(self, number: Number) -> Operand:
         """The distance to 0."""
@@ -120,14 +129,14 @@ class Arithmetic:
         """The smallest or largest of several parts, of which constants are compared at once."""
         constants = [part for part in parts if isinstance(part, int)]
         registers = [part for part in parts if isinstance(part, Register)]
-        best = [{"min": min, "max": max}[name](constants)] if constants else []
-        if not registers or name == "min" and best == [0]:
-            return best[0]
+        best_constant = {"min": min, "max": max}[name](constants) if constants else None
+        if best_constant is not None and (not registers or name == "min" and best_constant == 0):
+            return best_constant
         best_so_far = registers[0]
-        rest: list[Operand] = [*registers[1:], *(best if best != [0] else [])]
-        for other in rest:
+        for other in registers[1:]:
             best_so_far = self._emitter.new(name, best_so_far, other)
-        return best_so_far
+        # No part is below 0, so that a maximum with 0 changes nothing.
+        return self._emitter.new(name, best_so_far, best_constant) if best_constant else best_so_far
 
     def compare(self, operator: ast.cmpop, terms: Sum, target: Label, when: bool) -> None:
         """Jumps if `left operator right` is `when`; the terms are right - left."""
@@ -143,16 +152,28 @@ class Arithmetic:
         self._emitter.label(skip)
 
     def jump(self, low: Operand, high: Operand, may_be_equal: bool, target: Label, when: bool) -> None:
-        """Jumps if `low` < `high`, or <= if they may be equal, is `when`. A comparison with a constant is always
-        constant <= register, so that the verifier learns how much may be subtracted."""
-        if isinstance(high, int) and isinstance(low, Register):
-            return self.jump(high + may_be_equal, low, True, target, not when)
-        if isinstance(low, int):
-            low, may_be_equal = low + (not may_be_equal), True
-            if low <= 0 or isinstance(high, int):
-                if (low <= 0 or isinstance(high, int) and low <= high) == when:
-                    self._emitter.emit("jump", target=target)
-                return None
-        if when:
-            return self._emitter.emit("jle" if may_be_equal else "jlt", None, low, high, target=target)
-        return self._emitter.emit("jlt" if may_be_equal else "jle", None, high, low, target=target)
+        """Jumps if `low` < `high`, or <= if they may be equal, is `when`."""
+        if isinstance(low, int) and isinstance(high, int):
+            is_true = low <= high if may_be_equal else low < high
+            if is_true == when:
+                self._emitter.emit("jump", target=target)
+        elif isinstance(low, int):
+            self._jump_at_least(high, low if may_be_equal else low + 1, target, when)
+        elif isinstance(high, int):
+            # `low` <= `high` is the opposite of `low` >= `high` + 1, and `low` < `high` that of `low` >= `high`.
+            self._jump_at_least(low, high + 1 if may_be_equal else high, target, not when)
+        elif when:
+            self._emitter.emit("jle" if may_be_equal else "jlt", None, low, high, target=target)
+        else:
+            self._emitter.emit("jlt" if may_be_equal else "jle", None, high, low, target=target)
+
+    def _jump_at_least(self, operand: Operand, least: int, target: Label, when: bool) -> None:
+        """Jumps if a register is at least a constant, or if it is not. As the program has constant <= register, the
+        verifier learns how much may be subtracted."""
+        if least <= 0:
+            if when:
+                self._emitter.emit("jump", target=target)
+        elif when:
+            self._emitter.emit("jle", None, least, operand, target=target)
+        else:
+            self._emitter.emit("jlt", None, operand, least, target=target)

@@ -94,13 +94,15 @@ def _without_unread(items: Sequence[Item]) -> list[Item]:
     """The items without instructions whose result is not read. A difference stays, because the translation assumed that
     it is not negative, possibly in order to leave it out, and the verifier has to confirm this."""
     while True:
-        read_items = [
-            item for item, living in zip(items, _living(items))
-            if isinstance(item, Label) or item.writes in {None, *living} or item.difference is not None
-        ]
+        read_items = [item for item, living in zip(items, _living(items)) if _is_needed(item, living)]
         if len(read_items) == len(items):
             return read_items
         items = read_items
+
+
+def _is_needed(item: Item, living: set[Register]) -> bool:
+    """Whether an item is a label, has a result that is read later, or has no result, or is a difference."""
+    return isinstance(item, Label) or item.writes is None or item.writes in living or item.difference is not None
 
 
 def _without_short_jumps(items: Sequence[Item]) -> list[Item]:
@@ -125,7 +127,9 @@ def _conflicts(items: Sequence[Item]) -> Conflicts:
     conflicts: Conflicts = {register: set() for instruction in instructions for register in instruction.registers()}
     for item, after in zip(items, _living(items)):
         if isinstance(item, Instruction) and item.writes is not None:
-            for other in after - {item.writes} - (set(item.reads) if item.name == "copy" else set()):
+            # A copy may have the register of its source.
+            may_share = {item.writes, *item.reads} if item.name == "copy" else {item.writes}
+            for other in after - may_share:
                 conflicts[other].add(item.writes)
                 conflicts[item.writes].add(other)
     return conflicts
@@ -157,9 +161,11 @@ def _copies(items: Sequence[Item]) -> dict[Register, list[Register]]:
 
 def _too_many(items: Sequence[Item]) -> TooManyError:
     """The place at which the most values are needed at once."""
-    pairs = [(item.place, living) for item, living in zip(items, _living(items)) if isinstance(item, Instruction)]
-    place, living = max(pairs, key=lambda pair: len(pair[1]))
-    return TooManyError(place, sorted({register.name for register in living}))
+    place, most_living = Place("", 0, ""), set[Register]()
+    for item, living in zip(items, _living(items)):
+        if isinstance(item, Instruction) and len(living) > len(most_living):
+            place, most_living = item.place, living
+    return TooManyError(place, sorted({register.name for register in most_living}))
 
 
 def _lines(items: Sequence[Item], numbers: dict[Optional[Register], int]) -> Written:
@@ -176,11 +182,14 @@ def _lines(items: Sequence[Item], numbers: dict[Optional[Register], int]) -> Wri
     jump_targets = {targets[instruction.target] for instruction in instructions if instruction.target is not None}
     lines, last_place = [], None
     for number, instruction in enumerate(instructions):
-        operands = [*(f"r{numbers[register]}" for register in instruction.registers()), *map(str, instruction.rest)]
+        operands = [*(f"r{numbers[register]}" for register in instruction.registers()), *map(str, instruction.constants)]
         if instruction.target is not None:
             operands.append(f"L{targets[instruction.target]}")
-        line = f"L{number}: " * (number in jump_targets) + f"{instruction.name} {', '.join(operands)}".rstrip()
-        comment = instruction.place.text[:_MAX_COMMENT].encode("ascii", "replace").decode()
-        lines.append(line if instruction.place == last_place else f"{line:<{_COMMENT_COLUMN}}; {comment}")
+        label = f"L{number}: " if number in jump_targets else ""
+        line = label + f"{instruction.name} {', '.join(operands)}".rstrip()
+        if instruction.place != last_place:
+            comment = instruction.place.text[:_MAX_COMMENT].encode("ascii", "replace").decode()
+            line = f"{line:<{_COMMENT_COLUMN}}; {comment}"
+        lines.append(line)
         last_place = instruction.place
     return Written(lines, instructions)

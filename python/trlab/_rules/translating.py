@@ -47,34 +47,36 @@ class Program(str):
 
 def compiled(kind: str, function: Function, named: Mapping[str, Any], verify: Verify) -> Program:
     """The program of a function with these parameters. Raises `RuleError`."""
-    full: Optional[TooManyError] = None
+    last_error: Optional[TooManyError] = None
     for shares in True, False:
         try:
             return _compiled(kind, function, named, verify, Attempt(shares))
         except TooManyError as error:
-            full = error
-    assert full is not None
-    names = ", ".join(full.names)
-    full.place.fail(
-        f"`{full.place.text}` needs more than eight registers: calculate fewer values before this line, or some of "
-        f"them after it ({names})"
+            last_error = error
+    assert last_error is not None
+    place, names = last_error.place, ", ".join(last_error.names)
+    place.fail(
+        f"`{place.text}` needs more than eight registers: calculate fewer values before this line, or some of them "
+        f"after it ({names})"
     )
 
 
 def _compiled(kind: str, function: Function, named: Mapping[str, Any], verify: Verify, attempt: Attempt) -> Program:
-    """The program, or `TooManyError` if eight registers do not suffice for this attempt."""
-    arguments = [f"{name}={_shown(value)}" for name, value in function.bound([Car()], named).items()]
-    title = f"{function.node.name}({', '.join(arguments[1:])})".encode("ascii", "replace").decode()
+    """The program, or `TooManyError` if eight registers do not suffice for this attempt. A translation that shows that
+    more variables or differences may be negative is followed by another one."""
+    title = _title_of(function, named)
     while True:
-        forms = attempt.forms()
+        forms_before = attempt.forms()
         translation, place = _translated(kind, function, named, attempt)
-        if attempt.forms() > forms:
+        if attempt.forms() > forms_before:
             continue
         try:
             program = written(translation.emitter.items(place))
         except TooLongError as error:
-            place.fail(f"`{function.node.name}` needs at least {error.count} instructions, and a program has at most "
-                       f"{MAX_INSTRUCTIONS}: write fewer turns of loops, or a simpler rule")
+            place.fail(
+                f"`{function.node.name}` needs at least {error.count} instructions, and a program has at most "
+                f"{MAX_INSTRUCTIONS}: write fewer turns of loops, or a simpler rule"
+            )
         text = Program(program.text(kind, title))
         verdict = verify(text)
         if isinstance(verdict, int):
@@ -85,6 +87,12 @@ def _compiled(kind: str, function: Function, named: Mapping[str, Any], verify: V
         if verdict.reason != NEGATIVE or rejected.difference is None:
             _explain(rejected, verdict.reason)
         attempt.below.add(rejected.difference)
+
+
+def _title_of(function: Function, named: Mapping[str, Any]) -> str:
+    """The call of a function without the car, as the title of its program."""
+    _, *arguments = [f"{name}={_shown(value)}" for name, value in function.bound([Car()], named).items()]
+    return f"{function.node.name}({', '.join(arguments)})".encode("ascii", "replace").decode()
 
 
 def _shown(value: Any) -> str:
@@ -109,6 +117,6 @@ def _explain(rejected: Instruction, reason: int) -> NoReturn:
     """Raises the error of an instruction that the verifier rejects."""
     advice = _ADVICE.get(
         reason,
-        f"is rejected by the verifier for reason {reason}: this is an error of the translation, please " "report it",
+        f"is rejected by the verifier for reason {reason}: this is an error of the translation, please report it",
     )
     rejected.place.fail(f"`{rejected.place.text}` {advice}")

@@ -105,7 +105,7 @@ def named() -> Optional[str]:
 
 @functools.lru_cache(maxsize=None)
 def _is_trlab(path: str, modified: int) -> bool:
-    """Whether a program, which was changed last at this time, says that it is trlab."""
+    """Whether a program, which was changed last at this time, prints a version of trlab."""
     return (printed_by(path, "--version") or "").startswith("trlab ")
 
 
@@ -116,10 +116,10 @@ def _packed() -> Optional[str]:
         return None
     level = "x86-64-v3" if FEATURES_OF_V3 <= _features() else "x86-64-v2"
     lines = (_PACKED / "release.txt").read_text("utf-8").splitlines()
-    released = dict(line.split() for line in lines if not line.startswith("#"))
+    sha256 = dict(line.split() for line in lines if not line.startswith("#"))[level]
     for folder in _folders():
-        path = folder / f"trlab-{level}-{released[level]}"
-        if _has_sum(path, released[level]) or _unpacked(_PACKED / f"trlab-{level}.gz", path, released[level]):
+        path = folder / f"trlab-{level}-{sha256}"
+        if _has_sum(path, sha256) or _unpacked(_PACKED / f"trlab-{level}.gz", path, sha256):
             return str(path)
     raise ProgramNotFoundError(
         f"the program in {_PACKED} is damaged, or no folder can hold its copy: install trlab again"
@@ -185,9 +185,7 @@ def of_checkout() -> Optional[str]:
         return None
     if not _SCRIPT.is_file() or not os.access(_SCRIPT, os.X_OK):
         return None
-    process = subprocess.run(
-        [_SCRIPT, "--where"], stdin=subprocess.DEVNULL, stdout=subprocess.PIPE, stderr=subprocess.PIPE
-    )
+    process = subprocess.run([_SCRIPT, "--where"], stdin=subprocess.DEVNULL, capture_output=True)
     path = os.fsdecode(process.stdout).rstrip("\n")
     if process.returncode != 0 or not path:
         message = process.stderr.decode("utf-8", "replace").strip()

@@ -16,6 +16,7 @@ from typing import NamedTuple, Optional
 from .systems import after_fork, is_running
 
 _MARK = "-trlab-"
+_MAX_WAIT, _BETWEEN_LOOKS = 10, 0.02  # for the tasks of a run that is over, in seconds
 
 # The files of this process that exist only as long as it works on them.
 _OWNED: set[Path] = set()
@@ -65,9 +66,9 @@ def remove_left(folder: Path) -> None:
 
 
 def _is_left(file: Path) -> bool:
-    """Whether the process of a file of this machine has ended."""
-    number = file.name.split("-")[-2]
-    return number.isdecimal() and not is_running(int(number))
+    """Whether the process of a file of this machine has ended. The number of the process is in the name of the file."""
+    *_, process, _ = file.name.split("-")
+    return process.isdecimal() and not is_running(int(process))
 
 
 class Lease(NamedTuple):
@@ -82,8 +83,9 @@ class Lease(NamedTuple):
     @classmethod
     def new(cls, folder: Optional[Path]) -> Lease:
         """A lease of this process, in a folder that can be written to or in the one for temporary files."""
-        place = folder if folder is not None and os.access(folder, os.W_OK) else Path(tempfile.gettempdir())
-        return cls(str(new_path(place, "running")), machine(), os.getpid())
+        if folder is None or not os.access(folder, os.W_OK):
+            folder = Path(tempfile.gettempdir())
+        return cls(str(new_path(folder, "running")), machine(), os.getpid())
 
     @contextmanager
     def held(self) -> Iterator[None]:
@@ -94,9 +96,9 @@ class Lease(NamedTuple):
 
     def wait_for_tasks(self) -> None:
         """Waits until the tasks in other processes have noticed that the run is over, for 10 seconds at most."""
-        path, latest = Path(self.path), time.monotonic() + 10
+        path, latest = Path(self.path), time.monotonic() + _MAX_WAIT
         while any(path.parent.glob(f"{path.name}.*")) and time.monotonic() < latest:
-            time.sleep(0.02)
+            time.sleep(_BETWEEN_LOOKS)
 
     @contextmanager
     def task(self) -> Iterator[None]:

@@ -52,7 +52,7 @@ class Processes:
     def start(self, request: Request, source: IO[bytes], messages: IO[bytes]) -> Child:
         """A new process, which is killed if all were stopped before."""
         program = find_program()
-        with self._lock, _ENDING.late():
+        with self._lock, _ENDING.delayed():
             try:
                 command = [*command_of(program), *request.arguments]
                 process = Child(command, stdin=source, stdout=subprocess.PIPE, stderr=messages)
@@ -182,7 +182,8 @@ def run(request: Request) -> Generator[bytes, None, int]:
                 processes.remove(process)
         if rejection:
             raise RejectionError(status, rejection.decode(errors="replace"))
-        if status not in ((0, REJECTED) if request.is_explanation() else (0,)):
+        is_expected = status == 0 or status == REJECTED and request.is_explanation()
+        if not is_expected:
             messages.seek(0)
             raise ProgramError(status, messages.read(_MAX_MESSAGE).decode(errors="replace"))
         length.end()

@@ -49,7 +49,8 @@ class Request(NamedTuple):
         counted = self.steps() - first
         if command == "series":
             return 1 + max(0, counted) // every
-        return 0 if counted < 0 else (counted // every + 1) * (1 + self.text.count("\nlane "))
+        snapshots, lines_per_snapshot = counted // every + 1, 1 + self.text.count("\nlane ")
+        return 0 if counted < 0 else snapshots * lines_per_snapshot
 
     def windows(self) -> Windows:
         """The windows of a series, or the snapshots of a run."""

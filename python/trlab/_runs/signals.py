@@ -31,7 +31,7 @@ class Ending:
 
     def __init__(self, stop: Callable[[], object]) -> None:
         self._stop, self._users = stop, 0
-        self._is_late, self._number = False, 0
+        self._is_delayed, self._number = False, 0
         after_fork(self._forget)
 
     @contextmanager
@@ -51,17 +51,17 @@ class Ending:
                     self._replace(self._end, signal.SIG_DFL)
 
     @contextmanager
-    def late(self) -> Iterator[None]:
-        """A signal waits until the end of the block, which is short. A program that has started inside the block, and that
-        is not known yet, would otherwise go on without this process."""
+    def delayed(self) -> Iterator[None]:
+        """A signal waits until the end of the block, which is short. Otherwise a program that starts inside the block, and
+        is not noted yet, would continue when this process has ended."""
         if threading.current_thread() is not threading.main_thread():
             yield
             return
-        self._is_late = True
+        self._is_delayed = True
         try:
             yield
         finally:
-            self._is_late = False
+            self._is_delayed = False
             if self._number:
                 self._end(self._number, None)
 
@@ -73,7 +73,7 @@ class Ending:
 
     def _end(self, number: int, _: Optional[FrameType]) -> None:
         """Stops everything, and ends this process by the signal."""
-        if self._is_late:
+        if self._is_delayed:
             self._number = number
             return
         self._stop()
@@ -84,5 +84,5 @@ class Ending:
 
     def _forget(self) -> None:
         """A new process of the system has nothing to stop."""
-        self._users, self._is_late, self._number = 0, False, 0
+        self._users, self._is_delayed, self._number = 0, False, 0
         self._replace(self._end, signal.SIG_DFL)

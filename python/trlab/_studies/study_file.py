@@ -172,21 +172,12 @@ def read_study(path: Union[str, Path], any_program: bool = False) -> Study:
 
 def _study_in(file: zipfile.ZipFile, size: int) -> Study:
     """The study in an archive of this number of bytes. Raises `StudyFileError`, or other errors if it is damaged."""
-    members = file.infolist()
-    names = [member.filename for member in members]
-    _need(all(member.compress_type == zipfile.ZIP_STORED for member in members), "it is compressed")
-    _need(sum(member.file_size for member in members) <= size, "its members are longer than the file")
-    _need(len(set(names)) == len(names), "it has two members of one name")
+    _check_members(file, size)
     about = json.loads(file.read("study.json"), parse_constant=_no_number)
     _need(isinstance(about, dict), "study.json is not an object")
     _need(about.get("format") == _FORMAT, f"its format is not `{_FORMAT}`: it may be of another version")
     _check_about(about)
-    listed = [name for choice in about["choices"] for name in choice["files"]]
-    _need(sorted([*listed, "study.json"]) == sorted(names), "its members are not those that study.json lists")
-    _need(all(_FILE.fullmatch(name) for name in listed), "an input has another name")
-    _need(
-        all(file.getinfo(name).file_size <= _MAX_BYTES for name in listed), f"an input has more than {_MAX_BYTES} bytes"
-    )
+    _check_names(file, [name for choice in about["choices"] for name in choice["files"]])
     make: Any = namedtuple("Choice", about["parameters"])  # type: ignore[misc]
     inputs = {}
     for choice in about["choices"]:
@@ -198,6 +189,22 @@ def _study_in(file: zipfile.ZipFile, size: int) -> Study:
         for text in input.texts:
             need_whole_windows(Request(input.words, text))
     return Study(about, inputs)
+
+
+def _check_members(file: zipfile.ZipFile, size: int) -> None:
+    """Raises `StudyFileError` if members are compressed, longer than the archive, or of the same name."""
+    members = file.infolist()
+    _need(all(member.compress_type == zipfile.ZIP_STORED for member in members), "it is compressed")
+    _need(sum(member.file_size for member in members) <= size, "its members are longer than the file")
+    _need(len({member.filename for member in members}) == len(members), "it has two members of one name")
+
+
+def _check_names(file: zipfile.ZipFile, inputs: Sequence[str]) -> None:
+    """Raises `StudyFileError` if the members are not study.json and the inputs that it lists."""
+    _need(sorted([*inputs, "study.json"]) == sorted(file.namelist()), "its members are not those that study.json lists")
+    _need(all(_FILE.fullmatch(name) for name in inputs), "an input has another name")
+    are_short = all(file.getinfo(name).file_size <= _MAX_BYTES for name in inputs)
+    _need(are_short, f"an input has more than {_MAX_BYTES} bytes")
 
 
 def _check_about(about: Mapping[str, Any]) -> None:

@@ -7,7 +7,7 @@ from ..command import Verdicts
 from ..finding import match_in
 from ..proofs import bodies, record
 from ..proofs.false_statements import FALSE
-from .standing import QUOTED, content
+from .files import QUOTED, content
 
 PAGE = "docs/dev/GUARANTEES.md"
 # The list of files in which one promise is read, and a row of it: a file of crates/, and what to read there.
@@ -39,7 +39,7 @@ def walk_leads_to_definitions() -> Verdicts:
 def recorded(crate: bodies.Crate) -> list[tuple[str, str, bool]]:
     """The rows of a crate's record: a wrong body, a function that the prover has refused with it, and whether that was a clause."""
     rows = (row.split("\t") for row in bodies.read(record.path_of(crate)).splitlines() if not row.startswith(("#", "sources")))
-    return [(name, path, bool(bodies.OF_CLAUSE.search(line))) for name, path, line in rows]
+    return [(name, path, bool(bodies.OF_CLAUSE.search(line))) for name, _, path, _, line in rows]
 
 
 def numbers_of_bodies(crate: bodies.Crate) -> tuple[int, ...]:

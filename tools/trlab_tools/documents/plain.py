@@ -3,13 +3,12 @@ Python package, the pages for users and those with a word limit may use few of t
 condition. The pages of each kind, and all pages for users together, must have enough of the words that connect and advise,
 and sentences that are neither choppy nor long."""
 import ast
-import os
 import re
 from collections.abc import Iterator
 
-from .. import TOP
 from ..command import Verdicts
-from .standing import MAX_WORDS
+from .files import content, files_below
+from .lengths import MAX_WORDS
 
 # Words that often replace a noun or a condition.
 STAND_INS = re.compile(r"\b(?:what|whoever|alone|told|stands?|where)\b", re.I)
@@ -37,25 +36,13 @@ KINDS = {
 }
 PAGES = [*KINDS["pages for users"], "cases/README.md"]
 CONNECTING = {"can": 2.2, "when": 2.0, "will": 1.45, "should": 1.3, "but": 0.8}
-MEAN_SENTENCE = 14, 20  # words
+MIN_MEAN_SENTENCE, MAX_MEAN_SENTENCE = 14, 20  # words
 # Parts of a page that are not sentences; where a paragraph or an item begins; and where a sentence does.
 NO_SENTENCES = re.compile(r"^```.*?^```$|<!-- .*? -->.*?<!-- end -->|^ *(?:\||!\[|<img|#).*?$|\]\([^)]*\)", re.M | re.S)
 PARAGRAPH = re.compile(r"\n\s*\n|\n(?= *(?:- |\d+\. ))")
 SENTENCE = re.compile(r"(?<=[.!?:])\s+(?=[A-Z`*\"\[])")
 # Blocks, code, links, and headings, which may be questions.
 NO_PROSE = re.compile(r"^```.*?^```$|`[^`]*`|\]\([^)]*\)|^#[^\n]*$", re.M | re.S)
-
-
-def files_below(folder: str, ending: str) -> Iterator[str]:
-    """The files in a folder, and in the folders below it, with this ending."""
-    for path, _, names in sorted(os.walk(os.path.join(TOP, folder))):
-        yield from (os.path.join(path, name) for name in sorted(names) if name.endswith(ending))
-
-
-def content(path: str) -> str:
-    """The text of a file."""
-    with open(os.path.join(TOP, path), encoding="utf-8") as file:
-        return file.read()
 
 
 def literals(path: str) -> str:
@@ -88,16 +75,24 @@ def sentences(text: str) -> Iterator[list[str]]:
                 yield words
 
 
+def words_in(sentence_words: list[list[str]]) -> list[str]:
+    """All words of sentences in lower case, without marks of punctuation."""
+    text = " ".join(" ".join(words) for words in sentence_words)
+    return re.findall(r"[a-z][\w'-]*", text.lower())
+
+
 def pages_are_connected() -> Verdicts:
     """Whether the pages of each kind together have enough of each connecting word, and the mean length of their sentences."""
     for kind, pages in KINDS.items():
         all_sentences = [words for page in pages for words in sentences(content(page))]
-        words = re.findall(r"[a-z][\w'-]*", " ".join(" ".join(words) for words in all_sentences).lower())
-        for word, least in CONNECTING.items():
+        words = words_in(all_sentences)
+        for word, minimum in CONNECTING.items():
             share = 1000 * words.count(word) / len(words)
-            yield share >= least, f"the {kind} have only {share:.1f} {word!r} per 1000 words: give reasons, contrasts and advice"
+            message = f"the {kind} have only {share:.1f} {word!r} per 1000 words: give reasons, contrasts and advice"
+            yield share >= minimum, message
         mean = sum(map(len, all_sentences)) / len(all_sentences)
-        yield MEAN_SENTENCE[0] <= mean <= MEAN_SENTENCE[1], f"the sentences of the {kind} have {mean:.1f} words on average"
+        is_right = MIN_MEAN_SENTENCE <= mean <= MAX_MEAN_SENTENCE
+        yield is_right, f"the sentences of the {kind} have {mean:.1f} words on average"
 
 
 def verdicts() -> Verdicts:

@@ -12,7 +12,7 @@ from typing import NamedTuple
 
 from .. import TOP
 from . import reference
-from .standing import content, documents, known_files
+from .files import content, documents, known_files
 
 # Beside the documents: the folders with figures and linked files, and single files.
 FOLDERS = "docs/", "examples/", "node/", "studies/"

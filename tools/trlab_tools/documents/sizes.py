@@ -6,7 +6,8 @@ from collections.abc import Iterable
 from .. import TOP
 from ..command import Verdicts
 from ..proofs import bodies
-from .standing import DECISIONS, FENCED, content, decisions, documents
+from .decisions import PAGE as DECISIONS, decisions
+from .files import FENCED, content, documents
 
 THOUSAND = 1000
 # The crates of the layer "Tests and examples" of crates.txt.

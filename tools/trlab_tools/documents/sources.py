@@ -3,15 +3,13 @@ remarks.py) may use few of the words that often replace a noun or a condition, a
 the crates must not have the same name, and nor must two definitions of specs/, except for the names in TWICE."""
 import collections
 import contextlib
-import os
 import re
 from collections.abc import Iterable
 
-from .. import TOP
 from ..command import Verdicts
-from .plain import STAND_INS, content, files_below
+from .files import content, files_below, known_files
+from .plain import STAND_INS
 from .remarks import remarks
-from .standing import known_files
 
 # The places of prose, and its words.
 Prose = list[tuple[str, str]]
@@ -40,13 +38,13 @@ TWICE = {"Rejection"}
 
 
 def crate_of(path: str) -> str:
-    """The crate of a path."""
-    return os.path.relpath(path, os.path.join(TOP, "crates")).split(os.sep)[0]
+    """The crate of a path such as `crates/CRATE/src/FILE`."""
+    return path.split("/")[1]
 
 
 def sources(folder: str, ending: str) -> list[str]:
     """The sources below src/ or specs/ of all crates."""
-    return [path for path in files_below("crates", ending) if f"{os.sep}{folder}{os.sep}" in path and "/out/" not in path]
+    return [path for path in files_below("crates", ending) if f"/{folder}/" in path and "/out/" not in path]
 
 
 def area_of(name: str) -> str:
@@ -67,10 +65,10 @@ def prose_by_area() -> dict[str, Prose]:
     return prose
 
 
-def places(pattern: re.Pattern[str], prose: Prose) -> str:
-    """The first places with words that match, for a message."""
-    examples = [f"{match[0]} ({place})" for place, text in prose if (match := pattern.search(text))]
-    return ", ".join(examples[:3])
+def first_matches(pattern: re.Pattern[str], prose: Prose) -> str:
+    """The first words that match, with their places, for a message."""
+    matches = [(pattern.search(words), place) for place, words in prose]
+    return ", ".join([f"{match[0]} ({place})" for match, place in matches if match][:3])
 
 
 def prose_is_plain() -> Verdicts:
@@ -79,22 +77,30 @@ def prose_is_plain() -> Verdicts:
         text = "\n".join(words for _, words in prose)
         share = 1000 * len(STAND_INS.findall(text)) / max(1, len(text.split()))
         is_plain = share <= MAX_IN_SOURCES
-        yield is_plain, f"{area}: {share:.1f} of 1000 words are like {'' if is_plain else places(STAND_INS, prose)}"
+        examples = "" if is_plain else first_matches(STAND_INS, prose)
+        yield is_plain, f"{area}: {share:.1f} of 1000 words are like {examples}"
         for pattern in (DIALECT, OUT_OF_MEMORY) if area.startswith("trlab_") else (DIALECT,):
-            is_free = not pattern.search(text)
-            yield is_free, f"{area} has words like {'' if is_free else places(pattern, prose)}"
+            examples = first_matches(pattern, prose)
+            yield not examples, f"{area} has words like {examples}"
+
+
+def paths_by_name(folder: str, ending: str, pattern: re.Pattern[str]) -> dict[str, set[str]]:
+    """The files that define a name, by the name."""
+    paths: dict[str, set[str]] = collections.defaultdict(set)
+    for path in sources(folder, ending):
+        for name in pattern.findall(content(path)):
+            paths[name].add(path.removeprefix("crates/"))
+    return paths
 
 
 def names_are_of_one_thing() -> Verdicts:
     """No two types, and no two definitions, have the same name."""
     for kind, folder, ending, pattern in (("type", "src", ".rt", TYPE), ("definition", "specs", ".antt", DEFINITION)):
-        paths_by_name: dict[str, set[str]] = collections.defaultdict(set)
-        for path in sources(folder, ending):
-            for name in pattern.findall(content(path)):
-                paths_by_name[name].add(os.path.relpath(path, os.path.join(TOP, "crates")))
-        twice = {name: sorted(paths) for name, paths in paths_by_name.items() if len(paths) > 1}
-        new = {name: paths for name, paths in twice.items() if name not in NO_DEFINITION | TWICE}
-        yield not new, f"{kind}s of one name: {new}"
+        several_paths = {
+            name: sorted(paths) for name, paths in paths_by_name(folder, ending, pattern).items()
+            if len(paths) > 1 and name not in NO_DEFINITION | TWICE
+        }
+        yield not several_paths, f"{kind}s of one name: {several_paths}"
 
 
 def without_layout(code: str) -> str:
@@ -118,13 +124,13 @@ def examples_are_compiled() -> Verdicts:
     files = sources("src", ".rt")
     compiled = [(crate_of(path), without_layout(content(path))) for path in files]
     for path in files:
-        crate, name, examples = crate_of(path), os.path.relpath(path, TOP), EXAMPLE.findall(content(path))
+        crate, examples = crate_of(path), EXAMPLE.findall(content(path))
         if path.endswith("src/lib.rt") and not crate.endswith("_tests"):
-            yield bool(examples), f"{name} begins with an example"
+            yield bool(examples), f"{path} begins with an example"
         for example in examples:
             lines = [without_layout(line) for line in DOC_MARK.sub("", example).splitlines()]
             is_compiled = any(other != crate and has_in_order(code, lines) for other, code in compiled)
-            yield is_compiled, f"the example of {name} is compiled in another crate: {lines[0]}"
+            yield is_compiled, f"the example of {path} is compiled in another crate: {lines[0]}"
 
 
 def verdicts() -> Verdicts:

@@ -9,18 +9,21 @@ from typing import Optional, Union
 
 from .. import program as trlab
 from .programs import Fault, Instruction, budget, disassemble
-from .reader import SPEEDS, Check, Job, Sweep, read_check, read_job, read_sweep
+from .reader import EMPTY, SPEEDS, Check, Job, Sweep, read_check, read_job, read_sweep
 
 # An exit status, or the reason why there is none.
 Status = Union[int, str]
-# A test of the status and the output of a command, and what the input is.
+# A test of the status and the output of a command, and the meaning of the input.
 Expectation = tuple[Callable[[Status, bytes], bool], Union[Job, Sweep, Check, Fault]]
 
 # The outputs of `trlab check` for a rejected program, and a note, with the ranges of numbers, flags and the side cell.
 REFUSED_PROGRAM = re.compile(rb"refused at (0|[1-9][0-9]*) reason ([1-9]|1[0-2])\n")
 NOTE = re.compile(rb"note (0|[1-9][0-9]*)(?: r[0-7] (?:[0-9]+ [0-9]+|flag|side))*(?: side)?\n")
 HEADING = b"cars,cells,steps,distance,stopped,changes,flow\n"
-CELLS = b"." + SPEEDS
+ROW = re.compile(rb"[0-9]+(,[0-9]+){6}")
+MILLION = 1000000
+# A place on the road: a lane and a cell.
+Place = tuple[int, int]
 
 
 def fault_line(fault: Fault) -> bytes:
@@ -33,9 +36,7 @@ def reason_of(kind: str, text: bytes) -> Optional[int]:
     """The reason for which `trlab check` rejects a program in its canonical form, or None."""
     status, output = trlab.run(["check"], kind.encode() + b"\n" + text)
     refusal = REFUSED_PROGRAM.fullmatch(output)
-    if status == trlab.REFUSED and refusal:
-        return int(refusal[2])
-    return None
+    return int(refusal[2]) if status == trlab.REFUSED and refusal else None
 
 
 def verdict(kind: str, program: list[Instruction]) -> Optional[int]:
@@ -48,74 +49,92 @@ def is_check(check: Check, status: Status, output: bytes) -> bool:
     refusal = REFUSED_PROGRAM.fullmatch(output)
     if refusal:
         return status == trlab.REFUSED and int(refusal[1]) < len(check.program)
-    longest = budget(check.program)
-    front = b"accepted budget %d\n" % (longest or 0) + disassemble(check.program)
-    if status != trlab.DONE or longest is None or not output.startswith(front):
+    longest_path = budget(check.program)
+    if status != trlab.DONE or longest_path is None:
         return False
-    notes = output[len(front):].splitlines(keepends=True)
-    expected = range(len(check.program) if check.notes else 0)
-    numbers = [int(note[1]) if note else None for note in map(NOTE.fullmatch, notes)]
-    return numbers == list(expected)
+    accepted = b"accepted budget %d\n" % longest_path + disassemble(check.program)
+    notes = output[len(accepted):].splitlines(keepends=True)
+    expected_notes = range(len(check.program) if check.notes else 0)
+    return output.startswith(accepted) and list(map(number_of_note, notes)) == list(expected_notes)
 
 
-def cars_of(lanes: list[bytes]) -> dict[tuple[int, int], int]:
-    """The speed of each car of a road by its lane and cell."""
-    return {(lane, place): SPEEDS.index(cell) for lane, cells in enumerate(lanes)
-            for place, cell in enumerate(cells) if cell != ord(".")}
+def number_of_note(line: bytes) -> Optional[int]:
+    """The number of the instruction to which a note belongs; None if the line is not a note."""
+    note = NOTE.fullmatch(line)
+    return int(note[1]) if note else None
+
+
+def cars_of(lanes: list[bytes]) -> dict[Place, int]:
+    """The speed of each car of a road by its place."""
+    return {
+        (number, cell): SPEEDS.index(character)
+        for number, lane in enumerate(lanes) for cell, character in enumerate(lane) if character != EMPTY
+    }
+
+
+def starts_of(lanes: list[bytes], length: int) -> Optional[dict[Place, int]]:
+    """The speed of each car by the place from which it has driven; None if two cars came from one place."""
+    starts: dict[Place, int] = {}
+    for (lane, cell), speed in cars_of(lanes).items():
+        start = lane, (cell - speed) % length
+        if start in starts or speed >= length:
+            return None
+        starts[start] = speed
+    return starts
 
 
 def follows(before: list[bytes], after: list[bytes], length: int) -> bool:
-    """Whether each car of a road has moved by its speed from the cell of a car of the road before."""
-    cars = cars_of(after)
-    starts: dict[tuple[int, int], int] = {}
-    for (lane, place), speed in cars.items():
-        start = (lane, (place - speed) % length)
-        if start in starts or speed >= length:
+    """Whether each car of a road has driven over empty cells, by its speed, from the cell of a car of the road before."""
+    starts = starts_of(after, length)
+    if starts is None:
+        return False
+    for (lane, cell), speed in starts.items():
+        passed_cells = [(cell + distance) % length for distance in range(1, speed + 1)]
+        if any((lane, passed) in starts for passed in passed_cells):
             return False
-        starts[start] = speed
-    for lane, place in starts:
-        passed = {(place + step) % length for step in range(1, starts[lane, place] + 1)}
-        if any((lane, cell) in starts for cell in passed):
-            return False
-    return sorted(place for _, place in starts) == sorted(place for _, place in cars_of(before))
+    # The car may have been on the other lane.
+    return sorted(cell for _, cell in starts) == sorted(cell for _, cell in cars_of(before))
+
+
+def is_lane(line: bytes, job: Job) -> bool:
+    """Whether a line has the length of a lane of a job, and cars up to its limit."""
+    return len(line) == len(job.lanes[0]) and not line.strip(bytes([EMPTY]) + SPEEDS[:job.limit + 1])
 
 
 def is_run(job: Job, status: Status, output: bytes) -> bool:
     """Whether an output is that of a job: a snapshot of each step, each of which follows from the one before."""
     lines = output.split(b"\n")
-    width = len(job.lanes) + 1
-    if status != trlab.DONE or lines.pop() != b"" or len(lines) != width * (job.steps + 1):
+    lines_per_step = 1 + len(job.lanes)
+    if status != trlab.DONE or lines.pop() != b"" or len(lines) != lines_per_step * (job.steps + 1):
         return False
-    before, length = job.lanes, len(job.lanes[0])
-    fastest = SPEEDS[:job.limit + 1]
+    lanes_before = job.lanes
     for step in range(job.steps + 1):
-        title, *lanes = lines[width * step:width * (step + 1)]
-        if title != b"step %d" % step or any(len(lane) != length or lane.strip(b"." + fastest) for lane in lanes):
+        title, *lanes = lines[lines_per_step * step:lines_per_step * (step + 1)]
+        if title != b"step %d" % step or not all(is_lane(lane, job) for lane in lanes):
             return False
-        if (lanes != job.lanes) if step == 0 else not follows(before, lanes, length):
+        is_right = follows(lanes_before, lanes, len(job.lanes[0])) if step > 0 else lanes == job.lanes
+        if not is_right:
             return False
-        before = lanes
+        lanes_before = lanes
     return True
 
 
 def is_point(sweep: Sweep, cars: int, line: bytes) -> bool:
     """Whether a line of a table is possible for this number of cars."""
-    if not re.fullmatch(rb"[0-9]+(,[0-9]+){6}", line):
+    if not ROW.fullmatch(line):
         return False
-    numbers = [int(word) for word in line.split(b",")]
-    distance, stopped, changes = numbers[3:6]
-    flow = distance * 1000000 // (sweep.cells * sweep.measure)
-    most = cars * sweep.measure
-    return numbers[:3] == [cars, sweep.cells, sweep.measure] and numbers[6] == flow and max(stopped, changes) <= most
+    *settings, distance, stopped, changes, flow = (int(word) for word in line.split(b","))
+    expected_flow = distance * MILLION // (sweep.cells * sweep.measure)
+    car_steps = cars * sweep.measure
+    return settings == [cars, sweep.cells, sweep.measure] and flow == expected_flow and max(stopped, changes) <= car_steps
 
 
 def is_table(sweep: Sweep, status: Status, output: bytes) -> bool:
     """Whether an output is a table of the points of a sweep."""
-    lines = output[len(HEADING):].split(b"\n")
-    return (
-        status == trlab.DONE and output.startswith(HEADING) and lines.pop() == b""
-        and len(lines) == len(sweep.cars) and all(map(is_point, [sweep] * len(lines), sweep.cars, lines))
-    )
+    if status != trlab.DONE or not output.startswith(HEADING) or not output.endswith(b"\n"):
+        return False
+    lines = output.split(b"\n")[1:-1]
+    return len(lines) == len(sweep.cars) and all(is_point(sweep, cars, line) for cars, line in zip(sweep.cars, lines))
 
 
 def expectation(command: str, text: bytes) -> Expectation:

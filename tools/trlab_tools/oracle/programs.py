@@ -5,33 +5,79 @@ program is a list of instructions. An instruction is its name and the tuple of i
 the number of its instruction."""
 import re
 from collections.abc import Iterable, Sequence
-from enum import IntEnum
-from typing import Optional, Union
+from enum import Enum, IntEnum
+from typing import NoReturn, Optional, Union
 
 # The name of an instruction and its operands.
 Instruction = tuple[str, tuple[int, ...]]
+# The operands of an instruction whose labels are still names.
+UnresolvedOperands = list[Union[bytes, int]]
 
 MAX_INSTRUCTIONS = 128
 CERTAIN = 2147483648  # the probability 1
 GREATEST = 4294967295
-MAGIC = bytes.fromhex("54524c42")
 KINDS = ("motion", "change")
 INPUTS = ("speed", "limit", "gap", "sidegap", "sideback", "lane", "headspeed")
 HEADSPEED = INPUTS.index("headspeed")
+# In bytes, a program has a heading of eight bytes and then its instructions: the magic bytes, the version, the kind and the
+# number of instructions. An instruction has its opcode, three fields of a byte each, and a number of four bytes.
+MAGIC = bytes.fromhex("54524c42")
+HEADING_SIZE = INSTRUCTION_SIZE = 8
+FIELDS = 3
+VERSION_WITH_HEADSPEED = 2
 
-# The names in the order of their opcodes, which count from 1, and their operands: d and r are registers, i is an input,
-# k a random word, t a probability, n a number, q a number that is not 0, and l a target.
-FORMS = {
-    "num": "dn", "get": "di", "side": "d", "draw": "dkt", "copy": "dr", "add": "drr", "sub": "drr",
-    "mul": "drn", "div": "drq", "min": "drr", "max": "drr", "not": "dr", "and": "drr", "or": "drr",
-    "jump": "l", "jlt": "rrl", "jle": "rrl", "jtrue": "rl", "jfalse": "rl", "go": "r", "cross": "",
-    "stay": "",
+
+class Form(Enum):
+    """The form of an operand."""
+
+    RESULT = "a register that is written"
+    REGISTER = "a register that is read"
+    INPUT = "an input of the car"
+    RANDOM_WORD = "the number of a random word"
+    PROBABILITY = "a probability in multiples of 1 / 2**31"
+    NUMBER = "a number"
+    DIVISOR = "a number that is not 0"
+    TARGET = "the instruction to which a jump goes"
+
+
+RESULT, REGISTER, INPUT, RANDOM_WORD = Form.RESULT, Form.REGISTER, Form.INPUT, Form.RANDOM_WORD
+PROBABILITY, NUMBER, DIVISOR, TARGET = Form.PROBABILITY, Form.NUMBER, Form.DIVISOR, Form.TARGET
+REGISTERS = RESULT, REGISTER
+# Operands of these forms are fields of one byte. An operand of another form is the number of the instruction.
+IN_FIELDS = RESULT, REGISTER, INPUT, RANDOM_WORD
+GREATEST_OF = {RESULT: 7, REGISTER: 7, INPUT: len(INPUTS) - 1, RANDOM_WORD: 15, PROBABILITY: CERTAIN}
+
+# The instructions in the order of their opcodes, which count from 1, and the forms of their operands.
+FORMS: dict[str, tuple[Form, ...]] = {
+    "num": (RESULT, NUMBER),
+    "get": (RESULT, INPUT),
+    "side": (RESULT,),
+    "draw": (RESULT, RANDOM_WORD, PROBABILITY),
+    "copy": (RESULT, REGISTER),
+    "add": (RESULT, REGISTER, REGISTER),
+    "sub": (RESULT, REGISTER, REGISTER),
+    "mul": (RESULT, REGISTER, NUMBER),
+    "div": (RESULT, REGISTER, DIVISOR),
+    "min": (RESULT, REGISTER, REGISTER),
+    "max": (RESULT, REGISTER, REGISTER),
+    "not": (RESULT, REGISTER),
+    "and": (RESULT, REGISTER, REGISTER),
+    "or": (RESULT, REGISTER, REGISTER),
+    "jump": (TARGET,),
+    "jlt": (REGISTER, REGISTER, TARGET),
+    "jle": (REGISTER, REGISTER, TARGET),
+    "jtrue": (REGISTER, TARGET),
+    "jfalse": (REGISTER, TARGET),
+    "go": (REGISTER,),
+    "cross": (),
+    "stay": (),
 }
 NAMES = list(FORMS)
 ENDS = ("go", "cross", "stay")
 # A label has at most 32 characters.
 LABEL = re.compile(rb"[A-Za-z_][A-Za-z0-9_]{0,31}")
 DIGITS = re.compile(rb"[0-9]+")
+MAX_DIGITS = 10
 BLANKS = b" \t"
 
 
@@ -83,41 +129,40 @@ def is_label(word: bytes) -> bool:
     return LABEL.fullmatch(word) is not None
 
 
-def is_operand(form: str, word: bytes) -> bool:
+def is_operand(form: Form, word: bytes) -> bool:
     """Whether a word has the form of an operand; its number may be out of range."""
-    if form in "dr":
+    if form in REGISTERS:
         return re.fullmatch(rb"r[0-7]", word) is not None
-    if form == "i":
+    if form is INPUT:
         return word.decode("latin-1") in INPUTS
-    if form == "l":
-        return is_label(word) or word[:1] == b"@" and DIGITS.fullmatch(word[1:]) is not None
+    if form is TARGET:
+        return is_label(word) or word.startswith(b"@") and DIGITS.fullmatch(word[1:]) is not None
     return DIGITS.fullmatch(word) is not None
 
 
-def is_in_range(form: str, number: int) -> bool:
+def is_in_range(form: Form, number: int) -> bool:
     """Whether a number is in the range of operands of this form."""
-    most = {"d": 7, "r": 7, "i": 6, "k": 15, "t": CERTAIN}.get(form, GREATEST)
-    return number <= most and not (form == "q" and number == 0)
+    return number <= GREATEST_OF.get(form, GREATEST) and not (form is DIVISOR and number == 0)
 
 
-def number_of(form: str, word: bytes) -> Optional[int]:
+def number_of(form: Form, word: bytes) -> Optional[int]:
     """The number of an operand of the right form, or None if it is out of range."""
-    if form == "i":
+    if form is INPUT:
         return INPUTS.index(word.decode())
     digits = word.lstrip(b"r@")
-    if len(digits) > 10 or not is_in_range(form, int(digits)):
+    if len(digits) > MAX_DIGITS or not is_in_range(form, int(digits)):
         return None
     return int(digits)
 
 
-def read_operands(forms: str, text: bytes, line: int) -> list[Union[bytes, int]]:
+def read_operands(forms: Sequence[Form], text: bytes, line: int) -> UnresolvedOperands:
     """The operands of an instruction; a target that is a label is still its name."""
     words = [word.strip(BLANKS) for word in text.split(b",")] if text else []
     if len(words) != len(forms) or not all(map(is_operand, forms, words)):
         raise Fault(line, Cause.OPERANDS)
-    operands: list[Union[bytes, int]] = []
+    operands: UnresolvedOperands = []
     for form, word in zip(forms, words):
-        operand = word if form == "l" and is_label(word) else number_of(form, word)
+        operand = word if form is TARGET and is_label(word) else number_of(form, word)
         if operand is None:
             raise Fault(line, Cause.OPERAND_RANGE)
         operands.append(operand)
@@ -140,134 +185,147 @@ def read_label(text: bytes, labels: dict[bytes, int], target: int, line: int) ->
 
 def assemble(lines: Iterable[bytes], first: int) -> list[Instruction]:
     """The program of the lines after its first line, which has the number `first`."""
-    instructions: list[tuple[str, list[Union[bytes, int]]]] = []
+    unresolved: list[tuple[int, str, UnresolvedOperands]] = []
     labels: dict[bytes, int] = {}
-    numbers = []
     for line, text in enumerate(lines, first + 1):
-        text = read_label(text.split(b";")[0].strip(BLANKS), labels, len(instructions), line)
-        if not text:
+        without_comment = text.split(b";")[0].strip(BLANKS)
+        statement = read_label(without_comment, labels, len(unresolved), line)
+        if not statement:
             continue
-        name, *_ = re.split(rb"[ \t]", text, maxsplit=1)
-        forms = FORMS.get(name.decode("latin-1"))
-        if forms is None:
+        word = re.split(rb"[ \t]", statement, maxsplit=1)[0]
+        name = word.decode("latin-1")
+        if name not in FORMS:
             raise Fault(line, Cause.UNKNOWN_INSTRUCTION)
-        if len(instructions) == MAX_INSTRUCTIONS:
+        if len(unresolved) == MAX_INSTRUCTIONS:
             raise Fault(line, Cause.TOO_MANY_INSTRUCTIONS)
-        operands = read_operands(forms, text[len(name):].strip(BLANKS), line)
-        instructions.append((name.decode(), operands))
-        numbers.append(line)
-    if not instructions:
+        operands = read_operands(FORMS[name], statement[len(word):].strip(BLANKS), line)
+        unresolved.append((line, name, operands))
+    if not unresolved:
         raise Fault(first, Cause.NO_INSTRUCTIONS)
-    return [named(instruction, labels, line) for instruction, line in zip(instructions, numbers)]
+    return [(name, resolved(operands, labels, line)) for line, name, operands in unresolved]
 
 
-def named(instruction: tuple[str, list[Union[bytes, int]]], labels: dict[bytes, int], line: int) -> Instruction:
-    """An instruction whose label, if it has one, is the number of the instruction that it names."""
-    name, operands = instruction
+def resolved(operands: UnresolvedOperands, labels: dict[bytes, int], line: int) -> tuple[int, ...]:
+    """The operands of an instruction, with the number of an instruction instead of each label."""
     for operand in operands:
         if isinstance(operand, bytes) and operand not in labels:
             raise Fault(line, Cause.NO_SUCH_LABEL)
-    return name, tuple(labels[operand] if isinstance(operand, bytes) else operand for operand in operands)
+    return tuple(labels[operand] if isinstance(operand, bytes) else operand for operand in operands)
 
 
-def split_fields(code: bytes) -> tuple[int, bytes, int]:
-    """The opcode, the three fields and the number of an instruction of eight bytes."""
-    return code[0], code[1:4], int.from_bytes(code[4:8], "little")
+def uses_headspeed(instruction: Instruction) -> bool:
+    """Whether an instruction gets the speed of the car ahead, which programs of version 1 cannot do."""
+    name, operands = instruction
+    return name == "get" and operands[1] == HEADSPEED
+
+
+def count_in_fields(forms: Sequence[Form]) -> int:
+    """How many operands of an instruction are in its fields."""
+    return sum(form in IN_FIELDS for form in forms)
 
 
 def instruction_of(code: bytes, version: int, line: int) -> Instruction:
     """The instruction of eight bytes."""
-    opcode, fields, number = split_fields(code)
+    opcode, fields, number = code[0], code[1:1 + FIELDS], int.from_bytes(code[1 + FIELDS:], "little")
     if not 1 <= opcode <= len(NAMES):
         raise Fault(line, Cause.OPCODE)
     name = NAMES[opcode - 1]
     forms = FORMS[name]
-    small = sum(form in "drik" for form in forms)
-    operands = [*fields[:small], number][:len(forms)]
-    unused = [*fields[small:], *([number] if small == len(forms) else [])]
-    is_old = version == 1 and name == "get" and operands[1] == HEADSPEED
-    if any(unused) or is_old or not all(map(is_in_range, forms, operands)):
+    used_fields = count_in_fields(forms)
+    has_number = used_fields < len(forms)
+    operands = (*fields[:used_fields], *([number] if has_number else []))
+    unused = [*fields[used_fields:], *([] if has_number else [number])]
+    instruction = name, operands
+    is_too_new = version < VERSION_WITH_HEADSPEED and uses_headspeed(instruction)
+    if any(unused) or is_too_new or not all(map(is_in_range, forms, operands)):
         raise Fault(line, Cause.FIELD_RANGE)
-    return name, tuple(operands)
+    return instruction
 
 
 def decode(code: bytes, line: int) -> tuple[str, list[Instruction]]:
     """The kind and the program of the bytes on a line."""
-    if len(code) < 8:
-        raise Fault(line, Cause.CUT_CODE)
-    count = int.from_bytes(code[6:8], "little")
-    for cause, is_right in (
-        (Cause.FIRST_BYTES, code[:4] == MAGIC),
-        (Cause.VERSION, code[4] in (1, 2)),
-        (Cause.OTHER_KIND, code[5] in (0, 1)),
-        (Cause.INSTRUCTION_COUNT, 1 <= count <= MAX_INSTRUCTIONS),
-        (Cause.CUT_CODE, len(code) >= 8 + 8 * count),
-    ):
-        if not is_right:
-            raise Fault(line, cause)
-    instructions = [instruction_of(code[8 + 8 * pc:16 + 8 * pc], code[4], line) for pc in range(count)]
-    if code[4] == 2 and ("get", HEADSPEED) not in ((name, operands[-1:] and operands[-1]) for name, operands in instructions):
-        raise Fault(line, Cause.NEEDLESS_VERSION)
-    if len(code) > 8 + 8 * count:
-        raise Fault(line, Cause.BYTES_AFTER_CODE)
-    return KINDS[code[5]], instructions
+
+    def fail(cause: Cause) -> NoReturn:
+        raise Fault(line, cause)
+
+    if len(code) < HEADING_SIZE:
+        fail(Cause.CUT_CODE)
+    magic, version, kind, count = code[:4], code[4], code[5], int.from_bytes(code[6:8], "little")
+    size = HEADING_SIZE + INSTRUCTION_SIZE * count
+    if magic != MAGIC:
+        fail(Cause.FIRST_BYTES)
+    if version not in (1, VERSION_WITH_HEADSPEED):
+        fail(Cause.VERSION)
+    if kind >= len(KINDS):
+        fail(Cause.OTHER_KIND)
+    if not 1 <= count <= MAX_INSTRUCTIONS:
+        fail(Cause.INSTRUCTION_COUNT)
+    if len(code) < size:
+        fail(Cause.CUT_CODE)
+    starts = range(HEADING_SIZE, size, INSTRUCTION_SIZE)
+    instructions = [instruction_of(code[start:start + INSTRUCTION_SIZE], version, line) for start in starts]
+    if version == VERSION_WITH_HEADSPEED and not any(map(uses_headspeed, instructions)):
+        fail(Cause.NEEDLESS_VERSION)
+    if len(code) > size:
+        fail(Cause.BYTES_AFTER_CODE)
+    return KINDS[kind], instructions
 
 
 def encode(kind: str, instructions: Sequence[Instruction]) -> bytes:
     """The bytes of a program."""
-    version = 2 if any(name == "get" and operands[1] == HEADSPEED for name, operands in instructions) else 1
+    version = VERSION_WITH_HEADSPEED if any(map(uses_headspeed, instructions)) else 1
     code = MAGIC + bytes([version, KINDS.index(kind)]) + len(instructions).to_bytes(2, "little")
     for name, operands in instructions:
-        forms = FORMS[name]
-        small = sum(form in "drik" for form in forms)
-        fields = bytes(operands[:small]).ljust(3, b"\0")
-        number = operands[small] if small < len(forms) else 0
+        used_fields = count_in_fields(FORMS[name])
+        fields = bytes(operands[:used_fields]).ljust(FIELDS, b"\0")
+        number = operands[used_fields] if used_fields < len(operands) else 0
         code += bytes([NAMES.index(name) + 1]) + fields + number.to_bytes(4, "little")
     return code
 
 
-def targets(instructions: Iterable[Instruction]) -> set[int]:
-    """The instructions to which some jump goes."""
-    return {operands[-1] for name, operands in instructions if "l" in FORMS[name]}
+def target_of(instruction: Instruction) -> Optional[int]:
+    """The instruction to which a jump goes, or None for another instruction."""
+    name, operands = instruction
+    return operands[-1] if TARGET in FORMS[name] else None
 
 
-def operand_text(form: str, number: int, count: int) -> str:
-    """An operand in the canonical form."""
-    if form in "dr":
+def operand_text(form: Form, number: int, count: int) -> str:
+    """An operand in the canonical form, in a program of `count` instructions."""
+    if form in REGISTERS:
         return f"r{number}"
-    if form == "i":
+    if form is INPUT:
         return INPUTS[number]
-    if form == "l":
+    if form is TARGET:
         return f"L{number}" if number < count else f"@{number}"
     return str(number)
 
 
 def disassemble(instructions: Sequence[Instruction]) -> bytes:
     """The canonical text of a program."""
-    labelled, lines = targets(instructions), []
-    for pc, (name, operands) in enumerate(instructions):
-        words = ", ".join(operand_text(form, number, len(instructions)) for form, number in zip(FORMS[name], operands))
-        lines.append((f"L{pc}: " if pc in labelled else "") + name + (" " + words if words else ""))
+    count, targets = len(instructions), set(map(target_of, instructions))
+    lines = []
+    for place, (name, operands) in enumerate(instructions):
+        label = f"L{place}: " if place in targets else ""
+        words = ", ".join(operand_text(form, number, count) for form, number in zip(FORMS[name], operands))
+        lines.append(f"{label}{name} {words}".rstrip())
     return "".join(line + "\n" for line in lines).encode()
 
 
-def next_of(instructions: Sequence[Instruction], pc: int) -> list[int]:
-    """The instructions that may follow one."""
-    name, operands = instructions[pc]
-    if name in ENDS:
-        return []
-    if name == "jump":
-        return [operands[-1]]
-    return [pc + 1] + ([operands[-1]] if "l" in FORMS[name] else [])
+def instructions_after(instructions: Sequence[Instruction], place: int) -> list[int]:
+    """The instructions that may follow the one at a place."""
+    name, _ = instructions[place]
+    target = target_of(instructions[place])
+    following = [] if name in ENDS or name == "jump" else [place + 1]
+    return following if target is None else [*following, target]
 
 
 def budget(instructions: Sequence[Instruction]) -> Optional[int]:
     """The number of instructions on the longest path through a program; None if a path goes back or outside."""
     count = len(instructions)
     longest = [0] * count
-    for pc in reversed(range(count)):
-        following = next_of(instructions, pc)
-        if not all(pc < after < count for after in following):
+    for place in reversed(range(count)):
+        following = instructions_after(instructions, place)
+        if not all(place < after < count for after in following):
             return None
-        longest[pc] = 1 + max((longest[after] for after in following), default=0)
+        longest[place] = 1 + max((longest[after] for after in following), default=0)
     return longest[0]

@@ -13,7 +13,7 @@ from .programs import CERTAIN, Cause, Fault, Instruction, assemble, decode
 Judge = Callable[[str, list[Instruction]], Optional[int]]
 
 LONGEST_TEXT = 4194304
-MAX_CELLS = 100000
+MAX_CELLS, MAX_LANES = 100000, 2  # of a lane, and of a road
 MAX_STEPS = 500000
 GREATEST_LIMIT = 35
 GREATEST_STEP = 9999999999  # of a line `at`: all numbers of ten digits can be read
@@ -22,9 +22,10 @@ MAX_POINTS = 200
 # A number without leading zeros, of at most ten digits.
 NUMBER = re.compile(rb"0|[1-9][0-9]{0,9}")
 HEX = re.compile(rb"[0-9A-Fa-f]*")
+# The characters of cells: a car by its speed, and an empty cell.
 SPEEDS = b"0123456789abcdefghijklmnopqrstuvwxyz"
-# The number of probabilities of each standard rule.
-STANDARD = {b"nasch": 1, b"vdr": 2, b"rickert": 2}
+EMPTY = ord(".")
+PROBABILITIES_OF_RULE = {b"nasch": 1, b"vdr": 2, b"rickert": 2, b"own": 0}
 
 
 class Job(NamedTuple):
@@ -92,7 +93,7 @@ class Lines:
         return words
 
     def skip(self) -> None:
-        """Go on to the line after the next one."""
+        """Continue with the line after the next one."""
         self.number += 1
 
     def value(self, word: bytes, least: int, most: int) -> int:
@@ -134,15 +135,8 @@ class Lines:
         return bytes.fromhex(word.decode())
 
 
-def judge(lines: Lines, line: int, kind: str, program: list[Instruction]) -> None:
-    """Raises the fault of a program that the verifier rejects."""
-    reason = lines.verdict(kind, program)
-    if reason is not None:
-        raise Fault(line, Cause.REJECTED_PROGRAM + reason)
-
-
-def read_block(lines: Lines, kind: str) -> list[bytes]:
-    """The lines of a part after its heading, which comes next, up to the line `end`, which is then the next one."""
+def read_lines_of_program(lines: Lines) -> list[bytes]:
+    """Read a program after its heading, which is the next line, up to the line `end`, which is then the next one."""
     lines.skip()
     first = lines.number
     while not lines.is_end() and lines.lines[lines.number - 1] != b"end":
@@ -152,80 +146,96 @@ def read_block(lines: Lines, kind: str) -> list[bytes]:
     return lines.lines[first - 1:lines.number - 1]
 
 
-def read_part(lines: Lines, kind: str, fits: bool = True) -> None:
-    """Reads a part of this kind: lines up to `end`, or a line of code. `fits` says whether the road may have one."""
+def read_program(lines: Lines, kind: str, may_have_one: bool = True) -> None:
+    """Read and judge a program of this kind: lines up to `end`, or a line of code. A road of one lane may not have a change
+    program."""
     first, words = lines.number, lines.words()
-    is_block = words == [kind.encode()]
-    if not is_block and (len(words) != 2 or words[0] != b"code"):
+    actual_kind: str
+    if words == [kind.encode()]:
+        lines_of_program = read_lines_of_program(lines)
+        if not may_have_one:
+            raise Fault(first, Cause.ONE_LANE)
+        actual_kind, program = kind, assemble(lines_of_program, first)
+    elif len(words) == 2 and words[0] == b"code":
+        code = lines.hexadecimal(words[1])
+        if not may_have_one:
+            raise Fault(first, Cause.ONE_LANE)
+        actual_kind, program = decode(code, first)
+    else:
         lines.fail(Cause.UNEXPECTED_LINE)
-    block = read_block(lines, kind) if is_block else []
-    code = b"" if is_block else lines.hexadecimal(words[1])
-    if not fits:
-        raise Fault(first, Cause.ONE_LANE)
-    actual_kind, program = (kind, assemble(block, first)) if is_block else decode(code, first)
     if actual_kind != kind:
         lines.fail(Cause.OTHER_KIND)
-    judge(lines, first, kind, program)
+    reason = lines.verdict(kind, program)
+    if reason is not None:
+        raise Fault(first, Cause.REJECTED_PROGRAM + reason)
     lines.skip()
 
 
-def read_own(lines: Lines, lanes: int) -> None:
-    """Reads the parts of `rule own`."""
-    read_part(lines, "motion")
-    if lines.head() in (b"change", b"code"):
-        read_part(lines, "change", lanes == 2)
+class RuleWords(NamedTuple):
+    """The words of a rule: its name and its probabilities."""
+
+    name: bytes
+    probabilities: list[bytes]
 
 
-def read_rule(lines: Lines, words: list[bytes], judge_line: Callable[[], object] = lambda: None) -> None:
-    """Reads the words of a rule, which end the next line. `judge_line` judges the words before them."""
-    count = STANDARD.get(words[1]) if len(words) > 1 else None
-    is_own = words == [b"rule", b"own"]
-    if not is_own and (words[0] != b"rule" or count is None or len(words) != 2 + count):
+def rule_words(lines: Lines, words: list[bytes]) -> RuleWords:
+    """The rule that ends the next line. Its probabilities may be out of range."""
+    if len(words) < 2 or words[0] != b"rule":
         lines.fail(Cause.UNEXPECTED_LINE)
-    judge_line()
-    for word in words[2:]:
-        lines.value(word, 0, CERTAIN)
+    rule = RuleWords(words[1], words[2:])
+    if len(rule.probabilities) != PROBABILITIES_OF_RULE.get(rule.name):
+        lines.fail(Cause.UNEXPECTED_LINE)
+    return rule
 
 
-def finish_rule(lines: Lines, words: list[bytes], lanes: int) -> None:
-    """Judges a rule after its words and numbers, and reads its parts."""
-    if words[1] == b"rickert" and lanes == 1:
+def check_probabilities(lines: Lines, rule: RuleWords) -> None:
+    """Judge the probabilities of a rule on the next line."""
+    for probability in rule.probabilities:
+        lines.value(probability, 0, CERTAIN)
+
+
+def finish_rule(lines: Lines, rule: RuleWords, lanes: int) -> None:
+    """Judge whether the road may have a rule, and read its programs."""
+    if rule.name == b"rickert" and lanes == 1:
         lines.fail(Cause.ONE_LANE)
     lines.skip()
-    if words[1] == b"own":
-        read_own(lines, lanes)
+    if rule.name == b"own":
+        read_program(lines, "motion")
+        if lines.head() in (b"change", b"code"):
+            read_program(lines, "change", may_have_one=lanes == 2)
 
 
 def read_first_rule(lines: Lines, lanes: int) -> None:
-    """Reads the rule of a job or a sweep."""
-    words = lines.words()
-    read_rule(lines, words)
-    finish_rule(lines, words, lanes)
+    """Read the rule of a job or a sweep."""
+    rule = rule_words(lines, lines.words())
+    check_probabilities(lines, rule)
+    finish_rule(lines, rule, lanes)
 
 
 def read_later_rules(lines: Lines, steps: int, lanes: int) -> None:
-    """Reads the `at` lines, up to the end of the input."""
-    last, count = -1, 0
+    """Read the `at` lines, up to the end of the input."""
+    last_step, count = -1, 0
     while not lines.is_end():
-        words = lines.words()
-        if words[0] != b"at" or len(words) < 3:
+        at, *step_and_rule = lines.words()
+        if at != b"at" or len(step_and_rule) < 2:
             lines.fail(Cause.UNEXPECTED_LINE)
-        # The step is judged after the words of the rule, and before its numbers.
-        read_rule(lines, words[2:], lambda: lines.value(words[1], 0, GREATEST_STEP))
-        step, count = int(words[1]), count + 1
+        rule = rule_words(lines, step_and_rule[1:])
+        step = lines.value(step_and_rule[0], 0, GREATEST_STEP)
+        check_probabilities(lines, rule)
+        count += 1
         if count > MAX_LATER_RULES:
             lines.fail(Cause.TOO_MANY_LINES)
-        if not last < step < steps:
+        if not last_step < step < steps:
             lines.fail(Cause.ORDER_OF_STEPS)
-        finish_rule(lines, words[2:], lanes)
-        last = step
+        finish_rule(lines, rule, lanes)
+        last_step = step
 
 
 def read_lanes(lines: Lines, limit: int) -> list[bytes]:
     """Reads one or two lanes, and judges them together."""
     lanes: list[bytes] = []
     numbers: list[int] = []
-    while not lanes or len(lanes) < 2 and lines.head() == b"lane":
+    while not lanes or len(lanes) < MAX_LANES and lines.head() == b"lane":
         lanes.append(lines.named(b"lane"))
         numbers.append(lines.number)
         lines.skip()
@@ -233,9 +243,9 @@ def read_lanes(lines: Lines, limit: int) -> list[bytes]:
         raise Fault(numbers[-1], Cause.LANE_LENGTH)
     for number, lane in zip(numbers, lanes):
         for cell in lane:
-            if cell != ord(".") and cell not in SPEEDS:
+            if cell != EMPTY and cell not in SPEEDS:
                 raise Fault(number, Cause.LANE_CHARACTER)
-            if cell != ord(".") and SPEEDS.index(cell) > limit:
+            if cell != EMPTY and SPEEDS.index(cell) > limit:
                 raise Fault(number, Cause.CAR_TOO_FAST)
     return lanes
 
@@ -260,23 +270,27 @@ def read_sweep(text: bytes, verdict: Judge) -> Sweep:
     lines.key()
     lines.number_line(b"limit", 1, GREATEST_LIMIT)
     length = lines.number_line(b"length", 1, MAX_CELLS)
-    lanes = lines.number_line(b"lanes", 1, 2)
+    lanes = lines.number_line(b"lanes", 1, MAX_LANES)
     read_first_rule(lines, lanes)
     warm = lines.number_line(b"warm", 0, MAX_STEPS)
     measure = lines.number_line(b"measure", 1, MAX_STEPS)
+    cars = read_points(lines, lanes * length, warm + measure)
+    return Sweep(lanes * length, warm + measure, measure, cars)
+
+
+def read_points(lines: Lines, cells: int, steps: int) -> list[int]:
+    """The number of cars of each point, up to the end of the input."""
     cars: list[int] = []
     while not cars or not lines.is_end():
-        count = lines.value(lines.named(b"cars"), 0, 200000)
-        cars.append(count)
-        for cause, is_right in (
-            (Cause.TOO_MANY_LINES, len(cars) <= MAX_POINTS),
-            (Cause.TOO_MANY_CARS, count <= lanes * length),
-            (Cause.TOO_MUCH_WORK, len(cars) * (warm + measure) <= MAX_STEPS),
-        ):
-            if not is_right:
-                lines.fail(cause)
+        cars.append(lines.value(lines.named(b"cars"), 0, MAX_LANES * MAX_CELLS))
+        if len(cars) > MAX_POINTS:
+            lines.fail(Cause.TOO_MANY_LINES)
+        if cars[-1] > cells:
+            lines.fail(Cause.TOO_MANY_CARS)
+        if len(cars) * steps > MAX_STEPS:
+            lines.fail(Cause.TOO_MUCH_WORK)
         lines.skip()
-    return Sweep(lanes * length, warm + measure, measure, cars)
+    return cars
 
 
 def read_check(text: bytes) -> Check:

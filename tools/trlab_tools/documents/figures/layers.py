@@ -15,10 +15,15 @@ LAYER = re.compile(r"^# ([^:\n]*)(?:: ([^\n]*))?\n((?:trlab_\w+:.*\n)+)", re.M)
 CRATE = re.compile(r"^(\w+):(.*)$", re.M)
 NOT_A_LAYER = "Tests and examples"
 FILLS = "#e4edf7", "#e2f3ea", "#fdf1dc", "#f7e6ef", "#e9e6f7", "#f0f0f0"
+# The boxes of layers: the distance from the edge of the drawing, and the left edge of their words.
+MARGIN, LEFT_OF_WORDS = 20, 36
 # The boxes of crates: the left edge of the first of a row, width, height, and the distances of columns and rows.
 LEFT, WIDTH, HEIGHT, COLUMN, ROW = 236, 150, 26, 164, 35
 # The space between layers, and within a layer above and below its crates.
 SPACE = 8
+# The subject of a layer: its characters per line, its letters, and the distance of its lines.
+SUBJECT_WIDTH, SUBJECT_SIZE, LINE = 30, 11.5, 15
+GREY = "#909090"
 
 
 class Layer(NamedTuple):
@@ -51,17 +56,18 @@ def layers() -> Iterator[Layer]:
 
 def draw_layer(drawing: Drawing, layer: Layer, y: float, fill: str) -> None:
     """A layer with its upper edge at y: its name and subject at the left, and its crates."""
-    drawing.box(20, y, drawing.width - 40, layer.height, fill, FRAME, 6)
-    subject = textwrap.wrap(layer.subject, 30)
-    first_line = y + layer.height / 2 + 5 - 8 * len(subject)
-    drawing.text(36, first_line, layer.name, weight="bold")
-    for place, line in enumerate(subject):
-        drawing.text(36, first_line + 16 + 15 * place, line, size=11.5)
+    drawing.box(MARGIN, y, drawing.width - 2 * MARGIN, layer.height, fill, FRAME, 6)
+    lines = textwrap.wrap(layer.subject, SUBJECT_WIDTH)
+    # The name and the subject are in the middle of the height.
+    first_line = y + layer.height / 2 + 5 - 8 * len(lines)
+    drawing.text(LEFT_OF_WORDS, first_line, layer.name, weight="bold")
+    for number, line in enumerate(lines):
+        drawing.text(LEFT_OF_WORDS, first_line + 16 + LINE * number, line, size=SUBJECT_SIZE)
     for level, crates in enumerate(layer.rows):
         top = y + layer.height - SPACE - level * ROW - HEIGHT
-        for place, crate in enumerate(crates):
-            x = LEFT + place * COLUMN
-            drawing.box(x, top, WIDTH, HEIGHT, "white", "#909090")
+        for number, crate in enumerate(crates):
+            x = LEFT + number * COLUMN
+            drawing.box(x, top, WIDTH, HEIGHT, "white", GREY)
             drawing.code(x + WIDTH / 2, top + 17, crate.removeprefix("trlab_"), "middle", SMALL)
 
 

@@ -1,14 +1,11 @@
-"""Is each page for users short and in the index, and does it have the numbers and the names of the sources that it cites?"""
+"""Does each page have the numbers and the names of the sources that it cites?"""
 import json
 import re
 
 from ..command import Verdicts
 from ..finding import match_in
-from . import standing
+from .files import content
 
-# For pages with many blocks, which do not count.
-MAX_WORDS_OUTSIDE_BLOCKS = {"README.md": 1000, "docs/TUTORIAL.md": 980, "docs/CHEATSHEET.md": 640, "docs/FAQ.md": 850}
-INDEX = "docs/README.md"
 # A number with decimals.
 NUMBER = re.compile(r"\d+\.\d+")
 # A row of the table of published figures in README.md: the page of a study, and the cells with its numbers.
@@ -35,35 +32,19 @@ LAB = "python/trlab/lab"
 NAME_ON_PAGE = re.compile(r"[>\"]([^<>\"\n]+)[<\"]")
 
 
-def words_are_few() -> Verdicts:
-    """No page has more words outside its blocks than it may have."""
-    for name, maximum in MAX_WORDS_OUTSIDE_BLOCKS.items():
-        words = len(standing.FENCED.sub("", standing.content(name)).split())
-        yield words <= maximum, f"{name} has {words} words outside its blocks, and may have {maximum} at most"
-
-
-def index_has_all_pages() -> Verdicts:
-    """Each page of docs/ is in the index by task, and has a word limit."""
-    for name in standing.documents():
-        if name.startswith("docs/") and name != INDEX:
-            link = f"]({name.removeprefix('docs/')})"
-            yield link in standing.content(INDEX), f"{INDEX} has no link to {name}"
-            yield name in standing.MAX_WORDS, f"standing.py has no word limit for {name}"
-
-
 def reproduced_numbers_are_of_studies() -> Verdicts:
     """Each number in a row of published figures in README.md is on the page of its study."""
-    rows = REPRODUCED.findall(standing.content("README.md"))
+    rows = REPRODUCED.findall(content("README.md"))
     yield len(rows) >= 3, "README.md has no table of published figures"
     for page, cells in rows:
         for number in NUMBER.findall(cells):
-            yield number in NUMBER.findall(standing.content(page)), f"README.md cites {number}, which is not in {page}"
+            yield number in NUMBER.findall(content(page)), f"README.md cites {number}, which is not in {page}"
 
 
 def speed_is_of_the_table() -> Verdicts:
     """The two numbers of README.md that cite docs/SPEED.md are in one row there."""
-    cited = NUMBER.findall(match_in(r"^\|.*\(docs/SPEED\.md\).*$", standing.content("README.md"), re.M)[0])
-    row = match_in(CITED_ROW, standing.content("docs/SPEED.md"))[0]
+    cited = NUMBER.findall(match_in(r"^\|.*\(docs/SPEED\.md\).*$", content("README.md"), re.M)[0])
+    row = match_in(CITED_ROW, content("docs/SPEED.md"))[0]
     yield len(cited) == 2, "README.md has to cite two speeds"
     for number in cited:
         yield number in NUMBER.findall(row), f"README.md cites the speed {number}, which is not in the row of docs/SPEED.md"
@@ -71,27 +52,27 @@ def speed_is_of_the_table() -> Verdicts:
 
 def measured_results_are_of_studies() -> Verdicts:
     """Each number in a row of docs/MODELS.md that cites a study is on the page of this study."""
-    rows = list(MEASURED.finditer(standing.content(MODELS)))
+    rows = list(MEASURED.finditer(content(MODELS)))
     yield len(rows) >= 6, f"{MODELS} has few rows that cite a study"
     for row in rows:
         for number in RESULT.findall(row[0]):
-            yield number in RESULT.findall(standing.content(row[1])), f"{MODELS} cites {number}, which is not in {row[1]}"
+            yield number in RESULT.findall(content(row[1])), f"{MODELS} cites {number}, which is not in {row[1]}"
 
 
 def published_rules_are_listed() -> Verdicts:
     """docs/MODELS.md names each function of the published rules."""
-    functions = RULE_FUNCTION.findall(standing.content(PUBLISHED_RULES))
+    functions = RULE_FUNCTION.findall(content(PUBLISHED_RULES))
     yield len(functions) >= 6, f"{PUBLISHED_RULES} has few rules"
     for name in functions:
-        yield f"`{name}`" in standing.content(MODELS), f"{MODELS} does not name the function {name} of {PUBLISHED_RULES}"
+        yield f"`{name}`" in content(MODELS), f"{MODELS} does not name the function {name} of {PUBLISHED_RULES}"
 
 
 def solutions_are_measured() -> Verdicts:
     """Each number in the solutions of the course is in a stored output of its notebook, which ./test notebook runs."""
-    cells = json.loads(standing.content(NOTEBOOK))["cells"]
+    cells = json.loads(content(NOTEBOOK))["cells"]
     outputs = "".join("".join(output.get("text", "")) for cell in cells for output in cell.get("outputs", ()))
     measured = set(map(float, re.findall(r"\d+(?:\.\d+)?", outputs)))
-    cited = SOLUTION.findall(NO_RESULTS.sub("", match_in(SOLUTIONS, standing.content(COURSE))[1]))
+    cited = SOLUTION.findall(NO_RESULTS.sub("", match_in(SOLUTIONS, content(COURSE))[1]))
     yield len(cited) > 50, f"{COURSE} has no solutions with numbers"
     for number in cited:
         yield float(number) in measured, f"{COURSE} has {number} in its solutions, which no cell of {NOTEBOOK} prints"
@@ -99,17 +80,15 @@ def solutions_are_measured() -> Verdicts:
 
 def controls_are_on_the_page() -> Verdicts:
     """Each name in italics in the course is a name on the page of trlab-lab."""
-    sources = (standing.content(f"{LAB}/{name}") for name in ("page.html", "page.js", "phenomena.js", "player.js"))
+    sources = (content(f"{LAB}/{name}") for name in ("page.html", "page.js", "phenomena.js", "player.js"))
     names_on_page = {name.strip() for source in sources for name in NAME_ON_PAGE.findall(source)}
-    for name in sorted({" ".join(name.split()) for name in ITALIC.findall(standing.content(COURSE))} - {"italics"}):
+    for name in sorted({" ".join(name.split()) for name in ITALIC.findall(content(COURSE))} - {"italics"}):
         yield name in names_on_page, f"{COURSE} names the control {name!r}, which is not on the page of trlab-lab"
 
 
 def verdicts() -> Verdicts:
     """The verdicts of all tests of this module."""
     for test in (
-        words_are_few,
-        index_has_all_pages,
         reproduced_numbers_are_of_studies,
         speed_is_of_the_table,
         measured_results_are_of_studies,
