@@ -16,7 +16,7 @@ from trlab._runs.children import Child
 
 # The snapshots that the page keeps: step, cells, flow, speed and share of stopped cars.
 SHOTS = """const {film} = lab.player;
-return film.shots.map(it => [it.step, String.fromCharCode(...it.cells), it.flow, it.speed, it.stopped])"""
+return film.snapshots.map(it => [it.step, String.fromCharCode(...it.cells), it.flow, it.speed, it.stopped])"""
 
 
 # The classes of tests are made of this class and of TestCase, whose calls it uses.

@@ -151,7 +151,7 @@ class ForEveryone(OnPage):
             self.assertTrue(name.strip() and role not in ("none", "generic"), (role, name))
 
     def test_colours_are_safe_for_the_colour_blind(self):
-        colours = self.page.js("return [0, 1, 2, 3, 4, 5].map(v => lab.colour(v / 5))")
+        colours = self.page.js("return [0, 1, 2, 3, 4, 5].map(v => lab.speedColour(v / 5))")
         for kind, sight in SIGHTS.items():
             seen = [lightness_and_hue(colour, sight) for colour in colours]
             least = min(math.dist(one, other) for k, one in enumerate(seen) for other in seen[:k])
@@ -191,9 +191,9 @@ class ForEveryone(OnPage):
         try:
             self.assertTrue(page.holds(lambda: page.js("return window.lab?.player.step >= 0")))
             # The clock of the page goes on by a second, and the next snapshots are there: with motion it would show them.
-            page.js("const {player} = lab; if (!player.run) player.begin(player.open); player.paused = Infinity")  # the run does not rest
+            page.js("const {player} = lab; if (!player.run) player.startRun(player.request); player.pausedAt = Infinity")  # the run does not rest
             self.hold(lambda: page.js("return lab.player.run.waiting.length > 9"))
-            later = "const {player} = lab; for (let k = 1; k <= 10; k++) player.tick(player.before + 100)"
+            later = "const {player} = lab; for (let k = 1; k <= 10; k++) player.onFrame(player.lastFrame + 100)"
             page.js(later)
             self.assertEqual((page.step(), page.text("play")), (0, "Play"))
             page.click("play")

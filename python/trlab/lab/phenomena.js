@@ -106,7 +106,7 @@ export function listExamples(select, files) {
   select.append(...groups, ...others.map(name => new Option(name, name)));
 }
 /** The example with an id, and its sentence below the choice. */
-export function tellExample(id, place = document.getElementById("story")) {
+export function describeExample(id, place) {
   const found = ALL.find(it => idOf(it) === id);
   place.replaceChildren(found?.words ?? "");
   if (found?.file) place.append(" ", Object.assign(document.createElement("code"), { textContent: found.file }));
