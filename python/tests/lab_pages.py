@@ -59,7 +59,7 @@ class OnPage(Base):
     @classmethod
     def setUpClass(cls) -> None:
         # On a busy machine it takes long until runs that have been replaced have ended.
-        patience = mock.patch.object(server, "PATIENCE", LIMIT)
+        patience = mock.patch.object(server, "SLOT_TIMEOUT", LIMIT)
         patience.start()
         cls.addClassCleanup(patience.stop)
         cls.lab = lab = Lab()

@@ -367,11 +367,11 @@ class Joining(unittest.TestCase):
         texts = {"one": 'import { there, gone } from "./two.js";\n', "two": "export const there = 1;\n"}
         with mock.patch.object(Path, "read_text", lambda path, _: texts[path.stem]):
             self.assertRaisesRegex(ValueError, "^one.js imports gone, which two.js does not export$", scripts.joined, "one")
-            self.assertEqual(scripts.reached("two"), ["two"])
+            self.assertEqual(scripts.imported_scripts("two"), ["two"])
 
     def test_a_text_that_would_end_its_element(self):
         for text in "'</script>'", "'</SCRIPT x'", "a <!--b":
-            self.assertRaises(ValueError, scripts.element, text, "")
+            self.assertRaises(ValueError, scripts.script_element, text, "")
 
 
 if __name__ == "__main__":

@@ -52,8 +52,15 @@ export function countColumns({ length, lanes }, cells, pixels) {
 export class Columns {
   constructor(film, step, pixels) {
     const { counts, sums, edges } = film.columns(step, pixels);
-    Object.assign(this, { film, step, pixels, cells: film.at(step).cells, counts: counts.slice(), sums: sums.slice(), edges });
-    Object.assign(this, { travellers: [], originLanes: [] });
+    this.film = film;
+    this.step = step;
+    this.pixels = pixels;
+    this.cells = film.at(step).cells;
+    this.counts = counts.slice();
+    this.sums = sums.slice();
+    this.edges = edges;
+    this.travellers = [];
+    this.originLanes = [];
     this.separateLaneChangers();
     this.separateArrivals();
   }

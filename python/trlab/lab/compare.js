@@ -20,7 +20,16 @@ const SECOND_PROBABILITIES = { vdr: "if stopped", rickert: "lane changes" };
 export class Comparison {
   /** `player` plays the first model, and `onError` shows a message. */
   constructor(player, onError) {
-    Object.assign(this, { player, onError, job: null, jobText: "", film: null, run: null, drawnState: "", neededAt: 0, p: 0.25, q: 0.5 });
+    this.player = player;
+    this.onError = onError;
+    this.job = null;
+    this.jobText = "";
+    this.film = null;
+    this.run = null;
+    this.drawnState = "";
+    this.neededAt = 0;
+    this.p = 0.25;
+    this.q = 0.5;
     this.diagram = new SpacetimeDiagram();
     $("against").onchange = () => this.update();
     for (const name of ["p", "q"]) {

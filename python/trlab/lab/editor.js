@@ -49,7 +49,12 @@ export class Editor {
     this.box = document.getElementById(id);
     this.box.innerHTML = CONTENT;
     const [numbers, sheet] = this.box.children, [numbersAbove, numbersBelow] = numbers.children, [gap, code] = sheet.children;
-    Object.assign(this, { sheet, numbersAbove, numbersBelow, gap, code, message: gap.firstChild });
+    this.sheet = sheet;
+    this.numbersAbove = numbersAbove;
+    this.numbersBelow = numbersBelow;
+    this.gap = gap;
+    this.code = code;
+    this.message = gap.firstChild;
     this.message.id = `${id}words`;
     code.setAttribute("aria-labelledby", `${id}label`);
     code.setAttribute("aria-describedby", `${id}verdict ${id}words`);
@@ -90,7 +95,8 @@ export class Editor {
   /** Number the lines, and open a gap below one of them for a message and buttons for its repairs; line 0 means no message. */
   showMessage(line, message = null, repairs = []) {
     const lines = this.longText ? [""] : this.value.split("\n").slice(0, -1), linesAbove = Math.min(line || lines.length, lines.length);
-    const longest = lines.reduce((maximum, text) => Math.max(maximum, text.length), 0), buttons = this.longText ? [] : repairs.filter(({ edits }) => edits.length);
+    const longest = lines.reduce((maximum, text) => Math.max(maximum, text.length), 0);
+    const buttons = this.longText ? [] : repairs.filter(({ edits }) => edits.length);
     this.sheet.style.minWidth = `calc(${longest + 1}ch + ${SIDE_MARGINS}px)`; // so that no line wraps
     this.message.replaceChildren(message ?? "", ...buttons.map(repair => this.repairButton(repair)));
     this.message.style.width = `${this.box.clientWidth - SIDE_MARGINS}px`;

@@ -9,7 +9,12 @@ const MIN_KEPT = 100, MAX_KEPT = 4000, MAX_KEPT_BYTES = 32e6;
 export class Film {
   constructor({ length, lanes, limit, steps }) {
     const maxKept = clamp(Math.floor(MAX_KEPT_BYTES / (length * lanes)), MIN_KEPT, MAX_KEPT);
-    Object.assign(this, { length, lanes, limit, steps, snapshots: [], maxKept });
+    this.length = length;
+    this.lanes = lanes;
+    this.limit = limit;
+    this.steps = steps;
+    this.snapshots = [];
+    this.maxKept = maxKept;
   }
   get first() { return this.snapshots[0].step; }
   get last() { return this.snapshots.at(-1).step; }

@@ -17,8 +17,14 @@ export class FundamentalDiagram {
   /** `current()` gives { job, rule }: the job, and the rule that its cars follow. `onDensity(density)` is called when a place without
    * points is clicked. */
   constructor(current, onDensity) {
-    Object.assign(this, { current, onDensity, marks: [], means: null, selected: null });
-    Object.assign(this, { drawnAt: 0, drawnElements: "", exact: { key: "", curve: null } });
+    this.current = current;
+    this.onDensity = onDensity;
+    this.marks = [];
+    this.means = null;
+    this.selected = null;
+    this.drawnAt = 0;
+    this.drawnElements = "";
+    this.exact = { key: "", curve: null };
     this.addListeners();
   }
 

@@ -23,7 +23,11 @@ export class Inputs {
   /** `lab` is the laboratory, `python` are the rules in Python, `sweeps` runs sweep files, `sweepBranches()` sweeps from several
    * initial states, and `onError` shows a message. */
   constructor(lab, { python, sweeps, sweepBranches, onError }) {
-    Object.assign(this, { lab, python, sweeps, sweepBranches, onError });
+    this.lab = lab;
+    this.python = python;
+    this.sweeps = sweeps;
+    this.sweepBranches = sweepBranches;
+    this.onError = onError;
     this.addListeners();
   }
   /** Open a file. `density` is the one of the road for a sweep file, which has many. */

@@ -13,7 +13,12 @@ const TYPING_PAUSE = 200; // milliseconds
 class ProgramEditor {
   /** `onAccepted(kind, program)` is called for each program that the verifier accepts. */
   constructor(kind, onAccepted, onError) {
-    Object.assign(this, { kind, onAccepted, onError, editor: new Editor(kind), fields: [], shape: "" });
+    this.kind = kind;
+    this.onAccepted = onAccepted;
+    this.onError = onError;
+    this.editor = new Editor(kind);
+    this.fields = [];
+    this.shape = "";
     this.editor.onChange = debounce(TYPING_PAUSE, () => this.take());
     this.editor.onCaretMove = line => showFacts(kind, this.editor, line);
   }
@@ -57,7 +62,8 @@ export class OwnRule {
   /** `changeRule(changes)` is called with each program that the verifier accepts, and `python` are the rules in Python. */
   constructor(python, changeRule, onError) {
     const onAccepted = (kind, program) => program !== this.shownRule[kind] && changeRule({ [kind]: program });
-    Object.assign(this, { python, shownRule: {} });
+    this.python = python;
+    this.shownRule = {};
     this.editors = ["motion", "change"].map(kind => new ProgramEditor(kind, onAccepted, onError));
   }
   /** Show the programs of the rule that the cars follow. */

@@ -33,8 +33,21 @@ export class Player {
   /** `listeners` has onSnapshot(snapshot), onStep(time), onEnd(), ruleAt(step) and keys, and each may be missing. `onError` shows a
    * message. */
   constructor(listeners, onError) {
-    Object.assign(this, { listeners, onError, film: null, run: null, step: -1, car: null, lens: 0, phase: 1, drawnStep: -1 });
-    Object.assign(this, { playing: !prefersReducedMotion, moving: false, isStepDue: false, stale: true, lastFrame: 0, pausedAt: 0 });
+    this.listeners = listeners;
+    this.onError = onError;
+    this.film = null;
+    this.run = null;
+    this.step = -1;
+    this.car = null;
+    this.lens = 0;
+    this.phase = 1;
+    this.drawnStep = -1;
+    this.playing = !prefersReducedMotion;
+    this.moving = false;
+    this.isStepDue = false;
+    this.stale = true;
+    this.lastFrame = 0;
+    this.pausedAt = 0;
     this.spacetime = new SpacetimeDiagram();
     this.images = { ring: new RingImage(), road: new StraightRoadImage() };
     this.addListeners();

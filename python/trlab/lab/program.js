@@ -74,7 +74,10 @@ class OutputResponse {
 class OutputSource {
   worker = null;
   constructor(program, request, bytesTaken, signal) {
-    Object.assign(this, { program, request, bytesTaken, signal });
+    this.program = program;
+    this.request = request;
+    this.bytesTaken = bytesTaken;
+    this.signal = signal;
   }
   start(controller) {
     this.startWorker(controller);

@@ -48,7 +48,8 @@ function takeRule(at, [model, ...numbers], lines, before = { p: 0.25, q: 0.5, mo
 /** The lines of a file, which are taken one after the other. */
 class Lines {
   constructor(text) {
-    Object.assign(this, { all: text.replace(/\n$/, "").split("\n"), next: 0 });
+    this.all = text.replace(/\n$/, "").split("\n");
+    this.next = 0;
   }
   get isLeft() { return this.next < this.all.length; }
   get current() { return this.all[this.next]; }

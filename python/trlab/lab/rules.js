@@ -20,7 +20,13 @@ export class PythonRules {
   /** `onAccepted` is called with the programs of the chosen rules, after each change that the verifier accepts, and with whether the
    * text is that of a new file. */
   constructor(onAccepted, onError) {
-    Object.assign(this, { onAccepted, onError, editor: new Editor("python"), chosen: {}, values: {}, programs: null, lastRequest: 0 });
+    this.onAccepted = onAccepted;
+    this.onError = onError;
+    this.editor = new Editor("python");
+    this.chosen = {};
+    this.values = {};
+    this.programs = null;
+    this.lastRequest = 0;
     this.editor.onChange = debounce(TYPING_PAUSE, () => this.translate());
     this.setVerdict("", isStandalone ? WITHOUT_SERVER : "");
     $("python").hidden = isStandalone;

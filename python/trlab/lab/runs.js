@@ -16,7 +16,12 @@ export function bytesBefore(step, { length, lanes }) {
 export class Run {
   /** `request(signal)` gives the response; its first snapshot is that of the step `from`. */
   constructor(request, { length, lanes }, from, onError) {
-    Object.assign(this, { length, lanes, from, waiting: [], isOver: false, abortion: new AbortController() });
+    this.length = length;
+    this.lanes = lanes;
+    this.from = from;
+    this.waiting = [];
+    this.isOver = false;
+    this.abortion = new AbortController();
     this.maxWaiting = clamp(Math.floor(MAX_WAITING_BYTES / (length * lanes)), MIN_WAITING, MAX_WAITING);
     this.read(request).catch(error => error.name === "AbortError" || onError(error.message));
   }

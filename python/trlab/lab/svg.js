@@ -44,9 +44,6 @@ export class SvgPen {
     const corner = (x, y) => `${rounded(left + cos * x - sin * y)} ${rounded(top + sin * x + cos * y)}`;
     this.boxes += `M${corner(x, y)}L${corner(x + width, y)} ${corner(x + width, y + height)} ${corner(x, y + height)}z`;
   }
-  strokeRect(x, y, width, height) {
-    this.add("rect", { x: rounded(x), y: rounded(y), width: rounded(width), height: rounded(height), fill: "none", stroke: this.strokeStyle, "stroke-width": this.lineWidth });
-  }
   text(words, x, y, attributes = {}) { this.add("text", { x: rounded(x), y: rounded(y), fill: SOFT, ...attributes }, words); }
   add(name, attributes, content) {
     this.flushBoxes();

@@ -64,7 +64,11 @@ const pointsOf = table => table.trim().split("\n").slice(1).map(line => line.spl
 export class Sweeps {
   /** The sweeps of the page, one at a time. `onTable(mark, table)` is called for each: the mark of the fundamental diagram, and the
    * table to save. */
-  constructor(onTable, onError) { Object.assign(this, { onTable, onError, group: 0 }); }
+  constructor(onTable, onError) {
+    this.onTable = onTable;
+    this.onError = onError;
+    this.group = 0;
+  }
   /** Run a sweep file. */
   runFile(source, name) {
     this.group += 1;
