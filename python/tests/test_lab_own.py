@@ -63,7 +63,7 @@ class OwnPrograms(OnPage):
     def test_it_begins_with_the_current_model(self):
         """The first programs are those of the current model with its probabilities: the traffic stays the same."""
         for rule, lanes, values in (
-            (Nasch(0.3), 1, ["0.3"]), (SlowToStart(0.125, 0.75), 1, ["0.75", "0.125"]), (Rickert("1/3", 0.9), 2, ["0.3333333333"]), (Nasch(1), 2, ["1"]),
+            (Nasch(0.3), 1, ["0.3"]), (SlowToStart(0.125, 0.75), 1, ["0.75", "0.125"]), (Rickert("1/3", 0.9), 2, ["1/3"]), (Nasch(1), 2, ["1"]),
         ):
             with self.subTest(rule=rule):
                 road = {"limit": 5, "length": 100, "lanes": lanes, "cars": 30 * lanes, "start": trlab.random_cells(3), "steps": 60, "key": 4}
@@ -116,8 +116,8 @@ class OwnPrograms(OnPage):
         self.assertEqual((fastest(step), fastest(step + 40)), (5, 4))  # a car that always brakes never has the maximum speed
 
     def test_a_number_with_a_name(self):
-        self.page.set("model", "own")
         self.start_at_step_0()
+        self.page.set("model", "own")
         self.write(DISTANCE)
         self.has([["g", "2", "0", "4"], ["brake (line 15)", "0.125", "0", "1"]], self.sliders)
         self.page.set("motionparameter0", "3")
@@ -126,10 +126,11 @@ class OwnPrograms(OnPage):
         self.has_line(DISTANCE.replace("num r3, 2", "num r3, 0"))
         self.page.set("motionparameter1", "1/3")
         self.has_line(DISTANCE.replace("num r3, 2", "num r3, 0").replace("268435456", "715827883"))
+        self.has("1/3", lambda: self.page.value("motionparameter1"))
 
     def test_numbers_that_are_not_accepted(self):
-        self.page.set("model", "own")
         self.start_at_step_0()
+        self.page.set("model", "own")
         self.write(DISTANCE)
         self.has_line(DISTANCE)
         for number, text, message in (1, "0,5", "Write 0.5 instead of 0,5."), (0, "1/2", "1/2 is not a whole number"), (1, "2", "2 is more than 1"):
@@ -140,8 +141,8 @@ class OwnPrograms(OnPage):
     def test_a_program_that_a_slider_makes_unsafe(self):
         """The verifier judges each program, also those that sliders make."""
         program = "motion\nget r0, gap\nget r1, limit\nmin r0, r0, r1\ndiv r0, r0, 2 ; parameter d\ngo r0\n"
-        self.page.set("model", "own")
         self.start_at_step_0()
+        self.page.set("model", "own")
         self.write(program)
         self.has_line(program)
         self.page.set("motionparameter0", "0")

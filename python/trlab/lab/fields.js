@@ -22,19 +22,20 @@ export function addSlider(field, box, { minimum, maximum, step, name }, apply) {
   field.append(slider);
   return slider;
 }
-/** A parameter of a rule: a labelled number with a slider. `value()` is the number in force. */
+/** A parameter of a rule: a labelled number with a slider. `value()` is the number in force, and `format` writes it into the box. */
 export class ParameterField {
-  constructor(id, label, range, value, apply) {
+  constructor(id, label, range, value, apply, format = String) {
     this.box = document.createElement("input");
     this.field = createField(id, label, this.box);
     this.slider = addSlider(this.field, this.box, range, apply);
     this.value = value;
-    watchBox(this.box, id, apply, () => this.box.value = this.value());
+    this.format = format;
+    watchBox(this.box, id, apply, () => this.show());
     this.show();
   }
   /** Show the number in force, but not in a box that you type into, nor at a slider that you move. */
   show() {
-    if (!isEdited(this.box)) this.box.value = this.value();
+    if (!isEdited(this.box)) this.box.value = this.format(this.value());
     if (this.slider !== document.activeElement) this.slider.value = this.value();
   }
 }

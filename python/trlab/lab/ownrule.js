@@ -4,6 +4,7 @@ import { $ } from "./dom.js";
 import { debounce } from "./job.js";
 import { Editor } from "./editor.js";
 import { ParameterField } from "./fields.js";
+import { formatProbability } from "./numbers.js";
 import { parametersOf, withParameter } from "./parameters.js";
 import { judgeProgram, showFacts } from "./verdicts.js";
 
@@ -19,19 +20,31 @@ class ProgramEditor {
     this.editor = new Editor(kind);
     this.fields = [];
     this.shape = "";
+    this.isJudging = false;
     this.editor.onChange = debounce(TYPING_PAUSE, () => this.take());
     this.editor.onCaretMove = line => showFacts(kind, this.editor, line);
   }
-  /** The cars follow the program, if the verifier accepts it. */
+  /** The cars follow the program, if the verifier accepts it. Texts that follow each other fast, as those of a slider that moves, are
+   * judged one at a time, and only the last one of those that wait. */
   async take() {
     this.showParameters();
-    const program = await this.judge();
-    if (program !== null) this.onAccepted(this.kind, program);
+    if (this.isJudging) return;
+    this.isJudging = true;
+    let text, program;
+    do {
+      text = this.editor.value;
+      program = await this.judge();
+    } while (text !== this.editor.value);
+    this.isJudging = false;
+    if (program === null) return;
+    this.program = program;
+    this.onAccepted(this.kind, program);
   }
   judge() { return judgeProgram(this.kind, this.editor, this.onError); }
-  /** Show a program, unless the user is typing. */
+  /** Show a program that the cars follow. What the user writes stays, also if it is rejected, as long as they follow the same one. */
   show(program) {
-    if (this.editor.hasFocus || this.editor.value === program) return;
+    if (this.editor.hasFocus || this.program === program) return;
+    this.program = program;
     this.editor.value = program;
     this.showParameters();
     this.judge();
@@ -47,12 +60,14 @@ class ProgramEditor {
     this.shape = shape;
     for (const field of this.fields) field.show();
   }
-  createField({ label, minimum, maximum, step }, k) {
+  createField({ label, minimum, maximum, step, isProbability }, k) {
     const range = { minimum, maximum, step, name: `${label} of the ${this.kind} program` };
-    return new ParameterField(`${this.kind}parameter${k}`, label, range, () => this.parameters[k].value, text => {
+    const setValue = text => {
       this.editor.value = withParameter(this.editor.value, this.parameters[k], text);
       this.take();
-    });
+    };
+    const format = isProbability ? formatProbability : String;
+    return new ParameterField(`${this.kind}parameter${k}`, label, range, () => this.parameters[k].value, setValue, format);
   }
   /** Hide the sliders if Python functions have others for the same numbers. */
   set hasSliders(isShown) { $(`${this.kind}parameters`).hidden = !isShown; }

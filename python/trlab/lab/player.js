@@ -104,7 +104,8 @@ export class Player {
       if (!this.run && !this.isOver) this.startRun(this.request);
       const snapshot = this.run?.take();
       if (!snapshot) return false;
-      this.listeners.onSnapshot?.(film.push(snapshot));
+      const kept = film.push(snapshot);
+      this.listeners.onSnapshot?.(kept);
     }
     this.showStep(this.step + 1);
     return true;
