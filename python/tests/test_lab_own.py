@@ -80,7 +80,7 @@ class OwnPrograms(OnPage):
                 self.page.set("model", "nasch")
                 self.ready()
 
-    def test_it_begins_anew_until_it_is_changed(self):
+    def test_it_begins_with_each_model_until_it_is_changed(self):
         self.start_at_step_0()
         self.page.set("p", "0.125")
         self.page.set("model", "own")

@@ -10,7 +10,7 @@ const MAX_MARKS = 200;
 /** The flow of a run is averaged without its first steps: 200, or a quarter of a short run. A run of few steps is no point. */
 const WARM_UP = { steps: 200, shareOfRun: 1 / 4 }, MIN_STEPS = 10;
 const MILLISECONDS_PER_DRAWING = 100;
-/** A finger may miss a point by so many pixels. */
+/** A finger may miss a point by this many pixels. */
 const POINTER_REACH = 8;
 
 export class FundamentalDiagram {

@@ -4,7 +4,7 @@ import { ALWAYS, nearestParts, shortestDecimal } from "./checks.js";
 
 const NUMBER = /^[-+]?(?:(\d+)\/(\d+)|(?:\d+\.?\d*|\.\d+)(?:e[-+]?\d{1,3})?)$/i;
 
-/** The boxes show decimals of so many characters whole, and fractions up to so large a denominator. */
+/** The boxes show decimals of at most 8 characters whole, and fractions with a denominator of at most 99. */
 const MAX_DECIMAL_LENGTH = 8, MAX_DENOMINATOR = 99;
 const MAX_SHOWN_LENGTH = 30;
 

@@ -24,7 +24,7 @@ export const IDLE_MILLISECONDS = 5000;
 // The numbered steps in the space-time diagram: possible distances in steps, and the least distance in pixels.
 const MARK_DISTANCES = [1, 2, 5, 10, 20, 50, 100, 200], MIN_MARK_PIXELS = 45;
 const MAX_LEGEND_SPEED = 9, TABLE_ROWS = 10;
-/** A click in the space-time diagram means a car within so many pixels. */
+/** A click in the space-time diagram means a car within this many pixels. */
 const SPACETIME_REACH = 8;
 /** An arrow key moves the enlarged part by this share of it. */
 const LENS_SHARE = 0.1;

@@ -99,7 +99,8 @@ class Lab(ThreadingHTTPServer):
         return f"http://127.0.0.1:{self.server_port}/{self.token}/"
 
     def get_request(self) -> tuple[socket.socket, Any]:
-        """The next connection. If there are no descriptors for it, one without the token has to go, and the server does not try in a loop."""
+        """The next connection. If there are no descriptors for it, a connection without the token has to go, and the server does not
+        try in a loop."""
         try:
             return super().get_request()
         except OSError as error:
