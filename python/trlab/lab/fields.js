@@ -26,6 +26,7 @@ export function addSlider(field, box, { minimum, maximum, step, name }, apply) {
 export class ParameterField {
   constructor(id, label, range, value, apply, format = String) {
     this.box = document.createElement("input");
+    this.box.className = "number";
     this.field = createField(id, label, this.box);
     this.slider = addSlider(this.field, this.box, range, apply);
     this.value = value;
