@@ -162,6 +162,16 @@ class ForEveryone(OnPage):
                 low = page.js(CONTRAST + DECORATION + DRAWN_CONTRAST + """return arguments[0].filter(([colour]) => !decoration.includes(colour))
                     .map(([colour, least]) => [colour, least, drawnContrast(colour)]).filter(([, least, found]) => !(found >= least))""", needed)
                 self.assertEqual(low, [], "dark" if dark else "light")
+                page.press(Keys.TAB)  # so that the focus is shown as that of a keyboard
+                outlines = page.js(CONTRAST + DRAWN_CONTRAST + """return ['diagram', 'band'].map(id => {
+                    const it = document.getElementById(id), hexadecimal = part => part.toString(16).padStart(2, '0');
+                    it.focus();
+                    const {outlineStyle, outlineColor} = getComputedStyle(it);
+                    return [outlineStyle, drawnContrast(`#${parts(outlineColor).slice(0, 3).map(hexadecimal).join('')}`)];
+                })""")
+                for style, contrast in outlines:
+                    self.assertEqual(style, "solid")
+                    self.assertGreaterEqual(contrast, 3, "the outline of the focus")
                 self.assertEqual(page.errors(), [])
             finally:
                 page.close()
