@@ -222,7 +222,7 @@ class ForEveryone(OnPage):
         part = round(self.page.js("return document.getElementById('band').clientWidth") / 9 + 1e-9)
         step, job = self.page.step(), self.page.job()
         for key, expected in (
-            (Keys.HOME, part / 2), (Keys.LEFT, part / 2 - round(part / 10) + 1e-9), (Keys.RIGHT, part / 2), (Keys.PAGE_UP, 1.5 * part), (Keys.END, 1000 - part / 2),
+            (Keys.HOME, part / 2), (Keys.LEFT, part / 2 - math.floor(part / 10 + 0.5)), (Keys.RIGHT, part / 2), (Keys.PAGE_UP, 1.5 * part), (Keys.END, 1000 - part / 2),
             (Keys.PAGE_DOWN, 1000 - 1.5 * part), (Keys.PAGE_UP, 1000 - part / 2), (Keys.PAGE_UP, part / 2),
         ):
             self.page.press(key)
