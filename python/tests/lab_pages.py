@@ -16,7 +16,7 @@ from trlab._runs.children import Child
 
 # The snapshots that the page keeps: step, cells, flow, speed and share of stopped cars.
 SHOTS = """const {film} = lab.player;
-return film.shots.map(it => [it.step, String.fromCharCode(...it.cells), it.flow, it.speed, it.stopped])"""
+return film.snapshots.map(it => [it.step, String.fromCharCode(...it.cells), it.flow, it.speed, it.stopped])"""
 
 
 # The classes of tests are made of this class and of TestCase, whose calls it uses.
@@ -59,7 +59,7 @@ class OnPage(Base):
     @classmethod
     def setUpClass(cls) -> None:
         # On a busy machine it takes long until runs that have been replaced have ended.
-        patience = mock.patch.object(server, "PATIENCE", LIMIT)
+        patience = mock.patch.object(server, "SLOT_TIMEOUT", LIMIT)
         patience.start()
         cls.addClassCleanup(patience.stop)
         cls.lab = lab = Lab()

@@ -220,14 +220,14 @@ class Processes(Serving):
         processors = len(os.sched_getaffinity(0))
         runs = [self.ask("run", LONG) for _ in range(processors)]
         self.assertTrue(holds(lambda: self.running() == processors))
-        with mock.patch.object(server, "PATIENCE", 0.1):
+        with mock.patch.object(server, "SLOT_TIMEOUT", 0.1):
             got = self.ask("run", LONG)
         self.assertEqual(got.status, 503)
         self.assertIn(b"Every processor is in use", got.read())
         self.assertEqual(self.ask("explain/run", LONG).status, 200)
         runs[0].leave()
         self.assertTrue(holds(lambda: self.running() == processors - 1))
-        with mock.patch.object(server, "PATIENCE", LIMIT):  # the turn is free a little later than the process ends
+        with mock.patch.object(server, "SLOT_TIMEOUT", LIMIT):  # the turn is free a little later than the process ends
             self.assertEqual(self.ask("run", LONG).status, 200)
 
     def test_a_run_ends_with_its_page(self):
@@ -256,7 +256,7 @@ class Processes(Serving):
         self.lab.shutdown()
         self.lab.close()
         self.assertTrue(all(process.returncode is not None for process in processes))
-        self.assertRaises(ConnectionAbortedError, self.lab.start, ["run"], b"")
+        self.assertRaises(ConnectionAbortedError, self.lab.start_process, ["run"], b"")
 
 
 class Command(unittest.TestCase):

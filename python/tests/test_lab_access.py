@@ -1,5 +1,6 @@
 """The page for everyone: names, roles, order of focus, contrast and colours, on light and dark pages, on a phone and without motion."""
 import math
+import re
 import unittest
 
 from tests.browsers import Keys, Window, missing
@@ -21,6 +22,38 @@ const paper = it => {
 };
 const contrast = it => {
     const behind = paper(it), front = over(parts(getComputedStyle(it).color), behind), [low, high] = [light(behind), light(front)].sort((a, b) => a - b);
+    return (high + 0.05) / (low + 0.05);
+};"""
+
+# Colours of drawings that need no contrast: paper, and decoration whose meaning is also drawn in another way.
+DECORATION = """const decoration = ['#ffffff', '#e3e6ea', '#f1f3f5'];"""
+# Records the colours with which the canvases are drawn, except those of speeds, which are the meaning of the drawings.
+RECORD = """const prototype = CanvasRenderingContext2D.prototype, speeds = new Set();
+for (let k = 0; k <= 35; k++) for (let limit = 1; limit <= 35; limit++) speeds.add(`rgb(${lab.speedColour(k / limit).join(', ')})`);
+const asText = style => { const pen = document.createElement('canvas').getContext('2d'); pen.fillStyle = style; return pen.fillStyle; };
+const ofSpeeds = new Set([...speeds].map(asText));
+window.drawnColours = new Set();
+for (const [name, kind] of [['stroke', 'strokeStyle'], ['fill', 'fillStyle'], ['fillRect', 'fillStyle'], ['strokeRect', 'strokeStyle']]) {
+    const draw = prototype[name];
+    prototype[name] = function(...words) {
+        if (!ofSpeeds.has(this[kind])) window.drawnColours.add(this[kind]);
+        return draw.apply(this, words);
+    };
+}
+lab.player.redraw();"""
+# The contrast of a colour of a drawing with its paper, as the style sheet's filter shows both.
+DRAWN_CONTRAST = """const filter = getComputedStyle(document.getElementById('diagram')).filter;
+const inverted = filter === 'none' ? it => it : it => {
+    const [, amount] = filter.match(/^invert\\(([\\d.]+)\\) hue-rotate\\(180deg\\)$/), part = amount.endsWith('%') ? parseFloat(amount) / 100 : +amount;
+    const [r, g, b] = it.map(x => x / 255).map(x => x * (1 - 2 * part) + part);
+    const turned = [[-0.574, 1.43, 0.144], [0.426, 0.43, 0.144], [0.426, 1.43, -0.856]];
+    return turned.map(([x, y, z]) => 255 * Math.min(1, Math.max(0, x * r + y * g + z * b)));
+};
+// The style sheet's paper is behind the drawings, which are clear.
+const behind = parts(getComputedStyle(document.documentElement).backgroundColor).slice(0, 3);
+const hex = it => [1, 3, 5].map(k => parseInt(it.slice(k, k + 2), 16));
+const drawnContrast = it => {
+    const [low, high] = [light(behind), light(inverted(hex(it)))].sort((a, b) => a - b);
     return (high + 0.05) / (low + 0.05);
 };"""
 
@@ -50,8 +83,8 @@ class ForEveryone(OnPage):
         page.holds(lambda: page.js("return window.lab !== undefined && lab.player.step >= 0"))
         if page.text("play") == "Pause":
             page.click("play")
+        page.set("model", "rickert")
         page.set("model", "own")
-        page.set("lanes", "2")
         page.set("against", "rickert")
         self.hold(lambda: page.js("return !lab.isWriting && lab.job.lanes === 2"))
         self.hold(lambda: all("Accepted" in page.text(f"{name}verdict") for name in ("motion", "change", "text")))
@@ -106,6 +139,113 @@ class ForEveryone(OnPage):
             finally:
                 page.close()
 
+    def test_contrast_of_drawings(self):
+        """Words of drawings have a contrast of 4.5 with the paper, and lines and shapes that mean something have 3."""
+        for dark in False, True:
+            page = Window(self.browser, self.lab.address, dark=dark)
+            try:
+                self.open_everything(page)
+                page.set("length", "5000")  # so that a part of the road is enlarged
+                self.hold(lambda: page.js("return !lab.isWriting && lab.player.film.length === 5000 && lab.player.step >= 0"))
+                page.js("""for (const limit of [5, 3]) for (const start of ['moving', 'jam']) {
+                    const points = [{density: 0.2, flow: 0.3}, {density: 0.6, flow: 0.2}];
+                    lab.marks.push({limit, length: 1000, lanes: 1, points: points.slice(1)}, {name: 'p', start, group: limit, limit, length: 1000, lanes: 1, points});
+                }""")
+                page.js("lab.fundamental.selectPoint(lab.fundamental.points()[0]); document.getElementById('follow').click()")
+                page.js(RECORD)
+                self.hold(lambda: page.js("return window.drawnColours.size > 4 && !lab.player.stale"))
+                drawn = page.js("return [...window.drawnColours]")
+                elements = page.js("""return [...document.querySelectorAll('#diagram *')].flatMap(it => ['fill', 'stroke'].map(kind =>
+                    [it.tagName, it.getAttribute(kind)])).filter(([, colour]) => colour && colour !== 'none')""")
+                self.assertTrue({"text", "path", "polyline", "circle"} <= {name for name, _ in elements})
+                needed = [[colour, 3] for colour in drawn] + [[colour, 4.5 if name == "text" else 3] for name, colour in elements]
+                low = page.js(CONTRAST + DECORATION + DRAWN_CONTRAST + """return arguments[0].filter(([colour]) => !decoration.includes(colour))
+                    .map(([colour, least]) => [colour, least, drawnContrast(colour)]).filter(([, least, found]) => !(found >= least))""", needed)
+                self.assertEqual(low, [], "dark" if dark else "light")
+                page.press(Keys.TAB)  # so that the focus is shown as that of a keyboard
+                outlines = page.js(CONTRAST + DRAWN_CONTRAST + """return ['diagram', 'band'].map(id => {
+                    const it = document.getElementById(id), hexadecimal = part => part.toString(16).padStart(2, '0');
+                    it.focus();
+                    const {outlineStyle, outlineColor} = getComputedStyle(it);
+                    return [outlineStyle, drawnContrast(`#${parts(outlineColor).slice(0, 3).map(hexadecimal).join('')}`)];
+                })""")
+                for style, contrast in outlines:
+                    self.assertEqual(style, "solid")
+                    self.assertGreaterEqual(contrast, 3, "the outline of the focus")
+                self.assertEqual(page.errors(), [])
+            finally:
+                page.close()
+
+    # Drawings by keyboard
+
+    def slider(self, name):
+        """The value, its words and the largest value of a drawing that is a slider."""
+        return self.page.js("""const it = document.getElementById(arguments[0]);
+            return [it.getAttribute('role'), it.tabIndex, +it.getAttribute('aria-valuenow'), it.getAttribute('aria-valuetext'), +it.getAttribute('aria-valuemax')]""", name)
+
+    def test_points_of_the_diagram_by_keyboard(self):
+        self.pause()
+        self.page.click("clear")
+        self.has(["slider", 0, 0, "no points yet", 0], lambda: self.slider("diagram"))
+        self.page.js("""const points = [[0.3, 0.4], [0.1, 0.45]].map(([density, flow]) => ({density, flow}));
+            lab.marks.push({limit: 5, length: 1000, lanes: 1, points: points.slice(0, 1)}, {limit: 3, length: 500, lanes: 2, points: points.slice(1)});
+            lab.fundamental.draw();
+            document.getElementById('diagram').focus();""")
+        self.has(["slider", 0, 0, "2 points, none selected", 2], lambda: self.slider("diagram"))
+        role, name = self.page.spoken(self.page.js("return document.getElementById('diagram')"))
+        self.assertEqual(role, "slider")
+        self.assertIn("Arrow keys read the points", name)
+        first, second = "density 0.100, flow 0.450, v_max 3, 2 \u00d7 500 cells", "density 0.300, flow 0.400, v_max 5, 1000 cells"
+        for key, number, words in (
+            (Keys.RIGHT, 1, first), (Keys.RIGHT, 2, second), (Keys.RIGHT, 2, second), (Keys.LEFT, 1, first), (Keys.END, 2, second), (Keys.HOME, 1, first),
+        ):
+            self.page.press(key)
+            self.assertEqual(self.slider("diagram")[2:4], [number, f"Point {number} of 2: {words}"])
+            self.assertEqual(self.page.text("pointnumbers"), words)
+        circle = self.page.js("const it = document.querySelector('#diagram .selected'); return [it.getAttribute('cx'), it.getAttribute('cy')]")
+        point = self.page.js("const it = document.querySelector('#diagram path.point'); const {x, width} = it.getBBox(); return x + width / 2")
+        self.assertAlmostEqual(float(circle[0]), point, places=1)
+        step, job = self.page.step(), self.page.job()
+        self.page.press(Keys.ESCAPE)
+        self.assertEqual(self.slider("diagram")[2:4], [0, "2 points, none selected"])
+        self.assertEqual(self.page.js("return document.querySelector('#diagram .selected')"), None)
+        self.assertEqual((self.page.step(), self.page.job()), (step, job))
+
+    def test_the_enlarged_part_by_keyboard(self):
+        self.run_to(30)
+        cells = lambda: self.page.js("return String.fromCharCode(...lab.player.film.at(lab.player.step).cells)")
+        lens = lambda: self.page.js("return lab.player.lens")
+        self.page.js("document.getElementById('band').focus()")
+        role, name = self.page.spoken(self.page.js("return document.getElementById('band')"))
+        self.assertEqual(role, "slider")
+        self.assertIn("straight line", name)
+        part = round(self.page.js("return document.getElementById('band').clientWidth") / 9 + 1e-9)
+        step, job = self.page.step(), self.page.job()
+        for key, expected in (
+            (Keys.HOME, part / 2), (Keys.LEFT, part / 2 - math.floor(part / 10 + 0.5)), (Keys.RIGHT, part / 2), (Keys.PAGE_UP, 1.5 * part), (Keys.END, 1000 - part / 2),
+            (Keys.PAGE_DOWN, 1000 - 1.5 * part), (Keys.PAGE_UP, 1000 - part / 2), (Keys.PAGE_UP, part / 2),
+        ):
+            self.page.press(key)
+            self.assertAlmostEqual(lens(), expected % 1000, delta=0.6)
+            _, _, now, words, most = self.slider("band")
+            self.assertEqual((now, most), (int(lens()) % 1000, 999))
+            self.assertRegex(words, r"^cells \d+ to \d+ of 1000: \d+ cars?, \d+ stopped$")
+            first, last, _, cars, still = map(int, re.findall(r"\d+", words))
+            self.assertEqual((last - first) % 1000, part - 1)
+            self.assertLessEqual(abs(first - (lens() - part / 2) % 1000), 1)
+            read = (cells() * 2)[first:first + part]
+            self.assertEqual((cars, still), (len(read) - read.count("."), read.count("0")))
+        self.assertEqual((self.page.step(), self.page.job()), (step, job))
+        self.page.click("follow")
+        self.page.js("document.getElementById('band').focus()")
+        self.page.press(Keys.RIGHT)
+        self.assertIsNone(self.page.js("return lab.player.car"))
+
+    def test_a_short_road_is_an_image(self):
+        self.page.set("length", "100")
+        self.hold(lambda: self.page.js("return lab.player.film.length === 100 && lab.player.step >= 0 && !lab.player.stale"))
+        self.has(["img", -1, 0, None, 0], lambda: self.slider("band"))
+
     def test_a_phone(self):
         page = Window(self.browser, self.lab.address, 400, 800, calm=True)
         try:
@@ -151,7 +291,7 @@ class ForEveryone(OnPage):
             self.assertTrue(name.strip() and role not in ("none", "generic"), (role, name))
 
     def test_colours_are_safe_for_the_colour_blind(self):
-        colours = self.page.js("return [0, 1, 2, 3, 4, 5].map(v => lab.colour(v / 5))")
+        colours = self.page.js("return [0, 1, 2, 3, 4, 5].map(v => lab.speedColour(v / 5))")
         for kind, sight in SIGHTS.items():
             seen = [lightness_and_hue(colour, sight) for colour in colours]
             least = min(math.dist(one, other) for k, one in enumerate(seen) for other in seen[:k])
@@ -191,9 +331,9 @@ class ForEveryone(OnPage):
         try:
             self.assertTrue(page.holds(lambda: page.js("return window.lab?.player.step >= 0")))
             # The clock of the page goes on by a second, and the next snapshots are there: with motion it would show them.
-            page.js("const {player} = lab; if (!player.run) player.begin(player.open); player.paused = Infinity")  # the run does not rest
+            page.js("const {player} = lab; if (!player.run) player.startRun(player.request); player.pausedAt = Infinity")  # the run does not rest
             self.hold(lambda: page.js("return lab.player.run.waiting.length > 9"))
-            later = "const {player} = lab; for (let k = 1; k <= 10; k++) player.tick(player.before + 100)"
+            later = "const {player} = lab; for (let k = 1; k <= 10; k++) player.onFrame(player.lastFrame + 100)"
             page.js(later)
             self.assertEqual((page.step(), page.text("play")), (0, "Play"))
             page.click("play")

@@ -21,7 +21,7 @@ class Opening(unittest.TestCase):
         self.page = Path(folder.name) / "trlab-lab.html"
         self.page.write_text("")
         self.opened, self.is_open = [], True
-        self.patch(alone, "PLACES", (Path(folder.name) / "other.html", self.page))
+        self.patch(alone, "PAGE_PATHS", (Path(folder.name) / "other.html", self.page))
         self.patch(alone.webbrowser, "open", lambda address: self.opened.append(address) or self.is_open)
         self.patch(os, "environ", {name: value for name, value in os.environ.items() if name != "TRLAB"})
 

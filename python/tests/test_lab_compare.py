@@ -8,7 +8,7 @@ from trlab import Job, Nasch, Rickert, SlowToStart, Snapshots
 from trlab._runs.calls import ask
 from trlab._results.written import snapshots_in
 
-OTHER = "const {film} = lab.comparison; return film && film.shots.map(it => [it.step, String.fromCharCode(...it.cells)])"
+OTHER = "const {film} = lab.comparison; return film && film.snapshots.map(it => [it.step, String.fromCharCode(...it.cells)])"
 ROAD = {"limit": 3, "length": 60, "cars": 24, "start": trlab.random_cells(3), "key": 5, "steps": 4000}
 
 
@@ -60,7 +60,7 @@ class Compared(OnPage):
         self.show_job()
         self.page.set("against", "nasch")
         self.run_to(60)
-        self.hold(lambda: self.page.js("return lab.comparison.drawn.startsWith(lab.player.step + ',')"))
+        self.hold(lambda: self.page.js("return lab.comparison.drawnState.startsWith(lab.player.step + ',')"))
         same = """const [one, other] = ['spacetime', 'other'].map(id => document.getElementById(id));
             const [left, right] = [one, other].map(it => it.getContext('2d').getImageData(0, 0, it.width, it.height).data);
             return [one.width === other.width && one.width > 300, left.every((dot, k) => dot === right[k])]"""

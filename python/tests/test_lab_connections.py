@@ -1,4 +1,4 @@
-"""Connections to the server of trlab-lab: strangers cannot shut the owner out, and no request is misread."""
+"""Connections to the server of trlab-lab: connections without the token cannot shut the owner out, and no request is misread."""
 import contextlib
 import errno
 import http.client
@@ -37,7 +37,7 @@ def is_closed(connection):
         return True
 
 
-class Strangers(Serving):
+class Unauthenticated(Serving):
     def silent(self, count):
         """Connections that send nothing."""
         connections = []
@@ -47,12 +47,12 @@ class Strangers(Serving):
         return connections
 
     def test_silent_connections_are_bounded(self):
-        all_of_them = self.silent(self.lab.strangers.most + 40)
+        all_of_them = self.silent(self.lab.unauthenticated.maximum + 40)
         self.assertEqual(self.ask().status, 200)
         self.assertTrue(holds(lambda: sum(map(is_closed, all_of_them)) >= 40))
         # The newest ones are still there, and those that have shown the token do not count.
         self.assertFalse(is_closed(all_of_them[-1]))
-        self.assertTrue(holds(lambda: len(self.lab.strangers.waiting) == self.lab.strangers.most - is_closed(all_of_them[40])))
+        self.assertTrue(holds(lambda: len(self.lab.unauthenticated.waiting) == self.lab.unauthenticated.maximum - is_closed(all_of_them[40])))
 
     def test_a_page_keeps_its_connection(self):
         port = self.lab.server_port
@@ -60,25 +60,25 @@ class Strangers(Serving):
         self.addCleanup(talk.close)
         ask_again = lambda: (talk.request("GET", f"/{self.lab.token}/page.css"), talk.getresponse().read())[1]
         first, own = ask_again(), talk.sock
-        self.silent(self.lab.strangers.most + 40)
-        self.assertTrue(holds(lambda: len(self.lab.strangers.waiting) == self.lab.strangers.most))
+        self.silent(self.lab.unauthenticated.maximum + 40)
+        self.assertTrue(holds(lambda: len(self.lab.unauthenticated.waiting) == self.lab.unauthenticated.maximum))
         self.assertEqual(ask_again(), first)
         self.assertIs(talk.sock, own)
 
     def test_a_first_request_does_not_wait_for_long(self):
-        with mock.patch.object(server.Page, "timeout", 0.1):
+        with mock.patch.object(server.PageHandler, "timeout", 0.1):
             [silent] = self.silent(1)
             self.assertTrue(holds(lambda: is_closed(silent)))
-        self.assertLess(server.FIRST_WAIT, server.WAIT)
+        self.assertLess(server.FIRST_REQUEST_TIMEOUT, server.REQUEST_TIMEOUT)
 
     def test_without_descriptors_a_stranger_goes_and_the_server_rests(self):
         silent = self.silent(3)
-        self.assertTrue(holds(lambda: len(self.lab.strangers.waiting) == 3))
+        self.assertTrue(holds(lambda: len(self.lab.unauthenticated.waiting) == 3))
         rests = []
         with mock.patch.object(socketserver.TCPServer, "get_request", side_effect=OSError(errno.EMFILE, "Too many open files")):
             with mock.patch.object(server.time, "sleep", rests.append):
                 self.assertRaises(OSError, self.lab.get_request)
-        self.assertEqual(rests, [server.PAUSE])
+        self.assertEqual(rests, [server.RETRY_PAUSE])
         self.assertTrue(holds(lambda: is_closed(silent[0])))
         self.assertFalse(is_closed(silent[2]))
 
@@ -104,7 +104,7 @@ class Requests(Serving):
         head = "POST /{token}/%s HTTP/1.1\nHost: {netloc}\nOrigin: http://{netloc}\nConnection: close\nContent-Length: %d\n"
         for name in "run", "series", "explain":
             # `send` ends with the connection, which the server kept open for another 30 seconds.
-            with mock.patch.object(server, "WAIT", 10 * LIMIT), mock.patch.object(server, "FIRST_WAIT", 10 * LIMIT):
+            with mock.patch.object(server, "REQUEST_TIMEOUT", 10 * LIMIT), mock.patch.object(server, "FIRST_REQUEST_TIMEOUT", 10 * LIMIT):
                 answer = self.send(head % (name, len(JAMS)), JAMS.encode())
             self.assertIn("\r\nConnection: close\r\n", answer)
             self.assertTrue(answer.endswith("\r\n0\r\n\r\n"), name)

@@ -40,7 +40,7 @@ class Faults(OnPage):
 
     def colours(self):
         """The colours of all speeds up to 5 cells per step, in hundredths."""
-        return self.page.js("return Array.from({length: 501}, (_, k) => lab.colour(k / 500))")
+        return self.page.js("return Array.from({length: 501}, (_, k) => lab.speedColour(k / 500))")
 
     def dots(self, name, dots, y):
         """The colours on white of this number of pixels at a height of a drawing."""
@@ -61,7 +61,7 @@ class Faults(OnPage):
                 rule = Nasch(0.25) if lanes == 1 else Rickert(0.25, 0.5)
                 snapshots, step = self.long(length=length, lanes=lanes, cars=cars, rule=rule)
                 colours, wide = self.colours(), self.page.js("return document.getElementById('spacetime').width")
-                top, high = self.page.js("const {top, high} = lab.rows(); return [top, high]")
+                top, high = self.page.js("const {top, rowHeight: high} = lab.player.rows; return [top, high]")
                 for now in range(max(top, step - 20), step + 1):
                     for lane, cells in enumerate(snapshots[now].lanes):
                         expected = [self.colour_of(pixel, colours) for pixel in self.pixels(cells, wide)]

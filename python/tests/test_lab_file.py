@@ -37,7 +37,7 @@ window.Worker.prototype.postMessage = function(data, ...more) {
         window.running.add(this);
         window.runs += 1;
     }
-    window.taken = data.taken ?? 0;
+    window.taken = data.bytesTaken ?? 0;
     postMessage.call(this, data, ...more);
 };
 window.Worker.prototype.terminate = function() {
@@ -74,7 +74,7 @@ class FilePages(InFile, Playing, Controls, Inputs, Diagram, ForEveryone):
         self.page.js(WATCH)
         self.page.click("again")
         self.run_to(60)
-        taken, step, most = self.page.js("return [window.taken, lab.player.step, lab.player.run?.most ?? 40]")
+        taken, step, most = self.page.js("return [window.taken, lab.player.step, lab.player.run?.maxWaiting ?? 40]")
         self.assertLess(taken, (step + most + 2) * 100020 + 2**22)
 
     def test_rules_in_python_need_the_server(self):
@@ -97,7 +97,7 @@ class WithoutWaiting(InFile):
     @classmethod
     def text(cls):
         text = super().text()
-        changed = text.replace("const canWait = ", "const canWait = false && ").replace("const MOST = 2 ** 26;", "const MOST = 2 ** 18;")
+        changed = text.replace("const canSuspend = ", "const canSuspend = false && ").replace("const MAX_BUFFERED_BYTES = 2 ** 26;", "const MAX_BUFFERED_BYTES = 2 ** 18;")
         assert len(changed) == len(text) + 9
         return changed
 

@@ -57,7 +57,7 @@ class Films(OnPage):
             file.write(film)
             file.flush()
             self.page.get(Path(file.name).as_uri())
-            self.hold(lambda: self.page.js("return lab.player.film?.shots.length") == 21)
+            self.hold(lambda: self.page.js("return lab.player.film?.snapshots.length") == 21)
             self.hold(lambda: self.page.step() == 20)
             self.page.click("follow")
             self.hold(lambda: "Its gap is" in self.page.text("car"))

@@ -32,14 +32,14 @@ class Playing(OnPage):
             self.run_to(60)
             step, run = self.page.step(), snapshots(self.page.job())
             drawn, [top, high] = self.page.js("""const {film, step} = lab.player, canvas = document.getElementById('spacetime');
-                const {top, high} = lab.rows(), pen = canvas.getContext('2d'), lines = [];
+                const {top, rowHeight: high} = lab.player.rows, pen = canvas.getContext('2d'), lines = [];
                 for (let now = top; now <= step; now++) for (let lane = 0; lane < film.lanes; lane++) {
                     const y = Math.floor((now - top + (lane + 0.5) / film.lanes) * high), row = [];
                     for (let x = 0; x < film.length; x++) row.push([...pen.getImageData((x + 0.5) * canvas.width / film.length, y, 1, 1).data].join());
                     lines.push(row);
                 }
                 return [lines, [top, high]]""")
-            colours = self.page.js("return Object.fromEntries([0, 1, 2, 3, 4, 5].map(v => [lab.colour(v / 5).join() + ',255', String(v)]))")
+            colours = self.page.js("return Object.fromEntries([0, 1, 2, 3, 4, 5].map(v => [lab.speedColour(v / 5).join() + ',255', String(v)]))")
             expected = [lane for snapshot in run[top:step + 1] for lane in snapshot.lanes]
             self.assertEqual(["".join(colours.get(colour, ".") for colour in row) for row in drawn], expected)
             road = self.page.js("""const {film} = lab.player, canvas = document.getElementById('band'), pen = canvas.getContext('2d');
@@ -55,14 +55,14 @@ class Playing(OnPage):
             self.assertEqual(["".join(colours.get(colour, ".") for colour in row) for row in ring], list(run[step].lanes))
 
     def test_steps_are_numbered_in_the_space_time_diagram(self):
-        numbered = """const {top, high} = lab.rows();
+        numbered = """const {top, rowHeight: high} = lab.player.rows;
             return [...document.querySelectorAll('#stepmarks span')].map(it => [+it.textContent, top + parseFloat(it.style.top) / high - 0.5])"""
         for length, steps, now, apart in (10, 4, 4, 1), (100, 400, 60, 10), (1000, 5000, 700, 50):
             with self.subTest(length=length, steps=steps):
                 self.open(Job(limit=5, length=length, cars=2, rule=Nasch(0.25), steps=steps).text())
                 self.hold(lambda: self.page.js("return lab.job.length") == length)
                 self.run_to(now)
-                step, top, numbers = self.page.step(), self.page.js("return lab.rows().top"), self.page.js(numbered)
+                step, top, numbers = self.page.step(), self.page.js("return lab.player.rows.top"), self.page.js(numbered)
                 self.assertEqual([number for number, _ in numbers], [numbered_step for numbered_step in range(0, step + 1, apart) if numbered_step >= top])
                 for number, row in numbers:
                     self.assertAlmostEqual(number, row, places=3)
@@ -73,7 +73,7 @@ class Playing(OnPage):
                 self.open(Job(limit=5, length=length, cars=5, rule=Nasch(0.25), steps=steps).text())
                 self.hold(lambda: self.page.js("const {length, steps} = lab.player.film; return [length, steps]") == [length, steps])
                 self.run_to(steps)
-                high, top = self.page.js("const {high, top} = lab.rows(); return [high, top]")
+                high, top = self.page.js("const {top, rowHeight: high} = lab.player.rows; return [high, top]")
                 self.assertEqual((high, top), (expected, max(0, steps + 1 - 300 // expected)))
                 self.assertEqual(self.page.text("axes"), f"Across: cells 0 to {length - 1}. Down: steps {top} to {steps}.")
 
@@ -82,14 +82,14 @@ class Playing(OnPage):
         self.hold(lambda: self.page.js("return lab.player.film.length") == 60)
         for step in 1, 12:
             self.run_to(step)
-            self.page.js("lab.player.show(arguments[0])", step)
+            self.page.js("lab.player.showStep(arguments[0])", step)
             self.has(["0.500", "5.00"], lambda: [self.page.text("flow"), self.page.text("speed")])
 
     def test_cars_move_between_steps(self):
         self.open(Job(limit=5, length=100, cars=1, rule=Nasch(0), steps=400).text())
         self.hold(lambda: self.page.js("return lab.job.length") == 100)
         self.run_to(50)
-        drawn = self.page.js("""const {player} = lab, canvas = document.getElementById('band'), {scene: {place: [cell]}} = player;
+        drawn = self.page.js("""const {player} = lab, canvas = document.getElementById('band'), {scene: {cell: [cell]}} = player;
             const at = x => canvas.getContext('2d').getImageData((x + 100) % 100 * canvas.width / 100, canvas.height / 2, 1, 1).data[3] > 0;
             return [0, 0.4, 0.6, 1].map(share => {
                 player.phase = share;
@@ -128,7 +128,7 @@ class Playing(OnPage):
         self.hold(near)
         self.follows_none()
         step = self.page.step()
-        self.page.click_at("spacetime", width * (cell + 0.5) / 1000, step - self.page.js("return lab.rows().top"))
+        self.page.click_at("spacetime", width * (cell + 0.5) / 1000, step - self.page.js("return lab.player.rows.top"))
         self.hold(near)
 
     # Playback
@@ -174,7 +174,7 @@ class Playing(OnPage):
         self.page.set("stepcount", 500000)
         self.page.set("length", 100)
         self.run_to(4100)
-        first, last, count = self.page.js("const {film} = lab.player; return [film.first, film.last, film.shots.length]")
+        first, last, count = self.page.js("const {film} = lab.player; return [film.first, film.last, film.snapshots.length]")
         self.assertEqual((count, last - first + 1), (4000, 4000))
         self.assertIn(f"The page keeps the last 4,000 snapshots: back to step {first}", self.page.text("kept"))
         shots = dict((step, cells) for step, cells, *_ in self.page.js(SHOTS))

@@ -131,7 +131,7 @@ class Files(unittest.TestCase):
 
     def test_random_numbers(self):
         seeds = [0, 7, 2**200 + 1]
-        for seed, draws in zip(seeds, answers([("random", "draws", str(seed), 2000) for seed in seeds])):
+        for seed, draws in zip(seeds, answers([("random", "randomNumbers", str(seed), 2000) for seed in seeds])):
             numbers = random.Random(seed)
             self.assertEqual(list(draws.values()), [numbers.random() for _ in range(2000)])
 
@@ -140,7 +140,7 @@ class Files(unittest.TestCase):
         draw = random.Random(3)
         values = [0.0, 1.0, 0.5, 1e-9, 1 - 1e-9, 2**-31, 1.5 * 2**-31, 2.5 * 2**-31, 5e-324, 1e-10, 2**-32, *(draw.random() ** 9 for _ in range(3000))]
         values += [(draw.randrange(2**31) + 0.5) / 2**31 for _ in range(3000)] + [k / 1000 for k in range(1001)]
-        for result, number in zip(answers([("checks", "partsOf", "brake", value) for value in values]), values):
+        for result, number in zip(answers([("checks", "checkedParts", "brake", value) for value in values]), values):
             try:
                 self.assertEqual(result, parts(probability("brake", number)), number)
             except ParameterError as error:
@@ -150,7 +150,7 @@ class Files(unittest.TestCase):
     def test_decimals(self):
         draw = random.Random(4)
         values = [0, 1, ALWAYS, ALWAYS - 1, *(2**k for k in range(31)), *(3 * 2**k for k in range(29)), *(draw.randrange(ALWAYS) for _ in range(3000))]
-        for decimal, number in zip(answers([("checks", "decimalOf", value) for value in values]), values):
+        for decimal, number in zip(answers([("checks", "shortestDecimal", value) for value in values]), values):
             written = Fraction(repr(decimal))
             self.assertEqual((parts(decimal), parts(written)), (number, number), decimal)
             fewer = -Decimal(repr(decimal)).normalize().as_tuple().exponent - 1
@@ -300,7 +300,7 @@ PLANTED = (
     ("rest > 0.5 || rest === 0.5 && low % 2 === 1", "rest >= 0.5"),  # halves are rounded up
     ("rest > 0.5 || rest === 0.5 && low % 2 === 1", "rest > 0.5"),  # and down
     ("number === nearest || found > 0", "number === nearest || found >= 0"),  # 1e-10 becomes 0
-    ("parts(decimal) === found", "Math.abs(decimal - exact) < 1e-9"),
+    ("nearestParts(decimal) === found", "Math.abs(decimal - exact) < 1e-9"),
     ("19650218", "19650219"), ("1664525", "1664526"), ("1566083941", "1566083943"), ("0x9908b0df", "0x9908b0de"), ("word << 7", "word << 6"),
     ("words[k % words.length] + k % words.length", "words[k % words.length]"),  # only keys of several words notice it
     ("rest > 0n || !words.length", "rest > 0n"), ("2 ** 26 + (word() >>> 6)", "2 ** 26 + (word() >>> 5)"),
@@ -310,7 +310,7 @@ PLANTED = (
     ("2 * length / periods % 2 === 1", "2 * length / periods % 2 === 0"), ("lanes === 2 && change?.trim()", "change?.trim()"),
     ('["vdr", ["brake", "stopped"]]', '["vdr", ["brake"]]'), ('replace(/\\n$/, "").split("\\n"), other', 'trimEnd().split("\\n"), other'),
     ("(one, other) => one.at - other.at", "(one, other) => other.at - one.at"), ("lines[0] === kind ? [] : [kind]", "[kind]"),
-    ("lines.program() : \"\";", "\"\" : \"\";"), ("[p = before.p, q = before.q]", "[q = before.q, p = before.p]"),
+    ("lines.takeProgram() : \"\";", "\"\" : \"\";"), ("[p = before.p, q = before.q]", "[q = before.q, p = before.p]"),
     ("this.next - 1).map", "this.next).map"), ("BigInt(`0x${values[0]}`)", "BigInt(`0x${values[0].slice(1)}`)"),
     ("(k * k * brake)", "(k * (k + 1) * brake)"), ("roads + term / k", "roads + term"), ("term >= NEGLIGIBLE; k--", "term >= 1e-3; k--"),
     ("rule.p === 0", "false"), ("limit > 1 || !isNasch", "!isNasch"), ("brake === other", "true"),
@@ -328,9 +328,9 @@ class Planted(unittest.TestCase):
         texts = [text for text in (text_of(lambda: job_of(item)) for item in jobs) if text]
         calls = [("jobs", "jobFile", item) for item in jobs] + [("jobs", "sweepFile", item) for item in sweeps]
         calls += [("reading", "controlsOf", item) for item in texts]
-        calls += [("checks", "partsOf", "brake", item) for item in (1e-10, 0.5 / 2**31, 1.5 / 2**31, 2.5 / 2**31, 0.3)]
-        calls += [("checks", "decimalOf", item) for item in (1, 715827883, 2**20, 2**31 - 1)]
-        calls.append(("random", "draws", "7", 99))
+        calls += [("checks", "checkedParts", "brake", item) for item in (1e-10, 0.5 / 2**31, 1.5 / 2**31, 2.5 / 2**31, 0.3)]
+        calls += [("checks", "shortestDecimal", item) for item in (1, 715827883, 2**20, 2**31 - 1)]
+        calls.append(("random", "randomNumbers", "7", 99))
         rules = vdr, {**vdr, "q": 0.25}, {**vdr, "p": 0, "q": 0}
         calls += [("exact", "exactCurve", {"limit": limit, "length": 99, "lanes": 1, "rule": rule}) for rule in rules for limit in (1, 2)]
         shown = lambda changed: [str(item) if isinstance(item, Thrown) else item for item in changed]
@@ -350,7 +350,7 @@ class LongFiles(unittest.TestCase):
     def test_work_is_proportional_to_the_length(self):
         """Each line is taken once: counted, because no test depends on time."""
         count = "if (this.all.counted = (this.all.counted ?? 0) + 1, this.all.counted > this.all.length) throw new Error('lines are taken again');"
-        edit = lambda script: script.replace("  take() {\n", f"  take() {{\n{count}\n", 1)
+        edit = lambda script: script.replace("  takeLine() {\n", f"  takeLine() {{\n{count}\n", 1)
         heads = ["sweep 1", "key " + "0" * 64, "limit 5", "length 9", "lanes 1", "rule nasch 0", "warm 0", "measure 1", *["cars 3"] * 10000]
         rules = ["road 1", "key " + "0" * 64, "limit 5", "lane 0.", "rule nasch 0", "steps 500000", *(f"at {k} rule rickert 1 2" for k in range(1, 10000))]
         lanes = ["road 1", "key " + "0" * 64, "limit 5", *["lane 0."] * 10000]
@@ -367,11 +367,11 @@ class Joining(unittest.TestCase):
         texts = {"one": 'import { there, gone } from "./two.js";\n', "two": "export const there = 1;\n"}
         with mock.patch.object(Path, "read_text", lambda path, _: texts[path.stem]):
             self.assertRaisesRegex(ValueError, "^one.js imports gone, which two.js does not export$", scripts.joined, "one")
-            self.assertEqual(scripts.reached("two"), ["two"])
+            self.assertEqual(scripts.imported_scripts("two"), ["two"])
 
     def test_a_text_that_would_end_its_element(self):
         for text in "'</script>'", "'</SCRIPT x'", "a <!--b":
-            self.assertRaises(ValueError, scripts.element, text, "")
+            self.assertRaises(ValueError, scripts.script_element, text, "")
 
 
 if __name__ == "__main__":

@@ -8,7 +8,7 @@ from tests.lab_pages import OnPage
 from trlab import Job, Nasch, SlowToStart, Sweep
 from trlab._runs.calls import ask
 
-ROW = "return (await import('./sweeps.js')).rowOf(...words)"
+ROW = "return (await import('./sweeps.js')).sweepRow(...words)"
 BRANCHES = {"moving": trlab.moving, "jam": trlab.jammed}
 
 

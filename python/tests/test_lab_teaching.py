@@ -11,7 +11,7 @@ from trlab._results.written import snapshots_in
 
 SPEEDS = "0123456789abcdefghijklmnopqrstuvwxyz"
 REASONS = """const {reasonOf} = await import('./following.js'), {film} = lab.player, [rule] = lab.job.rules, found = [];
-for (let step = 1; step <= words[0]; step++) film.of(step).cells.forEach((sign, k) => {
+for (let step = 1; step <= words[0]; step++) film.at(step).cells.forEach((sign, k) => {
     const car = {step, lane: Math.floor(k / film.length), cell: k % film.length};
     if (sign !== 46) found.push([step, car.lane, car.cell, film.speed(car), reasonOf(film, car, rule)]);
 });
@@ -84,7 +84,7 @@ class Teaching(OnPage):
         self.choose("lane_rule.sweep")
         self.hold(lambda: self.page.value("cars") == "60" and self.page.js("return lab.job.lanes") == 2)
         self.run_to(100)
-        one, other = self.page.js("return lab.player.film.of(100).densities")
+        one, other = self.page.js("return lab.player.film.at(100).densities")
         self.assertGreater(one, 1.5 * other)
         self.choose("two_lanes.sweep")
         self.has("150", lambda: self.page.value("cars"))
@@ -187,7 +187,7 @@ class Teaching(OnPage):
         text = self.show_job(rule=Nasch("1/4"), at={390: Nasch("1/2")})
         self.assertTrue(self.page.js("return document.getElementById('brake').disabled"))
         self.run_to(30)
-        self.page.js("lab.player.show(30)")
+        self.page.js("lab.player.showStep(30)")
         self.page.keys("b")  # nobody is followed
         self.page.click("follow")
         self.assertFalse(self.page.js("return document.getElementById('brake').disabled"))
@@ -199,7 +199,7 @@ class Teaching(OnPage):
         self.hold(lambda: f"braked to a stop at step {step}." in self.page.text("story"))
         self.follows_in_the_new_run(car)
         self.run_to(50)
-        shots = self.page.js("return lab.player.film.shots.map(it => String.fromCharCode(...it.cells))")
+        shots = self.page.js("return lab.player.film.snapshots.map(it => String.fromCharCode(...it.cells))")
         self.assertEqual(shots, ["".join(snapshot.lanes) for snapshot in snapshots(self.page.job())][:len(shots)])
 
     def test_a_car_on_two_lanes_brakes_by_the_button(self):

@@ -16,7 +16,7 @@ from typing import Optional
 from .._errors import TrlabError
 from .alone import open_page, page_needed
 from .export import exported
-from .opening import opened
+from .opening import opened_in_browser
 from .server import MAX_BYTES, Lab
 
 MAX_ADDRESS = 1000000
@@ -91,7 +91,7 @@ def _serve(port: int, job: str, no_browser: bool) -> None:
     address = lab.address + job
     try:
         print(address, flush=True)
-        with contextlib.nullcontext() if no_browser else opened(address):
+        with contextlib.nullcontext() if no_browser else opened_in_browser(address):
             lab.serve_forever()
     except KeyboardInterrupt:
         pass

@@ -11,7 +11,7 @@ from .._errors import ProgramNotFoundError
 from .._runs.location import find_program
 from .scripts import HERE
 
-PLACES = HERE.parent / "programs" / "trlab-lab.html", HERE.parents[2] / "release" / "trlab-lab.html"
+PAGE_PATHS = HERE.parent / "programs" / "trlab-lab.html", HERE.parents[2] / "release" / "trlab-lab.html"
 """The paths of the page in an installed package and in a checkout."""
 
 
@@ -34,9 +34,9 @@ def page_needed() -> Optional[Page]:
         if os.environ.get("TRLAB"):
             raise
         reason = str(error)
-    path = next((path for path in PLACES if path.is_file()), None)
+    path = next((path for path in PAGE_PATHS if path.is_file()), None)
     if path is None:
-        raise ProgramNotFoundError(f"{reason}; and there is no page that contains the program, {PLACES[0]}")
+        raise ProgramNotFoundError(f"{reason}; and there is no page that contains the program, {PAGE_PATHS[0]}")
     return Page(path, reason)
 
 

@@ -3,41 +3,42 @@
 
 import { NumberError } from "./numbers.js";
 
-const kept = new WeakSet();
+const editedBoxes = new WeakSet(), errorTexts = new WeakMap();
 
 /** Whether a box keeps its text for now, and does not show the number that is in force. */
-export const isKept = place => kept.has(place);
+export const isEdited = box => editedBoxes.has(box);
 
-/** Call `take(text)` when a text is complete, and show the message of a `NumberError`; `restore()` shows the old number. */
-export function watch(place, id, take, restore) {
-  const words = document.createElement("span");
-  Object.assign(words, { id: `${id}wrong`, className: "wrong", role: "alert" });
-  place.closest(".field, .lead, figcaption, .compare").append(words);
-  place.setAttribute("aria-describedby", words.id);
-  place.words = words;
-  place.addEventListener("input", () => kept.add(place));
-  place.addEventListener("change", () => attempt(place, () => take(place.value)));
-  place.addEventListener("keydown", event => {
+/** Call `apply(text)` when a text is complete, and show the message of a `NumberError`; `restore()` shows the old number. */
+export function watchBox(box, id, apply, restore) {
+  const errorText = document.createElement("span");
+  Object.assign(errorText, { id: `${id}wrong`, className: "wrong", role: "alert" });
+  box.closest(".field, .lead, figcaption, .compare").append(errorText);
+  box.setAttribute("aria-describedby", errorText.id);
+  errorTexts.set(box, errorText);
+  box.addEventListener("input", () => editedBoxes.add(box));
+  box.addEventListener("change", () => applyToBox(box, () => apply(box.value)));
+  box.addEventListener("keydown", event => {
     if (event.key !== "Escape") return;
-    free(place);
+    releaseBox(box);
     restore();
   });
 }
 /** The result of a call; if it raises a `NumberError`, the box is marked with it. */
-export function attempt(place, call) {
+export function applyToBox(box, apply) {
   try {
-    free(place);
-    return call();
-  } catch (fault) {
-    if (!(fault instanceof NumberError)) throw fault;
-    kept.add(place);
-    place.setAttribute("aria-invalid", "true");
-    place.words.textContent = fault.message;
+    releaseBox(box);
+    return apply();
+  } catch (error) {
+    if (!(error instanceof NumberError)) throw error;
+    editedBoxes.add(box);
+    box.setAttribute("aria-invalid", "true");
+    errorTexts.get(box).textContent = error.message;
+    return undefined;
   }
 }
 /** The box shows the number in force again, and no longer the typed text. */
-export function free(place) {
-  kept.delete(place);
-  place.removeAttribute("aria-invalid");
-  if (place.words) place.words.textContent = "";
+export function releaseBox(box) {
+  editedBoxes.delete(box);
+  box.removeAttribute("aria-invalid");
+  if (errorTexts.has(box)) errorTexts.get(box).textContent = "";
 }

@@ -1,105 +1,140 @@
 // The fundamental diagram: flow against density. Runs are points, sweeps are curves, and thin lines show the maximum that
 // is proved for every rule: a triangle for each maximum speed. A thick grey line is the flow that is known exactly.
+//
+// Its contents are { limit, length, lanes, density, flow, marks, exact, selected }. A mark is { limit, length, lanes, points:
+// [{ density, flow }] }, and that of a sweep has a `name`, its initial state as `start`, and the `group` of sweeps that it was made
+// with. The exact curve is { kind, points }, or null if it is not known. `selected` is one of the points, or null.
 
-import { ACCENT, INK, SOFT, svgFile, tag } from "./draw.js";
+import { ACCENT, INK, MUTED, PAPER, SECOND, SOFT } from "./colours.js";
 import { STATES } from "./sweeps.js";
-import { shownAs, ticks, unitOf } from "./units.js";
+import { escapeXml, svgElement, svgFile } from "./svg.js";
+import { axisTicks, formatted, unitOf } from "./units.js";
 
-const OLD = "#a5adb8", EXACT = "#8b949f", SECOND = "#c8501e";
-const PROVED = {
+const PROOFS = {
   triangle: "Proved: without randomization every initial state reaches this flow",
   stationary: "Proved: the mean flow of the stationary state on this ring, over all random words",
 };
-const HIGH = 276, ROW = 16, ROWS = 5; // the height without the legend, that of a row, and the most rows
-export const across = density => 34 + 316 * density;
-const safe = words => words.replace(/[&<>]/g, it => `&#${it.charCodeAt(0)};`);
-const words = (x, y, it, more) => tag("text", { x, y, fill: SOFT, "font-size": 11, ...more }, it);
-/** A row of the legend. A long one is squeezed to the width of the image, because the drawing cannot measure its words. */
-const legendWords = (y, it) => words(58, y, safe(it), { class: "legend-row", ...it.length > 50 && { textLength: 300, lengthAdjust: "spacingAndGlyphs" } });
+// All sizes are in units of the image, which are about those of pixels.
+export const WIDTH = 360;
+const HEIGHT = 276, PLOT = { left: 34, width: 316, bottom: 240, height: 222 };
+const FONT_SIZE = 11, LEGEND = { rowHeight: 16, maxRows: 5, wordsX: 58, maxLetters: 50, maxWidth: 300, signWidth: 16 };
+const RADIUS = { run: 3.5, sweep: 2.5, now: 5, selected: 8 };
+const EXACT_WIDTH = 3, NOW_WIDTH = 2;
+
+/** The place of a density across the image, and the density at such a place. */
+export const xOf = density => PLOT.left + PLOT.width * density;
+export const densityAt = x => (x - PLOT.left) / PLOT.width;
+
+const words = (x, y, text, attributes) => svgElement("text", { x, y, fill: SOFT, "font-size": FONT_SIZE, ...attributes }, text);
+const line = (path, stroke, attributes) => svgElement("path", { d: path, stroke, ...attributes });
 
 /** A road in words. Points of roads other than the present one differ in shape. */
-const roadOf = ({ limit, length, lanes }) => `v_max ${limit}, ${lanes === 2 ? "2 \u00d7 " : ""}${length} cells`;
-const OTHERS = [ // the outlines of such points
+const roadWords = ({ limit, length, lanes }) => `v_max ${limit}, ${lanes === 2 ? "2 \u00d7 " : ""}${length} cells`;
+/** The numbers of a point in words. */
+export const pointWords = (mark, { density, flow }) =>
+  `density ${formatted("density", density)}, flow ${formatted("flow", flow)}, ${roadWords(mark)}`;
+
+/** The outlines of the points of other roads. */
+const OTHER_SHAPES = [
   (x, y) => `M${x - 3} ${y - 3}h6v6h-6z`, (x, y) => `M${x} ${y - 4.5}l4.5 4.5l-4.5 4.5l-4.5 -4.5z`,
   (x, y) => `M${x} ${y - 4}l4 7h-8z`, (x, y) => `M${x} ${y + 4}l4 -7h-8z`,
 ];
+const shapeOf = number => OTHER_SHAPES[number % OTHER_SHAPES.length];
 /** The roads of single points that are not the present road, in the order of their first points. */
-const otherRoads = (marks, now) => [...new Set(marks.filter(it => !it.name).map(roadOf))].filter(it => it !== now);
+const otherRoads = (marks, road) => [...new Set(marks.filter(mark => !mark.name).map(roadWords))].filter(other => other !== road);
 const lastSweeps = marks => {
-  const group = marks.findLast(it => it.name)?.group;
-  return marks.filter(it => it.name && it.group === group);
+  const group = marks.findLast(mark => mark.name)?.group;
+  return marks.filter(mark => mark.name && mark.group === group);
 };
 
-/** The rows below the axis: the curves of the last sweep with their initial states, and the shapes of other roads. */
-function legendOf(what) {
-  const sweeps = lastSweeps(what.marks).map((mark, k) => ({
-    sign: y => tag("path", { d: `M34 ${y}h16`, stroke: k ? SECOND : ACCENT }) + tag("circle", { cx: 42, cy: y, r: 2.5, fill: k ? SECOND : ACCENT }),
-    words: `${mark.name}, ${STATES[mark.start]}: ${roadOf(mark)}`,
-  }));
-  const roads = otherRoads(what.marks, roadOf(what)).map((words, k) => ({
-    sign: y => tag("path", { d: OTHERS[k % OTHERS.length](42, y), fill: OLD }), words: `runs: ${words}`,
-  }));
-  return [...sweeps, ...roads].slice(0, ROWS);
+/** The rows below the axis: the curves of the last sweep with their initial states, and the shapes of other roads. A row has its
+ * `words`, and `sign(y)` draws its sign. */
+function legendRows(contents) {
+  const signX = PLOT.left, middle = signX + LEGEND.signWidth / 2;
+  const sweeps = lastSweeps(contents.marks).map((mark, k) => {
+    const colour = k ? SECOND : ACCENT;
+    const sign = y => line(`M${signX} ${y}h${LEGEND.signWidth}`, colour) + svgElement("circle", { cx: middle, cy: y, r: RADIUS.sweep, fill: colour });
+    return { sign, words: `${mark.name}, ${STATES[mark.start]}: ${roadWords(mark)}` };
+  });
+  const roads = otherRoads(contents.marks, roadWords(contents)).map((road, k) => (
+    { sign: y => svgElement("path", { d: shapeOf(k)(middle, y), fill: MUTED }), words: `runs: ${road}` }
+  ));
+  return [...sweeps, ...roads].slice(0, LEGEND.maxRows);
 }
-/** The box of the image, which is higher with a legend. */
-export const boxOf = what => `0 0 360 ${HIGH + ROW * legendOf(what).length + 2}`;
+/** A long row is squeezed to the width of the image, because the drawing cannot measure its words. */
+function legendElement(row, k) {
+  const top = HEIGHT + LEGEND.rowHeight * k, isLong = row.words.length > LEGEND.maxLetters;
+  const squeezed = isLong ? { textLength: LEGEND.maxWidth, lengthAdjust: "spacingAndGlyphs" } : {};
+  return row.sign(top + 10) + words(LEGEND.wordsX, top + 14, escapeXml(row.words), { class: "legend-row", ...squeezed });
+}
+/** The box of the image, which is higher with a legend: left, top, width, height. */
+export const diagramBox = contents => [0, 0, WIDTH, HEIGHT + LEGEND.rowHeight * legendRows(contents).length + 2];
 
-/** One run or sweep. */
-function drawMark(mark, { path, up, stroke, shape, label }) {
-  const { name, points } = mark, middle = label && points.find(it => it.density > 0.5);
-  const told = it => `<title>density ${shownAs("density", it.density)}, flow ${shownAs("flow", it.flow)}, ${roadOf(mark)}</title>`;
-  const dot = it => {
-    const x = +across(it.density).toFixed(1), y = +up(it.flow).toFixed(1);
-    return shape ? tag("path", { class: "point", d: shape(x, y), fill: stroke }, told(it))
-      : tag("circle", { class: "point", cx: x, cy: y, r: name ? 2.5 : 3.5, fill: stroke }, told(it));
+/** One run or sweep: `shape` draws the points of other roads, and `hasLabel` writes the name of an earlier sweep at its curve. */
+function markElement(mark, { plot, stroke, shape, hasLabel }) {
+  const { name, points } = mark;
+  const dot = point => {
+    const x = +xOf(point.density).toFixed(1), y = +plot.yOf(point.flow).toFixed(1), title = svgElement("title", {}, pointWords(mark, point));
+    return shape ? svgElement("path", { class: "point", d: shape(x, y), fill: stroke }, title)
+      : svgElement("circle", { class: "point", cx: x, cy: y, r: name ? RADIUS.sweep : RADIUS.run, fill: stroke }, title);
   };
+  const labelled = hasLabel && points.find(({ density }) => density > 0.5);
   return [
-    name ? tag("polyline", { points: path(points), fill: "none", stroke }) : "", ...points.map(dot),
-    middle ? words(across(middle.density) - 4, up(middle.flow) + 16, safe(name), { "text-anchor": "end" }) : "",
+    name ? svgElement("polyline", { points: plot.path(points), fill: "none", stroke }) : "", ...points.map(dot),
+    labelled ? words(xOf(labelled.density) - 4, plot.yOf(labelled.flow) + 16, escapeXml(name), { "text-anchor": "end" }) : "",
   ].join("");
 }
-function drawMarks(what, path, up) {
-  const { marks } = what, now = roadOf(what), roads = otherRoads(marks, now), sweeps = lastSweeps(marks), last = marks.at(-1);
+function markElements(contents, plot) {
+  const { marks } = contents, road = roadWords(contents), roads = otherRoads(marks, road), sweeps = lastSweeps(marks), last = marks.at(-1);
   return marks.map(mark => {
-    const place = sweeps.indexOf(mark), other = mark.name ? -1 : roads.indexOf(roadOf(mark));
-    const stroke = place > 0 ? SECOND : place === 0 || mark === last ? ACCENT : OLD;
-    return drawMark(mark, { path, up, stroke, shape: OTHERS[other % OTHERS.length], label: mark.name && place < 0 });
+    const place = sweeps.indexOf(mark), other = mark.name ? -1 : roads.indexOf(roadWords(mark));
+    const stroke = place > 0 ? SECOND : place === 0 || mark === last ? ACCENT : MUTED;
+    return markElement(mark, { plot, stroke, shape: other < 0 ? null : shapeOf(other), hasLabel: mark.name && place < 0 });
   });
 }
 /** The axes with their scales, and the meaning of thin and thick lines. */
-function drawAxes({ up, ground, most, top, exact }) {
-  const sample = (x, name, stroke, width) => tag("path", { d: `M${x} ${ground + 28}h16`, stroke, "stroke-width": width }) + words(x + 21, ground + 32, name);
+function axisElements({ yOf, top, maxLimit }, hasExact) {
+  const { left, bottom } = PLOT, right = xOf(1);
+  const sample = (x, name, stroke, width) => line(`M${x} ${bottom + 28}h16`, stroke, { "stroke-width": width }) + words(x + 21, bottom + 32, name);
+  const flowTicks = axisTicks("flow", top).slice(1).filter(({ at }) => at < 0.97 * top); // below the name of the axis
   return [
-    tag("path", { d: `M${across(0)} ${ground}H${across(1)}`, stroke: INK }),
-    ...ticks("density", 1, 7).map(it => words(across(it.at), ground + 16, it.words, { "text-anchor": "middle" })),
-    ...ticks("flow", top).slice(1).filter(it => it.at < 0.97 * top).map(it => words(28, up(it.at) + 4, it.words, { "text-anchor": "end" })),
-    words(across(1), ground + 32, `density (${unitOf("density").words})`, { "text-anchor": "end" }),
-    sample(34, "maximum", SOFT, 1), exact ? sample(124, "exact", EXACT, 3) : "",
-    words(across(1 / (most + 1)) + 10, up(top) + 4, `flow (${unitOf("flow").words})`),
+    line(`M${left} ${bottom}H${right}`, INK),
+    ...axisTicks("density", 1, 7).map(tick => words(xOf(tick.at), bottom + 16, tick.words, { "text-anchor": "middle" })),
+    ...flowTicks.map(tick => words(left - 6, yOf(tick.at) + 4, tick.words, { "text-anchor": "end" })),
+    words(right, bottom + 32, `density (${unitOf("density").words})`, { "text-anchor": "end" }),
+    sample(left, "maximum", SOFT, 1), hasExact ? sample(left + 90, "exact", MUTED, EXACT_WIDTH) : "",
+    words(xOf(1 / (maxLimit + 1)) + 10, yOf(top) + 4, `flow (${unitOf("flow").words})`),
   ];
 }
-/** The contents of the SVG image of { limit, length, lanes, density, flow, marks, exact }. A mark is { limit, length, lanes,
- * points: [{ density, flow }] }, and that of a sweep has a `name`, its initial state as `start`, and the `group` of sweeps that
- * it was made with. The exact curve is { kind, points }, or null if it is not known. */
-export function diagramOf(what) {
-  const { limit, density, flow, marks, exact } = what;
-  const limits = [...new Set([...marks.map(it => it.limit), limit])], most = Math.max(...limits), top = most / (most + 1);
-  const up = it => 240 - 222 * it / top, ground = up(0);
-  const path = points => points.map(it => `${across(it.density).toFixed(1)},${up(it.flow).toFixed(1)}`).join(" ");
-  const law = it => [{ density: 0, flow: 0 }, { density: 1 / (it + 1), flow: it / (it + 1) }, { density: 1, flow: 0 }];
-  const triangle = it => tag("polyline", { points: path(law(it)), fill: "none", stroke: it === limit ? SOFT : "#d5d9de" },
-    `<title>Proved for every rule with maximum speed ${it}: the flow is never above this triangle</title>`);
-  const known = exact && tag("polyline", { class: "exact", points: path(exact.points), fill: "none", stroke: EXACT, "stroke-width": 3, "stroke-linejoin": "round" },
-    `<title>${PROVED[exact.kind]}</title>`);
-  const legend = legendOf(what).map((row, k) => row.sign(HIGH + ROW * k + 10) + legendWords(HIGH + ROW * k + 14, row.words));
+function triangleElement(triangleLimit, limit, plot) {
+  const peak = { density: 1 / (triangleLimit + 1), flow: triangleLimit / (triangleLimit + 1) };
+  const points = plot.path([{ density: 0, flow: 0 }, peak, { density: 1, flow: 0 }]), stroke = triangleLimit === limit ? SOFT : MUTED;
+  const dashed = triangleLimit === limit ? {} : { "stroke-dasharray": "4 3" };
+  return svgElement("polyline", { points, fill: "none", stroke, ...dashed },
+    svgElement("title", {}, `Proved for every rule with maximum speed ${triangleLimit}: the flow is never above this triangle`));
+}
+function exactElement(exact, plot) {
+  const attributes = { class: "exact", points: plot.path(exact.points), fill: "none", stroke: MUTED, "stroke-width": EXACT_WIDTH, "stroke-linejoin": "round" };
+  return svgElement("polyline", attributes, svgElement("title", {}, PROOFS[exact.kind]));
+}
+/** The places of the flows up to the highest triangle. */
+function plotOf(limits) {
+  const maxLimit = Math.max(...limits), top = maxLimit / (maxLimit + 1), yOf = flow => PLOT.bottom - PLOT.height * flow / top;
+  return { maxLimit, top, yOf, path: points => points.map(({ density, flow }) => `${xOf(density).toFixed(1)},${yOf(flow).toFixed(1)}`).join(" ") };
+}
+const circleAt = ({ density, flow }, plot, attributes) =>
+  svgElement("circle", { cx: xOf(density).toFixed(1), cy: plot.yOf(flow).toFixed(1), "stroke-width": NOW_WIDTH, ...attributes });
+
+/** The contents of the SVG image. */
+export function diagramElements(contents) {
+  const { limit, density, flow, marks, exact, selected } = contents;
+  const limits = [...new Set([...marks.map(mark => mark.limit), limit])], plot = plotOf(limits), maxFlow = Math.min(limit * density, 1 - density);
   return [
-    known ?? "", ...limits.map(triangle), ...drawAxes({ up, ground, most, top, exact }),
-    tag("path", { d: `M${across(density)} ${ground}V${up(Math.min(limit * density, 1 - density))}`, stroke: ACCENT, "stroke-dasharray": "1 3" }),
-    ...drawMarks(what, path, up), ...legend,
-    flow === null ? "" : tag("circle", { cx: across(density).toFixed(1), cy: up(flow).toFixed(1), r: 5, fill: "#fff", stroke: ACCENT, "stroke-width": 2 }),
+    exact ? exactElement(exact, plot) : "", ...limits.map(other => triangleElement(other, limit, plot)), ...axisElements(plot, exact),
+    line(`M${xOf(density)} ${PLOT.bottom}V${plot.yOf(maxFlow)}`, ACCENT, { "stroke-dasharray": "1 3" }),
+    ...markElements(contents, plot), ...legendRows(contents).map(legendElement),
+    flow === null ? "" : circleAt({ density, flow }, plot, { r: RADIUS.now, fill: PAPER, stroke: ACCENT }),
+    selected ? circleAt(selected, plot, { class: "selected", r: RADIUS.selected, fill: "none", stroke: INK }) : "",
   ].join("\n");
 }
-export function diagramFile(what) {
-  const box = boxOf(what), height = box.split(" ")[3];
-  return svgFile(box, tag("rect", { width: 360, height, fill: "white" }), diagramOf(what));
-}
+export const diagramFile = contents => svgFile(diagramBox(contents), diagramElements({ ...contents, selected: null }));

@@ -1,6 +1,6 @@
 // The exact curve of a fundamental diagram: the flow of a ring at each density, for the rules for which it is known.
 
-import { ALWAYS, rounded } from "./checks.js";
+import { ALWAYS, roundHalfEven } from "./checks.js";
 import { ruleLines } from "./jobs.js";
 import { upTo } from "./job.js";
 
@@ -21,8 +21,8 @@ export function exactCurve({ limit, length, lanes, rule }) {
     return { kind: "triangle", points: [0, 1 / (limit + 1), 1].map(triangle) };
   }
   if (limit > 1 || !isNasch(model, numbers)) return null;
-  const counts = new Set(upTo(INTERVALS + 1).map(k => rounded(k * length / INTERVALS)));
-  const point = cars => ({ density: cars / length, flow: flow(length, cars, numbers[0] / ALWAYS) });
+  const counts = new Set(upTo(INTERVALS + 1).map(k => roundHalfEven(k * length / INTERVALS)));
+  const point = cars => ({ density: cars / length, flow: stationaryFlow(length, cars, numbers[0] / ALWAYS) });
   return { kind: "stationary", points: [...counts].map(point) };
 }
 /** Whether a rule is the Nagel-Schreckenberg model, possibly under another name. */
@@ -36,7 +36,7 @@ const isNasch = (model, [brake, other]) =>
  *     Z = sum of the same terms, each times n / k
  *
  * Both sums are added up from their largest term outwards. The relative error is below 1e-12, which is tested and not proved. */
-export function flow(length, cars, brake) {
+export function stationaryFlow(length, cars, brake) {
   const empty = length - cars, most = Math.min(cars, empty);
   if (most === 0 || brake === 0) return most / length;
   const growth = k => (cars - k) * (empty - k) / (k * k * brake), largest = largestTerm(most, growth);

@@ -13,7 +13,7 @@ from .._inputs.numbers import ALWAYS, MAX_SPEED, checked_int, key_digits, parts
 from .._inputs.reading import job_of
 from .._inputs.states import SPEEDS
 from .._runs.calls import ask_by_line
-from .scripts import HERE, joined, sum_of
+from .scripts import HERE, joined, policy_hash
 
 if TYPE_CHECKING:
     from .._results.snapshots import Snapshots
@@ -26,7 +26,7 @@ _PAGE = """<!doctype html>
 <head>
 <meta charset="utf-8">
 <meta name="viewport" content="width=device-width, initial-scale=1">
-<meta http-equiv="Content-Security-Policy" content="default-src 'none'; script-src {script_sum}; style-src {style_sum}; img-src data:">
+<meta http-equiv="Content-Security-Policy" content="default-src 'none'; script-src {script_hash}; style-src {style_hash}; img-src data:">
 <title>@title@</title>
 <link rel="icon" href="data:,">
 <style>{style}</style>
@@ -66,7 +66,7 @@ def exported(text: str, title: str = "") -> str:
 def film_page() -> str:
     """The page of any film, with `@title@`, `@lead@`, `@job@` and `@run@` as the places of the parts that differ."""
     script, style = joined("exported"), (HERE / "page.css").read_text("utf-8")
-    return _PAGE.format(style=style, script=script, style_sum=sum_of(style), script_sum=sum_of(script), parts=_parts())
+    return _PAGE.format(style=style, script=script, style_hash=policy_hash(style), script_hash=policy_hash(script), parts=_parts())
 
 
 def _page(lines: Iterator[str], limit: int, title: str, text: str = "") -> str:

@@ -4,23 +4,22 @@
 import { EMPTY } from "./job.js";
 import { converted, lengthWords, speedWords } from "./units.js";
 
-/** The empty cells ahead of a car and the next car, which is null if the lane has no other car. `isThere(cell)` is whether
- * a cell has a car. */
-function ahead(length, cell, isThere) {
-  for (let gap = 0; gap < length - 1; gap++) if (isThere((cell + gap + 1) % length)) return { gap, next: (cell + gap + 1) % length };
-  return { gap: length - 1, next: null };
+/** The empty cells ahead of a car and the cell of the next car, which is null if the lane has no other car. */
+function lookAhead(length, cell, hasCar) {
+  for (let gap = 0; gap < length - 1; gap++) if (hasCar((cell + gap + 1) % length)) return { gap, nextCell: (cell + gap + 1) % length };
+  return { gap: length - 1, nextCell: null };
 }
 /** The gap that a car had when it moved to its place: after the lane changes of the step, and before anyone moved. */
-function gapBefore(film, before, lane) {
+function gapBeforeMoving(film, before, lane) {
   const { length, lanes } = film, { step } = before;
-  const isOn = (from, cell) => film.of(step).cells[from * length + cell] !== EMPTY &&
-    (lanes === 1 || film.later({ step, lane: from, cell })?.lane === lane);
-  return ahead(length, before.cell, cell => isOn(lane, cell) || (lanes === 2 && isOn(1 - lane, cell))).gap;
+  const movesOnLane = (fromLane, cell) => film.at(step).cells[fromLane * length + cell] !== EMPTY &&
+    (lanes === 1 || film.carLater({ step, lane: fromLane, cell })?.lane === lane);
+  return lookAhead(length, before.cell, cell => movesOnLane(lane, cell) || (lanes === 2 && movesOnLane(1 - lane, cell))).gap;
 }
 
 const changeWords = (from, to) => `from ${converted("speed", from)} to ${speedWords(to)}`;
 /** Why a car that had the speed `from` and the gap `gap` has the speed `to` now, by a built-in rule; nothing if it cannot be so. */
-function byRule(from, to, gap, limit) {
+function reasonByModel(from, to, gap, limit) {
   const wanted = Math.min(from + 1, limit), safe = Math.min(wanted, gap), isRandom = to === safe - 1;
   if (to !== safe && !isRandom) return "";
   const change = changeWords(from, to);
@@ -35,7 +34,7 @@ function byRule(from, to, gap, limit) {
   return from ? `It could not speed up, because its gap was ${lengthWords(gap)}.` : "It waits, because it had no gap.";
 }
 /** The same for a rule of one's own, which decides for reasons that the snapshots do not show. */
-function byOwn(from, to, gap) {
+function reasonByOwnRule(from, to, gap) {
   if (to >= from) return "";
   const change = `It braked ${changeWords(from, to)}`;
   return gap >= from ? `${change}: its rule chose so, with a gap of ${lengthWords(gap)}.`
@@ -43,18 +42,18 @@ function byOwn(from, to, gap) {
 }
 /** Why a car has its speed, if the step before is kept and the `rule` of that step is known. */
 export function reasonOf(film, car, rule) {
-  const before = film.earlier(car);
+  const before = film.carEarlier(car);
   if (!before || !rule) return "";
-  const [from, to] = [film.speed(before), film.speed(car)], gap = gapBefore(film, before, car.lane);
-  const why = rule.model === "own" ? byOwn(from, to, gap) : byRule(from, to, gap, film.limit);
-  return before.lane === car.lane ? why : `It changed lanes. ${why}`.trim();
+  const [from, to] = [film.speed(before), film.speed(car)], gap = gapBeforeMoving(film, before, car.lane);
+  const reason = rule.model === "own" ? reasonByOwnRule(from, to, gap) : reasonByModel(from, to, gap, film.limit);
+  return before.lane === car.lane ? reason : `It changed lanes. ${reason}`.trim();
 }
 /** The sentences about the followed car. */
-export function followedWords(film, car, rule) {
-  const { length, lanes } = film, { step, lane, cell } = car, { cells } = film.of(step);
-  const { gap, next } = ahead(length, cell, other => cells[lane * length + other] !== EMPTY);
-  const front = next === null ? "No other car is on its lane."
-    : `Its gap is ${lengthWords(gap)}, and the car ahead drives at ${speedWords(film.speed({ step, lane, cell: next }))}.`;
+export function followedCarWords(film, car, rule) {
+  const { length, lanes } = film, { step, lane, cell } = car, { cells } = film.at(step);
+  const { gap, nextCell } = lookAhead(length, cell, other => cells[lane * length + other] !== EMPTY);
+  const ahead = nextCell === null ? "No other car is on its lane."
+    : `Its gap is ${lengthWords(gap)}, and the car ahead drives at ${speedWords(film.speed({ step, lane, cell: nextCell }))}.`;
   const place = `${lanes === 2 ? `lane ${lane}, ` : ""}cell ${cell}`;
-  return `You follow the car in ${place}, at ${speedWords(film.speed(car))}. ${front} ${reasonOf(film, car, rule)}`.trim();
+  return `You follow the car in ${place}, at ${speedWords(film.speed(car))}. ${ahead} ${reasonOf(film, car, rule)}`.trim();
 }

@@ -4,7 +4,10 @@
 
 // The numbers of errors on Linux, for which the program is compiled.
 const NO_SUCH_FILE = 2, NOT_OPEN = 9, TRY_AGAIN = 11;
+// The numbers of the open streams.
 const INPUT = 0, OUTPUT = 1, ERROR = 2;
+/** The bytes of a page of memory, by which it grows. */
+const PAGE = 65536;
 
 /** Thrown when the program ends itself. */
 export class Exit extends Error {
@@ -25,87 +28,90 @@ export class StreamError extends Error {
 /** The memory of an instance. Its addresses have 32 bits, and arrive as numbers with a sign. */
 class Memory {
   attach(memory) { this.memory = memory; }
-  bytes(at, length) { return new Uint8Array(this.memory.buffer, at >>> 0, Number(length)); }
+  bytes(address, length) { return new Uint8Array(this.memory.buffer, address >>> 0, Number(length)); }
   /** Write two numbers of 64 bits. */
-  setPair(at, first, second) {
+  setPair(address, first, second) {
     const view = new DataView(this.memory.buffer);
-    view.setBigUint64(at >>> 0, BigInt(first), true);
-    view.setBigUint64((at >>> 0) + 8, BigInt(second), true);
+    view.setBigUint64(address >>> 0, BigInt(first), true);
+    view.setBigUint64((address >>> 0) + 8, BigInt(second), true);
   }
   copy(from, to, length) { this.bytes(to, length).set(this.bytes(from, length)); }
   /** Whether the memory reaches up to an address, now or after it has grown. */
-  reach(end) {
-    const missing = Math.ceil((end - this.memory.buffer.byteLength) / PAGE);
+  growTo(end) {
+    const missingPages = Math.ceil((end - this.memory.buffer.byteLength) / PAGE);
     try {
-      if (missing > 0) this.memory.grow(missing);
+      if (missingPages > 0) this.memory.grow(missingPages);
       return true;
-    } catch (fault) {
-      if (fault instanceof RangeError) return false;
-      throw fault;
+    } catch (error) {
+      if (error instanceof RangeError) return false;
+      throw error;
     }
   }
 }
-const PAGE = 65536;
 
-/** Blocks of memory above the data of the module. Each has 2**power bytes, behind a head that contains the power; a block that is
- * given back waits until one of its power is taken. An address of 0 means that there is no memory left. */
-class Heap {
-  constructor(memory, base) {
-    Object.assign(this, { memory, top: Math.ceil(base / HEAD) * HEAD, free: Array.from({ length: 32 }, () => []) });
-  }
-  head(at) { return this.memory.bytes(at - HEAD, 1); }
-  take(size) {
-    const power = powerFor(size);
-    if (power > MOST_POWER) return 0;
-    return this.free[power].pop() ?? this.add(power);
-  }
-  add(power) {
-    const at = this.top + HEAD, end = at + 2 ** power;
-    if (!this.memory.reach(end)) return 0;
-    this.top = end;
-    this.head(at)[0] = power;
-    return at;
-  }
-  give(at) { this.free[this.head(at)[0]].push(at >>> 0); }
-  /** The block at an address, or another one with the bytes of the first, of which `kept` are in use. */
-  resize(at, kept, size) {
-    if (powerFor(size) <= this.head(at)[0]) return at >>> 0;
-    const to = this.take(size);
-    if (to) {
-      this.memory.copy(at, to, kept);
-      this.give(at);
-    }
-    return to;
-  }
-}
-const HEAD = 16, LEAST_POWER = 4, MOST_POWER = 30;
+const HEADER_BYTES = 16, MIN_POWER = 4, MAX_POWER = 30;
 /** The power of the smallest block that holds a number of bytes. No block is larger than 1 GiB: compiled code counts bytes within a
  * block with a sign. */
 function powerFor(size) {
-  return size > 2 ** MOST_POWER ? MOST_POWER + 1 : Math.max(LEAST_POWER, 32 - Math.clz32(Math.max(size, 1) - 1));
+  return size > 2 ** MAX_POWER ? MAX_POWER + 1 : Math.max(MIN_POWER, 32 - Math.clz32(Math.max(size, 1) - 1));
+}
+
+/** Blocks of memory above the data of the module. Each has 2**power bytes, behind a header that contains the power; a block that is
+ * freed waits until one of its power is allocated. An address of 0 means that there is no memory left. */
+class Heap {
+  constructor(memory, base) {
+    this.memory = memory;
+    this.top = Math.ceil(base / HEADER_BYTES) * HEADER_BYTES;
+    this.freeBlocks = Array.from({ length: MAX_POWER + 1 }, () => []);
+  }
+  header(address) { return this.memory.bytes(address - HEADER_BYTES, 1); }
+  allocate(size) {
+    const power = powerFor(size);
+    if (power > MAX_POWER) return 0;
+    return this.freeBlocks[power].pop() ?? this.addBlock(power);
+  }
+  addBlock(power) {
+    const address = this.top + HEADER_BYTES, end = address + 2 ** power;
+    if (!this.memory.growTo(end)) return 0;
+    this.top = end;
+    this.header(address)[0] = power;
+    return address;
+  }
+  free(address) { this.freeBlocks[this.header(address)[0]].push(address >>> 0); }
+  /** The block at an address, or another one with the bytes of the first, of which `used` are in use. */
+  resize(address, used, size) {
+    if (powerFor(size) <= this.header(address)[0]) return address >>> 0;
+    const target = this.allocate(size);
+    if (target) {
+      this.memory.copy(address, target, used);
+      this.free(address);
+    }
+    return target;
+  }
 }
 
 /** Allocation, as Rattle's library calls it: whether there is a block, and its address, or any other address. */
-function ofMemory(memory, heap) {
-  const answer = (to, at) => memory.setPair(to, at ? 1 : 0, at || HEAD);
+function memoryFunctions(memory, heap) {
+  const setResult = (result, address) => memory.setPair(result, address ? 1 : 0, address || HEADER_BYTES);
   return {
-    rattle_alloc: (to, size) => answer(to, heap().take(Number(size))),
-    rattle_realloc: (to, at, kept, size) => answer(to, heap().resize(at, Number(kept), Number(size))),
-    rattle_dealloc: at => heap().give(at),
-    malloc: size => heap().take(Number(size)),
-    free: at => { if (at) heap().give(at); },
+    rattle_alloc: (result, size) => setResult(result, heap().allocate(Number(size))),
+    rattle_realloc: (result, address, used, size) => setResult(result, heap().resize(address, Number(used), Number(size))),
+    rattle_dealloc: address => heap().free(address),
+    malloc: size => heap().allocate(Number(size)),
+    free: address => { if (address) heap().free(address); },
   };
 }
 
-function ofArguments(memory, words) {
-  const texts = ["trlab", ...words].map(it => new TextEncoder().encode(it));
+const NO_ARGUMENT = -1n, TOO_LONG = -2n;
+function argumentFunctions(memory, words) {
+  const texts = ["trlab", ...words].map(word => new TextEncoder().encode(word));
   return {
-    /** Copy an argument, and return its length, or -1 if there is none, or -2 if it is too long. */
-    rattle_arg(number, at, room) {
+    /** Copy an argument, and return its length, or that there is none, or that it is too long. */
+    rattle_arg(number, address, room) {
       const text = texts[Number(number)];
-      if (!text) return -1n;
-      if (text.length > Number(room)) return -2n;
-      memory.bytes(at, text.length).set(text);
+      if (!text) return NO_ARGUMENT;
+      if (text.length > Number(room)) return TOO_LONG;
+      memory.bytes(address, text.length).set(text);
       return BigInt(text.length);
     },
   };
@@ -113,47 +119,53 @@ function ofArguments(memory, words) {
 
 /** A call that reads from bytes as from a file. */
 function readerOf(bytes) {
-  let at = 0;
+  let position = 0;
   return buffer => {
-    const piece = bytes.subarray(at, at + buffer.length);
+    const piece = bytes.subarray(position, position + buffer.length);
     buffer.set(piece);
-    at += piece.length;
+    position += piece.length;
     return piece.length;
   };
 }
 
+const FAILED = -1n;
 /** Standard input, output and error. */
-function ofStreams(memory, { input, put, isTerminal }) {
-  const fill = typeof input === "function" ? input : readerOf(input);
-  let last = 0;
-  const fail = (number, result) => (last = number, result);
-  const reported = call => {
+function streamFunctions(memory, { input, put, isTerminal }) {
+  const read = typeof input === "function" ? input : readerOf(input);
+  let lastError = 0;
+  const fail = (error, result) => {
+    lastError = error;
+    return result;
+  };
+  const withErrors = call => {
     try {
       return call();
-    } catch (fault) {
-      if (fault instanceof StreamError) return fail(fault.number, -1n);
-      throw fault;
+    } catch (error) {
+      if (error instanceof StreamError) return fail(error.number, FAILED);
+      throw error;
     }
   };
   return {
-    read: (stream, at, room) => stream === INPUT ? reported(() => BigInt(fill(memory.bytes(at, room)))) : fail(NOT_OPEN, -1n),
-    write(stream, at, length) {
-      if (stream !== OUTPUT && stream !== ERROR) return fail(NOT_OPEN, -1n);
-      return reported(() => {
-        const taken = put(memory.bytes(at, length).slice(), stream === ERROR);
-        return taken instanceof Promise ? taken.then(() => length) : length;
+    read: (stream, address, room) => stream === INPUT ? withErrors(() => BigInt(read(memory.bytes(address, room)))) : fail(NOT_OPEN, FAILED),
+    write(stream, address, length) {
+      if (stream !== OUTPUT && stream !== ERROR) return fail(NOT_OPEN, FAILED);
+      return withErrors(() => {
+        const written = put(memory.bytes(address, length).slice(), stream === ERROR);
+        return written instanceof Promise ? written.then(() => length) : length;
       });
     },
     isatty: stream => isTerminal(stream) ? 1 : 0,
     open: () => fail(NO_SUCH_FILE, -1),
     close: () => 0,
-    rattle_errno: () => last,
-    rattle_set_errno: number => { last = number; },
+    rattle_errno: () => lastError,
+    rattle_set_errno: number => { lastError = number; },
   };
 }
 
+// The numbers of a system call and of its operation.
+const FUTEX = 202n, WAKE = 1n, OPERATION_BITS = 127n;
 /** Threads: none can be made, and the program continues without. So nobody waits, and there is nobody to wake. */
-const OF_THREADS = {
+const THREAD_FUNCTIONS = {
   pthread_create: () => TRY_AGAIN,
   pthread_attr_init: () => 0,
   pthread_attr_setguardsize: () => 0,
@@ -164,19 +176,18 @@ const OF_THREADS = {
   sched_getaffinity: () => -1,
   sysconf: () => 1n,
   syscall(number, _, operation) {
-    if (number !== FUTEX || (operation & 127n) !== WAKE) throw new Error(`the program called syscall ${number} ${operation}`);
+    if (number !== FUTEX || (operation & OPERATION_BITS) !== WAKE) throw new Error(`the program called syscall ${number} ${operation}`);
     return 0n;
   },
 };
-const FUTEX = 202n, WAKE = 1n;
 
-const OF_THE_END = {
+/** The exit status of a shell's child that aborts. */
+const ABORTED = 134;
+const EXIT_FUNCTIONS = {
   __sysv_signal: () => 0n,
   abort() { throw new Exit(ABORTED); },
   _exit(status) { throw new Exit(status); },
 };
-/** The exit status of a shell's child that aborts. */
-const ABORTED = 134;
 
 /** The host of one run of the program. `words` are the arguments. `input` is the bytes of standard input, or a call that puts bytes
  * into a buffer and returns how many, 0 at the end. `put(bytes, isError)` takes the output of the program.
@@ -186,8 +197,8 @@ export function hostOf({ words, input, put, isTerminal = () => false }) {
   const memory = new Memory();
   let heap;
   const known = {
-    ...ofMemory(memory, () => heap), ...ofArguments(memory, words), ...ofStreams(memory, { input, put, isTerminal }), ...OF_THREADS,
-    ...OF_THE_END,
+    ...memoryFunctions(memory, () => heap), ...argumentFunctions(memory, words), ...streamFunctions(memory, { input, put, isTerminal }),
+    ...THREAD_FUNCTIONS, ...EXIT_FUNCTIONS,
   };
   const unknown = name => () => {
     throw new Error(`the program called ${name}`);
@@ -199,7 +210,7 @@ export function hostOf({ words, input, put, isTerminal = () => false }) {
       env: Object.fromEntries(WebAssembly.Module.imports(module).map(({ name }) => [name, known[name] ?? unknown(name)])),
     }),
     /** The `main` of an instance, as a call that returns the exit status or throws `Exit`. `wrap` may change the function first. */
-    start({ exports }, wrap = it => it) {
+    start({ exports }, wrap = main => main) {
       memory.attach(exports.memory);
       heap = new Heap(memory, exports.__heap_base.value);
       const main = wrap(exports.main);

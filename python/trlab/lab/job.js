@@ -1,25 +1,31 @@
-// The page's job.
+// The page's job: the first one, and the cells of its roads. Small functions for numbers and calls are here too.
 
-export const EMPTY = 46; // the byte `.`
-/** A car's speed from its character. */
-export const speedOf = sign => sign < 58 ? sign - 48 : sign - 87;
-export const clamp = (x, least, most) => Math.min(most, Math.max(least, x));
+/** The byte of an empty cell. */
+export const EMPTY = ".".charCodeAt(0);
+/** The byte of a stopped car. */
+export const STOPPED = "0".charCodeAt(0);
+const NINE = "9".charCodeAt(0), LETTER_A = "a".charCodeAt(0);
+/** A car's speed from its byte: 0 to 9, and then a to z. */
+export const speedOf = sign => sign <= NINE ? sign - STOPPED : sign - LETTER_A + 10;
+
+export const clamp = (number, minimum, maximum) => Math.min(maximum, Math.max(minimum, number));
+/** The whole numbers from 0 up to `count`, without it. */
 export const upTo = count => Array.from({ length: count }, (_, k) => k);
 /** By the byte of a cell, its number of cars and their speed: sums of these need no branches, so that they are fast. */
 export const CARS = Uint8Array.from({ length: 256 }, (_, sign) => sign === EMPTY ? 0 : 1);
 export const SPEEDS = Uint8Array.from({ length: 256 }, (_, sign) => sign === EMPTY ? 0 : speedOf(sign));
 
-/** Call when no call has come for some milliseconds. */
-export function soon(wait, call) {
+/** A function that calls when it has not been called for some milliseconds. */
+export function debounce(milliseconds, call) {
   let timer;
   return () => {
     clearTimeout(timer);
-    timer = setTimeout(call, wait);
+    timer = setTimeout(call, milliseconds);
   };
 }
 
-/** `rules` have the step `at` which they take over, and `road` has the lanes if `start` is "file". */
-export const FIRST = {
+/** The job with which the page begins. `rules` have the step `at` which they take over, and `road` has the lanes if `start` is "file". */
+export const FIRST_JOB = {
   key: "1", limit: 5, lanes: 1, length: 1000, cars: 150, density: 0.15, start: "random", road: null, steps: 5000,
   rules: [{ at: 0, model: "nasch", p: 0.25, q: 0.5, motion: "", change: "" }],
 };

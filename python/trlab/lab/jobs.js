@@ -1,6 +1,6 @@
 // Job files and sweep files from the controls of the page. The same controls give the same files as `Job` and `Sweep` in Python.
 
-import { MAX_CELLS, MAX_POINTS, MAX_SPEED, MAX_STEPS, need, partsOf, rounded, shown, whole } from "./checks.js";
+import { MAX_CELLS, MAX_POINTS, MAX_SPEED, MAX_STEPS, checkedInteger, checkedParts, ensure, quoted, roundHalfEven } from "./checks.js";
 import { randomCells } from "./random.js";
 import { upTo } from "./job.js";
 
@@ -8,23 +8,24 @@ const SPEEDS = "0123456789abcdefghijklmnopqrstuvwxyz";
 /** The densities of a sweep, closer to each other near the maximum of the flow. */
 const DENSITIES = upTo(31).slice(1).map(k => k <= 16 ? k / 50 : 0.32 + (k - 16) * 0.045);
 
-const textOf = lines => lines.map(line => `${line}\n`).join("");
+const joinLines = lines => lines.map(line => `${line}\n`).join("");
 
 /** The job file: `rules` in their order, each with the step `at` which it takes over, and a road by its `start`. Random cells are
  * drawn with the `seed`, or else with the key. */
 export function jobFile(job) {
-  const key = keyOf(job.key), seed = keyOf(job.seed ?? job.key), limit = whole("limit", job.limit, 1, MAX_SPEED), steps = whole("steps", job.steps, 0, MAX_STEPS);
-  const lanes = lanesOf(job, seed, limit).map(lane => `lane ${lane}`), [first, ...later] = job.rules;
-  whole("the first step of the first rule", first.at, 0, 0);
-  return textOf(["road 1", keyLine(key), `limit ${limit}`, ...lanes, ...ruleLines(first, job.lanes), `steps ${steps}`,
+  const key = parseKey(job.key), seed = parseKey(job.seed ?? job.key);
+  const limit = checkedInteger("limit", job.limit, 1, MAX_SPEED), steps = checkedInteger("steps", job.steps, 0, MAX_STEPS);
+  const lanes = roadLanes(job, seed, limit).map(lane => `lane ${lane}`), [first, ...later] = job.rules;
+  checkedInteger("the first step of the first rule", first.at, 0, 0);
+  return joinLines(["road 1", keyLine(key), `limit ${limit}`, ...lanes, ...ruleLines(first, job.lanes), `steps ${steps}`,
     ...inOrder(later, steps).flatMap(rule => atLines(rule, job.lanes))]);
 }
 function inOrder(rules, steps) {
   for (const { at } of rules) {
-    whole("the first step of a rule", at, 0, MAX_STEPS);
-    need(at < steps, () => `a step of \`at\` must be below \`steps\`, which is ${steps}, not ${at}`);
+    checkedInteger("the first step of a rule", at, 0, MAX_STEPS);
+    ensure(at < steps, () => `a step of \`at\` must be below \`steps\`, which is ${steps}, not ${at}`);
   }
-  need(new Set(rules.map(rule => rule.at)).size === rules.length, () => "two rules take over at the same step");
+  ensure(new Set(rules.map(rule => rule.at)).size === rules.length, () => "two rules take over at the same step");
   return rules.toSorted((one, other) => one.at - other.at);
 }
 function atLines(rule, lanes) {
@@ -35,15 +36,15 @@ function atLines(rule, lanes) {
 /** The sweep file of the road for a `rule`, with its `warm` and `measure` steps. On two lanes the numbers of cars are those
  * near the densities that an even initial state halves between the lanes. */
 export function sweepFile({ key, limit, length, lanes, rule, warm, measure }) {
-  whole("limit", limit, 1, MAX_SPEED);
-  const cells = whole("length", length, 1, MAX_CELLS) * whole("lanes", lanes, 1, 2);
-  const steps = whole("warm", warm, 0, MAX_STEPS) + whole("measure", measure, 1, MAX_STEPS);
-  const near = DENSITIES.map(density => rounded(density * cells));
+  checkedInteger("limit", limit, 1, MAX_SPEED);
+  const cells = checkedInteger("length", length, 1, MAX_CELLS) * checkedInteger("lanes", lanes, 1, 2);
+  const steps = checkedInteger("warm", warm, 0, MAX_STEPS) + checkedInteger("measure", measure, 1, MAX_STEPS);
+  const near = DENSITIES.map(density => roundHalfEven(density * cells));
   const counts = lanes === 2 ? near.map(cars => halved(cars, length)) : near;
   const cars = [...new Set(counts)].sort((one, other) => one - other);
-  need(cars.length <= MAX_POINTS && cars.length * steps <= MAX_STEPS, () => `a sweep file has at most ${MAX_POINTS} points and ` +
+  ensure(cars.length <= MAX_POINTS && cars.length * steps <= MAX_STEPS, () => `a sweep file has at most ${MAX_POINTS} points and ` +
     `${MAX_STEPS} steps of all points together, and this sweep has ${cars.length} points of ${steps} steps: choose fewer steps`);
-  return textOf(["sweep 1", keyLine(keyOf(key)), `limit ${limit}`, `length ${length}`, `lanes ${lanes}`,
+  return joinLines(["sweep 1", keyLine(parseKey(key)), `limit ${limit}`, `length ${length}`, `lanes ${lanes}`,
     ...ruleLines(rule, lanes), `warm ${warm}`, `measure ${measure}`, ...cars.map(count => `cars ${count}`)]);
 }
 const commonDivisor = (one, other) => other ? commonDivisor(other, one % other) : one;
@@ -62,41 +63,41 @@ function halved(cars, length) {
 }
 
 /** The key, a BigInt, from its decimal digits, because numbers of JavaScript are too small for it. */
-function keyOf(digits) {
+function parseKey(digits) {
   const isKey = typeof digits === "string" && /^[0-9]{1,78}$/.test(digits);
-  need(isKey, () => `the key must have 1 to 78 decimal digits, not ${shown(digits)}`);
+  ensure(isKey, () => `the key must have 1 to 78 decimal digits, not ${quoted(digits)}`);
   const key = BigInt(digits);
-  need(key < 2n ** 256n, () => `key must be between 0 and 2**256 - 1, not ${shown(key)}`);
+  ensure(key < 2n ** 256n, () => `key must be between 0 and 2**256 - 1, not ${quoted(key)}`);
   return key;
 }
 const keyLine = key => `key ${key.toString(16).padStart(64, "0")}`;
 
-function lanesOf({ start, road, length, lanes, cars }, seed, limit) {
+function roadLanes({ start, road, length, lanes, cars }, seed, limit) {
   if (start === "file") return checkedRoad(road, limit);
-  const cells = whole("length", length, 1, MAX_CELLS) * whole("lanes", lanes, 1, 2);
+  const cells = checkedInteger("length", length, 1, MAX_CELLS) * checkedInteger("lanes", lanes, 1, 2);
   const rows = upTo(lanes).map(() => new Array(length).fill("."));
   // Cells are counted across the lanes: on two lanes cell 0 is on lane 0, and cell 1 next to it on lane 1.
   const sign = SPEEDS[start === "moving" ? limit : 0];
-  for (const cell of cellsOf(start, whole("cars", cars, 0, cells), cells, seed)) {
+  for (const cell of startCells(start, checkedInteger("cars", cars, 0, cells), cells, seed)) {
     rows[cell % lanes][Math.floor(cell / lanes)] = sign;
   }
   return rows.map(row => row.join(""));
 }
-function cellsOf(start, cars, cells, seed) {
-  need(["even", "moving", "random", "jam"].includes(start), () => `the initial state is even, moving, random, jam or file, not ${shown(start)}`);
+function startCells(start, cars, cells, seed) {
+  ensure(["even", "moving", "random", "jam"].includes(start), () => `the initial state is even, moving, random, jam or file, not ${quoted(start)}`);
   if (start === "random") return randomCells(seed, cars, cells);
   return upTo(cars).map(car => start === "jam" ? car : Math.floor(car * cells / cars));
 }
 function checkedRoad(road, limit) {
-  need(road.length >= 1 && road.length <= 2, () => `a road has 1 or 2 lanes, not ${road.length}`);
+  ensure(road.length >= 1 && road.length <= 2, () => `a road has 1 or 2 lanes, not ${road.length}`);
   for (const lane of road) {
     const others = [...new Set(lane)].filter(sign => sign !== "." && !SPEEDS.slice(0, limit + 1).includes(sign)).sort();
-    need(!others.length, () => `a lane has the character ${shown(others[0])}, and the limit is ${limit} cells per step: ` +
+    ensure(!others.length, () => `a lane has the character ${quoted(others[0])}, and the limit is ${limit} cells per step: ` +
       `\`.\` is an empty cell, and 0 to ${SPEEDS[limit]} are cars`);
   }
   const [one, other] = [road[0].length, road.at(-1).length];
-  need(one === other, () => `the lanes have ${one} and ${other} cells, and must have the same number`);
-  whole("the number of cells of a lane", one, 1, MAX_CELLS);
+  ensure(one === other, () => `the lanes have ${one} and ${other} cells, and must have the same number`);
+  checkedInteger("the number of cells of a lane", one, 1, MAX_CELLS);
   return road;
 }
 
@@ -108,18 +109,18 @@ export function ruleLines({ model, p, q, motion, change }, lanes) {
     return ["rule own", ...programLines("motion", motion), ...changes];
   }
   const names = PROBABILITIES.get(model);
-  need(names, () => `the rule is nasch, vdr, rickert or own, not ${shown(model)}`);
-  return [`rule ${model} ${names.map((name, k) => partsOf(name, [p, q][k])).join(" ")}`];
+  ensure(names, () => `the rule is nasch, vdr, rickert or own, not ${quoted(model)}`);
+  return [`rule ${model} ${names.map((name, k) => checkedParts(name, [p, q][k])).join(" ")}`];
 }
 /** The lines of a program in a file. Its first line may be left out, and `end` is not one of them. Empty lines at its start do
  * not count. */
 function programLines(kind, program) {
   const lines = program.replace(/^\n+/, "").replace(/\n$/, "").split("\n"), other = kind === "motion" ? "change" : "motion";
-  need(program.isWellFormed(), () => `the ${kind} program has a character that UTF-8 does not have`);
-  need(program.trim(), () => `the ${kind} program is empty`);
-  need(lines[0] !== other, () => `this is a ${other} program, and a ${kind} program is needed`);
+  ensure(program.isWellFormed(), () => `the ${kind} program has a character that UTF-8 does not have`);
+  ensure(program.trim(), () => `the ${kind} program is empty`);
+  ensure(lines[0] !== other, () => `this is a ${other} program, and a ${kind} program is needed`);
   const isCode = lines[0].startsWith("code ");
-  need(!isCode || lines.slice(1).every(line => !line), () => "a program that is given as `code X` is one line");
-  need(!lines.includes("end"), () => `the ${kind} program has a line \`end\`: leave it out`);
+  ensure(!isCode || lines.slice(1).every(line => !line), () => "a program that is given as `code X` is one line");
+  ensure(!lines.includes("end"), () => `the ${kind} program has a line \`end\`: leave it out`);
   return isCode ? [lines[0]] : [...lines[0] === kind ? [] : [kind], ...lines, "end"];
 }

@@ -2,30 +2,35 @@
 
 import { upTo } from "./job.js";
 
-export const MOST_BYTES = 4194304; // of an input, as in trlab
+/** The maximum size of an input, as in trlab. */
+export const MAX_BYTES = 4194304;
+export const LINK_START = "#job=";
+const FORMAT = "deflate-raw";
 
-const packed = bytes => new Blob([bytes]).stream().pipeThrough(new CompressionStream("deflate-raw"));
+/** The base64 of a link has - and _, and no = at its end. */
+const toLinkBase64 = bytes => btoa(upTo(bytes.length).map(k => String.fromCharCode(bytes[k])).join(""))
+  .replace(/\+/g, "-").replace(/\//g, "_").replace(/=+$/, "");
+const fromLinkBase64 = text => Uint8Array.from(atob(text.replace(/-/g, "+").replace(/_/g, "/")), character => character.charCodeAt(0));
+
 export async function linkOf(text) {
-  const found = new Uint8Array(await new Response(packed(new TextEncoder().encode(text))).arrayBuffer());
-  const bytes = upTo(found.length).map(k => String.fromCharCode(found[k])).join("");
-  return "#job=" + btoa(bytes).replace(/\+/g, "-").replace(/\//g, "_").replace(/=+$/, "");
+  const compressed = new Blob([new TextEncoder().encode(text)]).stream().pipeThrough(new CompressionStream(FORMAT));
+  return LINK_START + toLinkBase64(new Uint8Array(await new Response(compressed).arrayBuffer()));
 }
 /** The text in a link. Raises an error that says so if the link is damaged, or if the text is too long: few bytes can become many. */
 export async function textOfLink(fragment) {
   const parts = [];
   let size = 0;
   try {
-    const bytes = Uint8Array.from(atob(fragment.slice(5).replace(/-/g, "+").replace(/_/g, "/")), it => it.charCodeAt(0));
-    const reader = new Blob([bytes]).stream().pipeThrough(new DecompressionStream("deflate-raw")).getReader();
-    for (let part = await reader.read(); !part.done; part = await reader.read()) {
+    const bytes = fromLinkBase64(fragment.slice(LINK_START.length));
+    const reader = new Blob([bytes]).stream().pipeThrough(new DecompressionStream(FORMAT)).getReader();
+    for (let part = await reader.read(); !part.done && size <= MAX_BYTES; part = await reader.read()) {
       parts.push(part.value);
-      if ((size += part.value.length) <= MOST_BYTES) continue;
-      reader.cancel();
-      break;
+      size += part.value.length;
     }
+    if (size > MAX_BYTES) reader.cancel();
   } catch {
     throw new Error("The job in this address is damaged and cannot be read.");
   }
-  if (size > MOST_BYTES) throw new Error(`The job in this address is too long: at most ${MOST_BYTES} bytes are allowed.`);
+  if (size > MAX_BYTES) throw new Error(`The job in this address is too long: at most ${MAX_BYTES} bytes are allowed.`);
   return new Blob(parts).text();
 }

@@ -25,7 +25,7 @@ const MODELS = {
 
 /** Describe a model below the list from which it is chosen. The place is not marked with `data-model`, because such parts are hidden
  * when another model is chosen. */
-export function tellModel(name, place = document.getElementById("about")) {
+export function describeModel(name, place) {
   if (place.dataset.about === name) return;
   const { words, paper, link } = MODELS[name], anchor = document.createElement("a");
   Object.assign(anchor, { href: link, textContent: paper });

@@ -12,7 +12,7 @@ from collections.abc import Iterator
 from html import escape
 from pathlib import Path
 
-_LEADING = """<!doctype html>
+_REDIRECT = """<!doctype html>
 <html lang="en">
 <meta charset="utf-8">
 <meta name="referrer" content="no-referrer">
@@ -24,13 +24,13 @@ _LEADING = """<!doctype html>
 
 
 @contextlib.contextmanager
-def opened(address: str) -> Iterator[None]:
+def opened_in_browser(address: str) -> Iterator[None]:
     """Open an address in the browser of this user, by way of a file that is removed at the end. If no browser can be opened, a
     message on standard error says so."""
     number, name = tempfile.mkstemp(prefix="trlab-lab-", suffix=".html")  # of mode 600
     try:
         with open(number, "w", encoding="utf-8") as file:
-            file.write(_LEADING.format(address=escape(address)))
+            file.write(_REDIRECT.format(address=escape(address)))
         # Some browsers return only when they are closed.
         threading.Thread(target=_open, args=(Path(name), address), daemon=True).start()
         yield

@@ -99,15 +99,15 @@ const idOf = ({ file, name }) => file ?? name;
 export function listExamples(select, files) {
   const groups = Object.entries(GROUPS).map(([label, all]) => {
     const group = Object.assign(document.createElement("optgroup"), { label });
-    group.append(...all.filter(it => !it.file || it.file in files).map(it => new Option(it.name, idOf(it))));
+    group.append(...all.filter(({ file }) => !file || file in files).map(example => new Option(example.name, idOf(example))));
     return group;
   });
-  const others = Object.keys(files).filter(name => !ALL.some(it => it.file === name));
+  const others = Object.keys(files).filter(name => !ALL.some(({ file }) => file === name));
   select.append(...groups, ...others.map(name => new Option(name, name)));
 }
 /** The example with an id, and its sentence below the choice. */
-export function tellExample(id, place = document.getElementById("story")) {
-  const found = ALL.find(it => idOf(it) === id);
+export function describeExample(id, place) {
+  const found = ALL.find(example => idOf(example) === id);
   place.replaceChildren(found?.words ?? "");
   if (found?.file) place.append(" ", Object.assign(document.createElement("code"), { textContent: found.file }));
   return found;

@@ -1,277 +1,389 @@
 // The player: the clock that shows the snapshots of a run, and the controls that play it. The page and exported files use
 // it: their owner passes runs to the player, and is called for new snapshots.
 
-import { clamp, upTo } from "./job.js";
-import { Film, Run } from "./film.js";
-import { colour } from "./colours.js";
-import { followedWords } from "./following.js";
-import { axesWords, shownAs, speedWords, tellUnits, unitOf } from "./units.js";
-import { RingPixels, RoadPixels } from "./pixels.js";
-import { Rows, bandAt, carNow, drawBands, drawCurves, drawRing, fresh, isMixed, ringAt, rowsOf, smooth } from "./draw.js";
+import { $, setText } from "./dom.js";
+import { EMPTY, clamp, upTo } from "./job.js";
+import { Film } from "./film.js";
+import { Run } from "./runs.js";
+import { speedColour } from "./colours.js";
+import { averageAt, drawCurves } from "./curves.js";
+import { followedCarWords } from "./following.js";
+import { axesWords, formatted, showUnits, speedWords, unitOf } from "./units.js";
+import { RingImage, StraightRoadImage } from "./pixels.js";
+import { clearedCanvas, followedPlace } from "./cars.js";
+import { drawRing, placeOnRing } from "./ring.js";
+import { drawRoad, enlargedPart, placeOnRoad } from "./road.js";
+import { SpacetimeDiagram, hasSharedPixels, spacetimeRows } from "./spacetime.js";
 
-export const $ = id => document.getElementById(id);
-const calm = matchMedia("(prefers-reduced-motion: reduce)").matches;
-const FASTEST = 2000; // steps per second
-const ROUND = [1, 2, 5, 10, 20, 50, 100, 200]; // distances of the numbered steps in the space-time diagram
-const APART = 45; // pixels between their numbers
-const REST = 5000; // After so long a pause, in milliseconds, a run ends; it is run again when needed.
+const prefersReducedMotion = matchMedia("(prefers-reduced-motion: reduce)").matches;
+const MAX_STEPS_PER_SECOND = 2000, SECONDS_OF_SHORT_RUN = 10;
+/** A frame shows at most this much time, and takes at most this much, in milliseconds. */
+const MAX_FRAME_TIME = 100, FRAME_BUDGET = 12;
+/** After so long a pause, in milliseconds, a run ends; it is run again when needed. */
+export const IDLE_MILLISECONDS = 5000;
+// The numbered steps in the space-time diagram: possible distances in steps, and the least distance in pixels.
+const MARK_DISTANCES = [1, 2, 5, 10, 20, 50, 100, 200], MIN_MARK_PIXELS = 45;
+const MAX_LEGEND_SPEED = 9, TABLE_ROWS = 10;
+/** A click in the space-time diagram means a car within this many pixels. */
+const SPACETIME_REACH = 8;
+/** An arrow key moves the enlarged part by this share of it. */
+const LENS_SHARE = 0.1;
 
 export class Player {
-  /** `hear` has shot(shot), moved(), over(), rule(step) and keys, and each may be missing. `fail` shows a message. */
-  constructor(hear, fail) {
-    Object.assign(this, { hear, fail, film: null, run: null, step: -1, car: null, lens: 0, phase: 1, drawn: -1 });
-    Object.assign(this, { playing: !calm, moving: false, isDue: false, stale: true, rows: new Rows(), before: 0, paused: 0 });
-    this.pixels = { ring: new RingPixels(), road: new RoadPixels() };
-    this.listen();
+  /** `listeners` has onSnapshot(snapshot), onStep(time), onEnd(), ruleAt(step) and keys, and each may be missing. `onError` shows a
+   * message. */
+  constructor(listeners, onError) {
+    this.listeners = listeners;
+    this.onError = onError;
+    this.film = null;
+    this.run = null;
+    this.step = -1;
+    this.car = null;
+    this.lens = 0;
+    this.phase = 1;
+    this.drawnStep = -1;
+    this.playing = !prefersReducedMotion;
+    this.moving = false;
+    this.isStepDue = false;
+    this.stale = true;
+    this.lastFrame = 0;
+    this.pausedAt = 0;
+    this.spacetime = new SpacetimeDiagram();
+    this.images = { ring: new RingImage(), road: new StraightRoadImage() };
+    this.addListeners();
     this.setPlaying(this.playing);
-    this.setRate();
-    requestAnimationFrame(now => this.tick(now));
+    this.updateRate();
+    requestAnimationFrame(now => this.onFrame(now));
   }
-  /** Play a run from the start, and follow a car of its first road. `open(from, signal)` gives the response whose snapshots begin
+
+  // Runs
+
+  /** Play a run from the start, and follow a car of its first road. `request(from, signal)` gives the response whose snapshots begin
    * at the step `from`. */
-  load(open, job, car = null) {
+  load(request, job, car = null) {
     this.film = new Film(job);
-    Object.assign(this, { step: -1, car, phase: 1, moving: this.playing, drawn: -1, lens: job.length / 2 });
-    this.begin(open);
-    this.legend(job.limit);
+    Object.assign(this, { step: -1, car, phase: 1, moving: this.playing, drawnStep: -1, lens: job.length / 2 });
+    this.startRun(request);
+    this.updateLegend(job.limit);
   }
   /** Go on from a step with another run, which is the same up to this step. */
-  resume(open, steps, step) {
-    if (this.step > step) this.show(step);
+  continueWith(request, steps, step) {
+    if (this.step > step) this.showStep(step);
     this.film.steps = steps;
     this.film.cutAfter(step);
-    this.begin(open);
+    this.startRun(request);
   }
-  begin(open) {
-    const from = this.film.shots.length ? this.film.last + 1 : 0;
-    this.open = open;
-    this.run?.stop.abort();
-    this.run = new Run(signal => open(from, signal), this.film, from, this.fail);
-    this.paused = performance.now();
+  startRun(request) {
+    const from = this.film.snapshots.length ? this.film.last + 1 : 0;
+    this.request = request;
+    this.run?.abort();
+    this.run = new Run(signal => request(from, signal), this.film, from, this.onError);
+    this.pausedAt = performance.now();
   }
-  get over() { return this.step === this.film.steps; }
+  endRun() {
+    this.run.abort();
+    this.run = null;
+  }
+  get isOver() { return this.step === this.film.steps; }
+  get share() { return prefersReducedMotion ? 1 : this.phase; }
   get view() {
-    return { film: this.film, step: this.step, share: calm ? 1 : this.phase, lens: this.lens, car: this.car, pixels: this.pixels };
+    return { film: this.film, step: this.step, share: this.share, lens: this.lens, car: this.car, images: this.images };
   }
   get isShown() { return this.film !== null && this.film.has(this.step); }
   /** All cars of the step that is shown, or null before the first one. */
-  get scene() { return this.isShown ? this.film.whole(this.step) : null; }
+  get scene() { return this.isShown ? this.film.wholeScene(this.step) : null; }
+  /** The rows of the space-time diagram as it is shown. */
+  get rows() { return spacetimeRows(this.view, $("spacetime").clientWidth, $("spacetime").clientHeight); }
 
-  /** Show the next snapshot, if there is one. */
-  next() {
+  // Frames
+
+  /** Whether the next snapshot was there, and is shown now. */
+  showNext() {
     const { film } = this;
     if (!film.has(this.step + 1)) {
-      if (!this.run && !this.over) this.begin(this.open);
-      const shot = this.run?.take();
-      if (!shot) return false;
-      const kept = film.push(shot);
-      this.hear.shot?.(kept);
+      if (!this.run && !this.isOver) this.startRun(this.request);
+      const snapshot = this.run?.take();
+      if (!snapshot) return false;
+      const kept = film.push(snapshot);
+      this.listeners.onSnapshot?.(kept);
     }
-    return this.show(this.step + 1);
+    this.showStep(this.step + 1);
+    return true;
   }
-  show(step) {
+  showStep(step) {
     this.step = step;
     if (this.car) this.car = this.film.follow(this.car, step);
-    return this.stale = true;
+    this.stale = true;
   }
-  tick(now) {
-    requestAnimationFrame(later => this.tick(later));
-    const passed = Math.min(100, now - this.before);
-    this.before = now;
-    if (!this.film || (this.step < 0 && !this.next())) return;
-    if (!this.playing && this.run && now - this.paused > REST) this.rest();
-    if (this.isDue && this.next()) Object.assign(this, { isDue: false, phase: 0, moving: true });
-    if (this.moving) this.move(passed);
+  onFrame(now) {
+    requestAnimationFrame(later => this.onFrame(later));
+    const passed = Math.min(MAX_FRAME_TIME, now - this.lastFrame);
+    this.lastFrame = now;
+    if (!this.film || (this.step < 0 && !this.showNext())) return;
+    if (!this.playing && this.run && now - this.pausedAt > IDLE_MILLISECONDS) this.endRun();
+    if (this.isStepDue && this.showNext()) Object.assign(this, { isStepDue: false, phase: 0, moving: true });
+    if (this.moving) this.advance(passed);
     if (this.stale) this.draw(now);
   }
-  move(passed) {
-    const end = performance.now() + 12;
+  /** Let the cars drive for some milliseconds. */
+  advance(passed) {
+    const end = performance.now() + FRAME_BUDGET;
     this.phase += passed / 1000 * this.rate;
-    while (this.phase >= 1 && this.playing && performance.now() < end && this.next()) this.phase -= 1;
+    while (this.phase >= 1 && this.playing && performance.now() < end && this.showNext()) this.phase -= 1;
     if (this.phase >= 1) {
       this.phase = 1;
       this.moving = this.playing;
-      if (this.over) {
+      if (this.isOver) {
         if (this.playing) this.setPlaying(false);
-        this.hear.over?.();
+        this.listeners.onEnd?.();
       }
     }
     this.stale = true;
   }
-  rest() {
-    this.run.stop.abort();
-    this.run = null;
-  }
   draw(now) {
-    const { view } = this, ring = fresh($("ring")), band = fresh($("band"));
-    if (this.car) view.lens = this.lens = carNow(view)[0];
+    const { view } = this, ring = clearedCanvas($("ring")), road = clearedCanvas($("band"));
+    if (this.car) view.lens = this.lens = followedPlace(view)[0];
     drawRing(ring.pen, ring.width, view);
-    drawBands(band.pen, band.width, band.height, view);
-    if (this.drawn !== this.step) {
-      const { pen, width, height } = fresh($("spacetime")), curves = fresh($("curves"));
-      this.rows.draw(pen, width, height, view);
-      const rows = rowsOf(view, width, height);
-      drawCurves(curves.pen, curves.width, curves.height, view, rows);
-      this.tell(rows.top);
-      this.markSteps(rows);
-      this.drawn = this.step;
-      this.hear.moved?.(now);
-    }
+    drawRoad(road.pen, road.width, road.height, view);
+    if (this.drawnStep !== this.step) this.drawStep(view, now);
+    this.updateLens();
     this.stale = false;
   }
-  redraw() { Object.assign(this, { drawn: -1, stale: true }); }
+  /** Draw all that changes only from step to step. */
+  drawStep(view, now) {
+    const { pen, width, height } = clearedCanvas($("spacetime")), curves = clearedCanvas($("curves")), rows = spacetimeRows(view, width, height);
+    this.spacetime.draw(pen, width, height, view);
+    drawCurves(curves.pen, curves.width, curves.height, view, rows);
+    this.updateTexts(rows.top);
+    this.updateStepMarks(rows);
+    this.drawnStep = this.step;
+    this.listeners.onStep?.(now);
+  }
+  redraw() { Object.assign(this, { drawnStep: -1, stale: true }); }
+
+  // Texts
 
   /** Write the numbers of the step that is shown, and the axes of the diagram, whose first row is that of the step `top`. */
-  tell(top) {
-    const { film, step, car } = this, last = name => smooth(film, name, step, step)[0];
-    const [flow, speed, stopped] = [shownAs("flow", last("flow")), shownAs("speed", last("speed")), `${Math.round(100 * last("stopped"))} %`];
-    const followed = car && followedWords(film, car, this.hear.rule?.(car.step - 1));
-    const words = {
-      step, steps: `of ${film.steps} steps`, flow, speed, stopped, dense: shownAs("density", film.of(step).cars / (film.length * film.lanes)),
-      kept: `The page keeps the last ${film.most.toLocaleString("en")} snapshots: back to step ${film.first.toLocaleString("en")}.`,
+  updateTexts(top) {
+    const { film, step, car } = this, average = kind => averageAt(film, kind, step);
+    const flow = formatted("flow", average("flow")), speed = formatted("speed", average("speed")), stopped = `${Math.round(100 * average("stopped"))} %`;
+    const followed = car && followedCarWords(film, car, this.listeners.ruleAt?.(car.step - 1));
+    const texts = {
+      step, steps: `of ${film.steps} steps`, flow, speed, stopped, dense: formatted("density", film.at(step).cars / (film.length * film.lanes)),
+      kept: `The page keeps the last ${film.maxKept.toLocaleString("en")} snapshots: back to step ${film.first.toLocaleString("en")}.`,
       axes: axesWords(film.length, top, step), car: followed ?? (this.hint ??= $("car").textContent),
-      mixed: isMixed(film, $("spacetime").clientWidth) ? "Colours of pixels are mean speeds, paler where there are fewer cars." : "",
+      mixed: hasSharedPixels(film, $("spacetime").clientWidth) ? "Colours of pixels are mean speeds, paler where there are fewer cars." : "",
     };
-    for (const id in words) if ($(id).textContent !== String(words[id])) $(id).textContent = words[id];
+    for (const id in texts) setText($(id), texts[id]);
     $("follow").setAttribute("aria-pressed", car !== null);
     if ($("brake")) $("brake").disabled = car === null;
-    if (!this.playing) $("silent").textContent = `Step ${step}: flow ${flow} ${unitOf("flow").words}, mean speed ${speed} ${unitOf("speed").words}, stopped ${stopped}. ${followed ?? ""}`;
-    if ($("numbers")?.open) this.fillNumbers();
+    if (!this.playing) {
+      setText($("silent"), `Step ${step}: flow ${flow} ${unitOf("flow").words}, mean speed ${speed} ${unitOf("speed").words}, ` +
+        `stopped ${stopped}. ${followed ?? ""}`);
+    }
+    if ($("numbers")?.open) this.updateTable();
   }
   /** Write the numbers of some steps beside their rows in the space-time diagram, at round distances. */
-  markSteps({ high, top }) {
-    const apart = ROUND.find(steps => steps * high >= APART) ?? ROUND.at(-1), first = Math.ceil(top / apart) * apart, place = $("stepmarks");
-    const steps = upTo(Math.max(0, Math.floor((this.step - first) / apart) + 1)).map(k => first + k * apart);
-    while (place.childElementCount < steps.length) place.append(document.createElement("span"));
-    while (place.childElementCount > steps.length) place.lastChild.remove();
-    steps.forEach((step, k) => {
-      place.children[k].textContent = step;
-      place.children[k].style.top = `${(step - top + 0.5) * high}px`;
+  updateStepMarks({ rowHeight, top }) {
+    const distance = MARK_DISTANCES.find(steps => steps * rowHeight >= MIN_MARK_PIXELS) ?? MARK_DISTANCES.at(-1);
+    const first = Math.ceil(top / distance) * distance, count = Math.max(0, Math.floor((this.step - first) / distance) + 1);
+    const parent = $("stepmarks");
+    while (parent.childElementCount < count) parent.append(document.createElement("span"));
+    while (parent.childElementCount > count) parent.lastChild.remove();
+    [...parent.children].forEach((mark, k) => {
+      const step = first + k * distance;
+      mark.textContent = step;
+      mark.style.top = `${(step - top + 0.5) * rowHeight}px`;
     });
   }
   /** The last ten steps as a table. */
-  fillNumbers() {
-    const { film, step } = this, shots = upTo(Math.min(10, step - film.first + 1)).map(k => film.of(step - k));
-    const cells = ({ step, flow, speed, stopped }) => [step, shownAs("flow", flow, 1), shownAs("speed", speed, 1), stopped.toFixed(3)];
-    $("rows").innerHTML = shots.map(it => `<tr><td>${cells(it).join("</td><td>")}</td></tr>`).join("");
+  updateTable() {
+    const { film, step } = this, snapshots = upTo(Math.min(TABLE_ROWS, step - film.first + 1)).map(k => film.at(step - k));
+    const cells = ({ step, flow, speed, stopped }) => [step, formatted("flow", flow, 1), formatted("speed", speed, 1), stopped.toFixed(3)];
+    $("rows").innerHTML = snapshots.map(snapshot => `<tr><td>${cells(snapshot).join("</td><td>")}</td></tr>`).join("");
   }
-  legend(limit) {
-    const most = Math.min(limit, 9), bars = upTo(most + 1).map(() => document.createElement("i"));
-    bars.forEach((bar, k) => bar.style.background = `rgb(${colour(k / most)})`);
-    $("legend").replaceChildren("stopped", ...bars, speedWords(limit));
+  updateLegend(limit) {
+    const speeds = Math.min(limit, MAX_LEGEND_SPEED), boxes = upTo(speeds + 1).map(() => document.createElement("i"));
+    boxes.forEach((box, k) => box.style.background = `rgb(${speedColour(k / speeds)})`);
+    $("legend").replaceChildren("stopped", ...boxes, speedWords(limit));
     $("legend").setAttribute("aria-label", `Colours: red for stopped cars, blue for ${speedWords(limit)}`);
-    tellUnits(limit);
+    showUnits(limit);
   }
 
-  // Controls
+  // Playback
 
-  setPlaying(now) {
-    if (now && this.film && this.over) this.restart();
-    this.playing = now;
-    this.isDue = false;
-    this.moving ||= now;
-    this.paused = performance.now();
-    $("play").textContent = now ? "Pause" : "Play";
-    if (!now) this.redraw();
+  setPlaying(playing) {
+    if (playing && this.film && this.isOver) this.restart();
+    Object.assign(this, { playing, isStepDue: false, moving: this.moving || playing, pausedAt: performance.now() });
+    $("play").textContent = playing ? "Pause" : "Play";
+    if (!playing) this.redraw();
   }
-  setRate() {
-    this.rate = Math.round(FASTEST ** ($("rate").value / 100));
+  updateRate() {
+    this.rate = Math.round(MAX_STEPS_PER_SECOND ** ($("rate").value / 100));
     $("rateout").textContent = this.rate;
     $("rate").setAttribute("aria-valuetext", `${this.rate} steps per second`);
   }
   /** Choose the steps per second for a run: a short one takes ten seconds, so that there is time to watch it. */
   setPace(steps) {
-    const slider = $("rate"), rate = Math.max(1, steps / 10);
-    slider.value = Math.min(slider.defaultValue, 100 * Math.log(rate) / Math.log(FASTEST));
-    this.setRate();
+    const slider = $("rate"), rate = Math.max(1, steps / SECONDS_OF_SHORT_RUN);
+    slider.value = Math.min(slider.defaultValue, 100 * Math.log(rate) / Math.log(MAX_STEPS_PER_SECOND));
+    this.updateRate();
   }
-  one() {
+  stepForward() {
     this.setPlaying(false);
-    this.isDue = !this.over; // the run may have ended in a long pause, and its snapshots come again
+    this.isStepDue = !this.isOver; // the run may have ended in a long pause, and its snapshots come again
   }
-  back() {
+  stepBack() {
     this.setPlaying(false);
     Object.assign(this, { phase: 1, moving: false });
-    if (this.film.has(this.step - 1)) this.show(this.step - 1);
+    if (this.film.has(this.step - 1)) this.showStep(this.step - 1);
   }
   restart() {
     Object.assign(this, { phase: 1, moving: this.playing });
-    if (this.film.has(0)) return void this.show(0);
-    this.film.shots.length = 0;
-    Object.assign(this, { step: -1, car: null, drawn: -1 });
-    this.begin(this.open);
+    if (this.film.has(0)) {
+      this.showStep(0);
+      return;
+    }
+    this.film.snapshots.length = 0;
+    Object.assign(this, { step: -1, car: null, drawnStep: -1 });
+    this.startRun(this.request);
   }
+
+  // The followed car
+
   /** Follow the car nearest to a place, or no car if none is within `reach` cells. */
-  choose(place, reach = place?.reach) {
+  followNearest(place, reach = place?.reach ?? -1) {
     if (place && !this.isShown) return null;
-    const { scene, film } = this, share = calm ? 1 : this.phase;
-    let best = null, least = reach ?? -1;
-    for (let v = 0; place && v <= film.limit; v++) {
-      for (let k = scene.starts[v]; k < scene.starts[v + 1]; k++) {
-        const away = Math.abs(scene.place[k] + 0.5 - v * (1 - share) - place.cell + film.length) % film.length;
-        const far = Math.min(away, film.length - away) + (scene.lane[k] === place.lane ? 0 : 2 * film.length);
-        if (far <= least) [best, least] = [{ step: this.step, lane: scene.lane[k], cell: scene.place[k] }, far];
+    this.car = place ? this.nearestCar(place, reach) : null;
+    this.redraw();
+    return this.car;
+  }
+  /** The car that is drawn nearest to a place. Cars of another lane are farther than all of this lane. */
+  nearestCar({ cell, lane }, reach) {
+    const { scene, film: { length, limit }, share } = this;
+    let nearest = null, minimum = reach;
+    for (let speed = 0; speed <= limit; speed++) {
+      for (let k = scene.starts[speed]; k < scene.starts[speed + 1]; k++) {
+        const around = Math.abs(scene.cell[k] + 0.5 - speed * (1 - share) - cell + length) % length;
+        const distance = Math.min(around, length - around) + (scene.lane[k] === lane ? 0 : 2 * length);
+        if (distance <= minimum) [nearest, minimum] = [{ step: this.step, lane: scene.lane[k], cell: scene.cell[k] }, distance];
       }
     }
-    this.car = best;
-    this.redraw();
-    return best;
+    return nearest;
   }
+  stopFollowing() { this.followNearest(null); }
   /** Follow the next car ahead (1) or behind (-1). */
-  neighbour(way) {
-    if (!this.car) return this.choose({ cell: this.lens, lane: 0 }, 3 * this.film.length);
-    const { length } = this.film, { cells } = this.film.of(this.step), { lane, cell, step } = this.car;
-    let x = cell;
-    do x = (x + way + length) % length; while (cells[lane * length + x] === 46);
-    this.car = { step, lane, cell: x };
+  followNeighbour(direction) {
+    if (!this.car) {
+      this.followNearest({ cell: this.lens, lane: 0 }, 3 * this.film.length);
+      return;
+    }
+    const { length } = this.film, { cells } = this.film.at(this.step), { lane, cell, step } = this.car;
+    let next = cell;
+    do next = (next + direction + length) % length; while (cells[lane * length + next] === EMPTY);
+    this.car = { step, lane, cell: next };
     this.redraw();
   }
-  listen() {
-    const click = { play: () => this.setPlaying(!this.playing), back: () => this.back(), one: () => this.one(), again: () => this.restart() };
-    for (const id in click) $(id).onclick = click[id];
-    $("follow").onclick = () => this.car || !this.isShown ? this.choose(null) : this.neighbour(1);
-    $("rate").oninput = () => this.setRate();
-    const point = (id, event) => {
-      const box = $(id).getBoundingClientRect();
-      return [event.clientX - box.left, event.clientY - box.top, box.width, box.height];
-    };
-    $("ring").onclick = event => {
-      if (!this.isShown) return;
-      const [x, y, width] = point("ring", event);
-      this.choose(ringAt(this.view, width, x, y));
-    };
-    $("band").onpointerdown = event => {
-      if (!this.isShown) return;
-      const [x, y, width, height] = point("band", event), place = bandAt(this.view, width, height, x, y);
-      if (this.choose(place) || !place.isWhole) return;
-      this.lens = place.cell;
-      $("band").setPointerCapture(event.pointerId);
-    };
-    $("band").onpointermove = event => {
-      if (!$("band").hasPointerCapture?.(event.pointerId)) return;
-      const [x, , width] = point("band", event);
-      this.lens = clamp(x / width, 0, 1) * this.film.length;
-      this.stale = true;
-    };
-    $("spacetime").onclick = event => {
-      if (!this.isShown) return;
-      const [x, y, width, height] = point("spacetime", event), { high, top } = rowsOf(this.view, width, height), { film } = this;
-      const step = top + Math.floor(y / high), lane = Math.floor(y % high / high * film.lanes);
-      this.car = film.has(step) && step <= this.step ? film.follow(film.near(step, lane, x / width * film.length, 8 * film.length / width), this.step) : null;
-      this.redraw();
-    };
-    addEventListener("resize", () => this.redraw());
-    addEventListener("keydown", event => this.key(event));
+
+  // The enlarged part of the straight road
+
+  /** The keyboard can move the enlarged part, and a screen reader can read it, as a slider along the road. While cars drive, its words
+   * stay as they are: otherwise a screen reader would never be silent. */
+  updateLens() {
+    const road = $("band"), part = enlargedPart(this.view, road.clientWidth), { film, step, lens } = this;
+    road.tabIndex = part ? 0 : -1;
+    road.setAttribute("role", part ? "slider" : "img");
+    const names = ["aria-valuemin", "aria-valuemax", "aria-valuenow", "aria-valuetext"];
+    if (!part) names.forEach(name => road.removeAttribute(name));
+    else if (!this.playing || !road.hasAttribute("aria-valuetext")) {
+      const values = [0, film.length - 1, Math.floor(lens) % film.length, enlargedWords(film, step, part)];
+      names.forEach((name, k) => road.setAttribute(name, values[k]));
+    }
   }
-  key(event) {
-    if (event.target !== document.body || event.ctrlKey || event.metaKey || event.altKey) return;
-    const what = {
-      " ": () => this.setPlaying(!this.playing), ArrowRight: () => this.one(), ArrowLeft: () => this.back(), Home: () => this.restart(),
-      ArrowUp: () => this.neighbour(1), ArrowDown: () => this.neighbour(-1), Escape: () => this.choose(null),
-      ...this.hear.keys,
+  /** Move the enlarged part along the ring. It no longer follows a car. */
+  moveLens(lens) {
+    const { length } = this.film;
+    if (this.car) this.stopFollowing();
+    this.lens = (lens % length + length) % length;
+    this.stale = true;
+  }
+  onLensKey(event) {
+    const part = this.isShown && enlargedPart(this.view, $("band").clientWidth);
+    if (!part || event.ctrlKey || event.metaKey || event.altKey) return;
+    const some = Math.max(1, Math.round(part.cells * LENS_SHARE)), { lens, film: { length } } = this;
+    const target = {
+      ArrowRight: lens + some, ArrowUp: lens + some, ArrowLeft: lens - some, ArrowDown: lens - some,
+      PageUp: lens + part.cells, PageDown: lens - part.cells, Home: part.cells / 2, End: length - part.cells / 2,
     }[event.key];
-    if (!what || !(this.isShown || event.key === "Escape")) return;
+    if (target === undefined) return;
     event.preventDefault();
-    what();
+    this.moveLens(target);
   }
+
+  // Listeners
+
+  addListeners() {
+    const buttons = {
+      play: () => this.setPlaying(!this.playing), back: () => this.stepBack(), one: () => this.stepForward(), again: () => this.restart(),
+      follow: () => this.car || !this.isShown ? this.stopFollowing() : this.followNeighbour(1),
+    };
+    for (const id in buttons) $(id).onclick = buttons[id];
+    $("rate").oninput = () => this.updateRate();
+    $("ring").onclick = event => this.isShown && this.onRingClick(event);
+    $("spacetime").onclick = event => this.isShown && this.onSpacetimeClick(event);
+    $("band").onpointerdown = event => this.isShown && this.onRoadPointerDown(event);
+    $("band").onpointermove = event => this.onRoadPointerMove(event);
+    $("band").onkeydown = event => this.onLensKey(event);
+    addEventListener("resize", () => this.redraw());
+    addEventListener("keydown", event => this.onKeyDown(event));
+  }
+  onRingClick(event) {
+    const { x, y, width } = pointerIn($("ring"), event);
+    this.followNearest(placeOnRing(this.view, width, x, y));
+  }
+  /** Follow the car at the pointer. If there is none in the whole road, the pointer drags the enlarged part. */
+  onRoadPointerDown(event) {
+    const { x, y, width, height } = pointerIn($("band"), event), place = placeOnRoad(this.view, width, height, x, y);
+    if (this.followNearest(place) || !place.movesLens) return;
+    this.lens = place.cell;
+    $("band").setPointerCapture(event.pointerId);
+  }
+  onRoadPointerMove(event) {
+    if (!$("band").hasPointerCapture?.(event.pointerId)) return;
+    const { x, width } = pointerIn($("band"), event);
+    this.lens = clamp(x / width, 0, 1) * this.film.length;
+    this.stale = true;
+  }
+  onSpacetimeClick(event) {
+    const { x, y, width, height } = pointerIn($("spacetime"), event), { rowHeight, top } = spacetimeRows(this.view, width, height), { film } = this;
+    const step = top + Math.floor(y / rowHeight), lane = Math.floor(y % rowHeight / rowHeight * film.lanes), scale = film.length / width;
+    const isRow = film.has(step) && step <= this.step;
+    this.car = isRow ? film.follow(film.nearestCar(step, lane, x * scale, SPACETIME_REACH * scale), this.step) : null;
+    this.redraw();
+  }
+  /** Keys for the page itself, with no control in focus. */
+  onKeyDown(event) {
+    if (event.target !== document.body || event.ctrlKey || event.metaKey || event.altKey) return;
+    const action = {
+      " ": () => this.setPlaying(!this.playing), ArrowRight: () => this.stepForward(), ArrowLeft: () => this.stepBack(),
+      Home: () => this.restart(), ArrowUp: () => this.followNeighbour(1), ArrowDown: () => this.followNeighbour(-1),
+      Escape: () => this.stopFollowing(), ...this.listeners.keys,
+    }[event.key];
+    if (!action || !(this.isShown || event.key === "Escape")) return;
+    event.preventDefault();
+    action();
+  }
+}
+
+/** The place of the pointer in an element, and the size of the element. */
+function pointerIn(element, event) {
+  const { left, top, width, height } = element.getBoundingClientRect();
+  return { x: event.clientX - left, y: event.clientY - top, width, height };
+}
+/** The enlarged part of the road in words. */
+function enlargedWords(film, step, { from, cells }) {
+  const { length, lanes } = film, first = (Math.ceil(from) % length + length) % length, last = (first + Math.floor(cells) - 1) % length;
+  const { cars, starts } = film.scene(step, first, Math.floor(cells)), stopped = starts[1];
+  const road = `cells ${first} to ${last} of ${length}${lanes === 2 ? " on both lanes" : ""}`;
+  return `${road}: ${cars} ${cars === 1 ? "car" : "cars"}, ${stopped} stopped`;
 }

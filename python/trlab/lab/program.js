@@ -2,24 +2,26 @@
 // each of them runs the program in a Worker of its own, with the body as standard input, and the response is a stream of its
 // output.
 
-const RUNS = new Map([
+/** The arguments of the program by request. */
+const COMMANDS = new Map([
   ["run", ["run"]], ["series", ["series"]], ["sweep", ["sweep", "--progress"]], ["explain", ["explain", "run"]],
   ...["run", "sweep", "check"].map(kind => [`explain/${kind}`, ["explain", "--json", kind]]),
 ]);
-/** The number of bytes that wait to be read, from which on the program waits too. */
-const ROOM = 2 ** 20;
-
+/** The program waits while this many bytes of its output are unread. */
+const MAX_UNREAD_BYTES = 2 ** 20;
+/** The exit statuses of the program for accepted and for rejected inputs. */
+const COMPLETE_STATUSES = new Set([0, 1]);
 /** Messages about runs without a result, by exit status. */
-const ENDINGS = {
+const STATUS_MESSAGES = {
   3: "The program needs more memory than this browser gives it. Choose a shorter road or a shorter input.",
   4: "The program could not read its input or write its output.",
 };
-const stopped = fault => `The program has stopped because of an error, so its output is not complete: ${fault}`;
-const UNUSABLE = "This browser cannot run the program. Use a browser of 2025 or later.";
+const stoppedMessage = reason => `The program has stopped because of an error, so its output is not complete: ${reason}`;
+const UNUSABLE_MESSAGE = "This browser cannot run the program. Use a browser of 2025 or later.";
 
-const contentOf = id => document.getElementById(id).textContent;
-async function unpacked(text) {
-  const bytes = Uint8Array.from(atob(text.trim()), it => it.charCodeAt(0));
+const embeddedText = id => document.getElementById(id).textContent;
+async function unpackModule(base64) {
+  const bytes = Uint8Array.from(atob(base64.trim()), character => character.charCodeAt(0));
   return new Response(new Blob([bytes]).stream().pipeThrough(new DecompressionStream("gzip"))).arrayBuffer();
 }
 
@@ -27,35 +29,38 @@ export class Program {
   /** The program that the page contains, or null. */
   static ofPage() {
     if (!document.getElementById("program")) return null;
-    return new Program(contentOf("program"), contentOf("worker"), JSON.parse(contentOf("examples")));
+    return new Program(embeddedText("program"), embeddedText("worker"), JSON.parse(embeddedText("examples")));
   }
-  constructor(packed, script, examples) {
+  constructor(packedModule, workerScript, examples) {
     this.examples = examples;
-    this.script = URL.createObjectURL(new Blob([script], { type: "text/javascript" }));
-    this.module = unpacked(packed).then(bytes => WebAssembly.compile(bytes)).catch(fault => {
-      throw new Error(`${UNUSABLE} (${fault.message})`);
+    this.workerUrl = URL.createObjectURL(new Blob([workerScript], { type: "text/javascript" }));
+    this.module = unpackModule(packedModule).then(bytes => WebAssembly.compile(bytes)).catch(error => {
+      throw new Error(`${UNUSABLE_MESSAGE} (${error.message})`);
     });
     this.module.catch(() => {}); // Each request reports it.
-    this.spare = new Worker(this.script);
+    this.spareWorker = new Worker(this.workerUrl);
   }
   /** A Worker that has started already; the next one starts meanwhile. */
-  hire() {
-    const worker = this.spare;
-    this.spare = new Worker(this.script);
+  takeWorker() {
+    const worker = this.spareWorker;
+    this.spareWorker = new Worker(this.workerUrl);
     return worker;
   }
-  async answer(path, text, signal) {
-    const [name, skip = "0"] = path.split("?skip="), words = RUNS.get(name);
-    if (!words) throw new Error(`There is no command ${name}.`);
-    const run = new Run(this, { module: await this.module, words, text, room: ROOM }, +skip, signal);
+  /** Run a command, as the server does for the same request. `?skip=N` leaves out the first N bytes of its output. */
+  async post(path, input, signal) {
+    const [name, skip = "0"] = path.split("?skip="), args = COMMANDS.get(name);
+    if (!args) throw new Error(`There is no command ${name}.`);
+    const request = { module: await this.module, args, input, maxUnread: MAX_UNREAD_BYTES };
+    const source = new OutputSource(this, request, Number(skip), signal);
     signal?.throwIfAborted();
-    return new Answer(new ReadableStream(run, new ByteLengthQueuingStrategy({ highWaterMark: ROOM })));
+    return new OutputResponse(new ReadableStream(source, new ByteLengthQueuingStrategy({ highWaterMark: MAX_UNREAD_BYTES })));
   }
 }
 
 /** The response to a request, as `fetch` gives it. A `Response` would hide the error of a run behind one of its own. */
-class Answer {
-  constructor(body) { Object.assign(this, { body, ok: true }); }
+class OutputResponse {
+  ok = true;
+  constructor(body) { this.body = body; }
   async blob() {
     const reader = this.body.getReader(), parts = [];
     for (let part = await reader.read(); !part.done; part = await reader.read()) parts.push(part.value);
@@ -65,42 +70,52 @@ class Answer {
   async json() { return JSON.parse(await this.text()); }
 }
 
-/** The output of a run without its first `skip` bytes, as the source of a stream. */
-class Run {
-  constructor(program, request, skip, signal) {
-    Object.assign(this, { program, request, skip, signal, worker: null });
+/** The output of one run of the program, as the source of a stream. The page has the first `bytesTaken` bytes already. */
+class OutputSource {
+  worker = null;
+  constructor(program, request, bytesTaken, signal) {
+    this.program = program;
+    this.request = request;
+    this.bytesTaken = bytesTaken;
+    this.signal = signal;
   }
-  start(control) {
-    this.open(control);
+  start(controller) {
+    this.startWorker(controller);
     this.signal?.addEventListener("abort", () => {
       this.cancel();
-      control.error(this.signal.reason);
+      controller.error(this.signal.reason);
     });
   }
-  /** Run the program. `skip` is how many bytes the page has, so that a second run continues the output of the first one. */
-  open(control) {
-    this.worker = this.program.hire();
-    this.worker.onmessage = ({ data }) => this.hear(control, data);
-    this.worker.onerror = event => this.end(() => control.error(new Error(stopped(event.message))));
-    this.worker.postMessage({ ...this.request, skip: this.skip });
+  /** Run the program without the bytes that the page has, so that a second run continues the output of the first one. */
+  startWorker(controller) {
+    this.worker = this.program.takeWorker();
+    this.worker.onmessage = ({ data }) => this.onWorkerMessage(controller, data);
+    this.worker.onerror = event => {
+      this.endWorker();
+      controller.error(new Error(stoppedMessage(event.message)));
+    };
+    this.worker.postMessage({ ...this.request, skip: this.bytesTaken });
   }
-  hear(control, { bytes, status, fault, isFull }) {
+  onWorkerMessage(controller, { bytes, status, error, isFull }) {
     if (bytes) {
-      this.skip += bytes.length;
-      control.enqueue(bytes);
-    } else if (isFull) this.end(() => control.desiredSize > 0 && this.open(control));
-    else if (status === 0 || status === 1) this.end(() => control.close());
-    else this.end(() => control.error(new Error(ENDINGS[status] ?? stopped(fault ?? `exit status ${status}`))));
+      this.bytesTaken += bytes.length;
+      controller.enqueue(bytes);
+      return;
+    }
+    this.endWorker();
+    if (isFull) {
+      if (controller.desiredSize > 0) this.startWorker(controller);
+    } else if (COMPLETE_STATUSES.has(status)) controller.close();
+    else controller.error(new Error(STATUS_MESSAGES[status] ?? stoppedMessage(error ?? `exit status ${status}`)));
   }
   /** The page has read enough for the buffer to have room: the program continues, or runs again if it could not wait. */
-  pull(control) {
-    if (this.worker) this.worker.postMessage({ taken: this.skip });
-    else this.open(control);
+  pull(controller) {
+    if (this.worker) this.worker.postMessage({ bytesTaken: this.bytesTaken });
+    else this.startWorker(controller);
   }
-  cancel() { this.end(() => {}); }
-  end(call) {
+  cancel() { this.endWorker(); }
+  endWorker() {
     if (this.worker) Object.assign(this.worker, { onmessage: null, onerror: null }).terminate();
     this.worker = null;
-    call();
   }
 }

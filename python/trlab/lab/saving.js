@@ -1,27 +1,29 @@
-// What the page saves: files, and links that contain a job.
+// Files that the page saves, and links that contain a job.
 
-import { $ } from "./player.js";
-import { answer } from "./carrier.js";
+import { $ } from "./dom.js";
+import { post } from "./backend.js";
 import { filmOf } from "./filming.js";
 import { linkOf } from "./links.js";
 
+const KEEP_URL_MILLISECONDS = 10000, COPIED_MILLISECONDS = 2000;
+
 /** Save parts of text or bytes as a file. */
-export function save(name, parts, type) {
+export function saveFile(name, parts, type) {
   const link = document.createElement("a");
   link.href = URL.createObjectURL(new Blob(parts, { type }));
   link.download = name;
   link.click();
-  setTimeout(() => URL.revokeObjectURL(link.href), 10000);
+  setTimeout(() => URL.revokeObjectURL(link.href), KEEP_URL_MILLISECONDS);
 }
-/** The table of a job file's run. */
+/** Save the table of a job file's run. */
 export async function saveTable(file) {
-  save("series.csv", [await (await answer("series", file)).blob()], "text/csv");
+  saveFile("series.csv", [await (await post("series", file)).blob()], "text/csv");
 }
-/** The film of a job file's whole run, from its start. */
+/** Save the film of a job file's whole run, from its start. */
 export async function saveFilm(file) {
   $("savefilm").disabled = true;
   try {
-    save("traffic.html", await filmOf(file), "text/html");
+    saveFile("traffic.html", await filmOf(file), "text/html");
   } finally {
     $("savefilm").disabled = false;
   }
@@ -31,5 +33,5 @@ export async function copyLink(file) {
   history.replaceState(null, "", await linkOf(file));
   await navigator.clipboard?.writeText(location.href).catch(() => {});
   $("silent").textContent = $("link").textContent = "Link copied";
-  setTimeout(() => $("link").textContent = "Copy a link", 2000);
+  setTimeout(() => $("link").textContent = "Copy a link", COPIED_MILLISECONDS);
 }

@@ -18,7 +18,7 @@ def joined(*names: str) -> str:
     return "const modules = {};\n" + "".join(text for name in names for text in _scopes(name, exported))
 
 
-def reached(name: str) -> list[str]:
+def imported_scripts(name: str) -> list[str]:
     """The names of a script and of all scripts that it imports, those first that are imported."""
     exported: dict[str, list[str]] = {}
     _scopes(name, exported)
@@ -40,13 +40,13 @@ def _scopes(name: str, exported: dict[str, list[str]]) -> list[str]:
     return [*scopes, "modules.%s = (() => {\n%sreturn { %s };\n})();\n" % (name, text, ", ".join(exported[name]))]
 
 
-def element(text: str, attributes: str) -> str:
+def script_element(text: str, attributes: str) -> str:
     """A script as an element of a page. Raises `ValueError` if its text would end the element, or begin a comment."""
     if re.search(r"</script|<!--", text, re.I):
         raise ValueError("a script must not contain `</script` or `<!--`")
     return f"<script {attributes}>{text}</script>\n"
 
 
-def sum_of(text: str) -> str:
+def policy_hash(text: str) -> str:
     """A script or a style as a Content-Security-Policy names it."""
     return f"'sha256-{base64.b64encode(hashlib.sha256(text.encode()).digest()).decode()}'"

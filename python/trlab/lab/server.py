@@ -23,28 +23,28 @@ from .._runs.location import find_program
 from .._runs.signals import need_exit_statuses
 from . import rules
 from .export import film_page
-from .scripts import HERE, reached
-from .strangers import Strangers
+from .scripts import HERE, imported_scripts
+from .unauthenticated import UnauthenticatedConnections
 
 MAX_BYTES = 4 * 1024 * 1024
 """The maximum size of an input, which is also that of trlab."""
-PIECE = 65536
-PATIENCE = 2.0
+CHUNK_BYTES = 65536
+SLOT_TIMEOUT = 2.0
 """How long a run waits for a free processor, in seconds."""
-FIRST_WAIT, WAIT = 10.0, 30.0
+FIRST_REQUEST_TIMEOUT, REQUEST_TIMEOUT = 10.0, 30.0
 """How long a request may pause while it is read, in seconds: the first one of a connection, and the later ones. A stream has no
 limit, because a page may pause."""
-PAUSE = 0.1
+RETRY_PAUSE = 0.1
 """How long the server rests, in seconds, if it has no descriptors for another connection."""
 
 FILES = {
     "": ("page.html", "text/html"),
     "page.css": ("page.css", "text/css"),
-    **{f"{name}.js": (f"{name}.js", "text/javascript") for name in reached("page")},
+    **{f"{name}.js": (f"{name}.js", "text/javascript") for name in imported_scripts("page")},
 }
-RUNS = {"run": ["run"], "series": ["series"], "sweep": ["sweep", "--progress"]}
+LONG_COMMANDS = {"run": ["run"], "series": ["series"], "sweep": ["sweep", "--progress"]}
 """Commands that may take long: at most one per processor runs at a time."""
-QUESTIONS = {
+SHORT_COMMANDS = {
     "explain": ["explain", "run"],
     **{f"explain/{kind}": ["explain", "--json", kind] for kind in ("run", "sweep", "check")},
 }
@@ -84,13 +84,13 @@ class Lab(ThreadingHTTPServer):
     def __init__(self, port: int = 0) -> None:
         need_exit_statuses()
         self.program = find_program()
-        self.strangers = Strangers()
-        super().__init__(("127.0.0.1", port), Page)
+        self.unauthenticated = UnauthenticatedConnections()
+        super().__init__(("127.0.0.1", port), PageHandler)
         self.token = secrets.token_urlsafe(24)
         self.hosts = hosts_at(self.server_port)
         processors = len(os.sched_getaffinity(0))
-        self.runs = threading.BoundedSemaphore(processors)
-        self.questions = threading.BoundedSemaphore(processors)
+        self.long_slots = threading.BoundedSemaphore(processors)
+        self.short_slots = threading.BoundedSemaphore(processors)
         self.lock, self.closing = threading.Lock(), False
         self.children: set[Child] = set()
 
@@ -99,26 +99,27 @@ class Lab(ThreadingHTTPServer):
         return f"http://127.0.0.1:{self.server_port}/{self.token}/"
 
     def get_request(self) -> tuple[socket.socket, Any]:
-        """The next connection. If there are no descriptors for it, a stranger has to go, and the server does not try in a loop."""
+        """The next connection. If there are no descriptors for it, a connection without the token has to go, and the server does not
+        try in a loop."""
         try:
             return super().get_request()
         except OSError as error:
             if error.errno in (errno.EMFILE, errno.ENFILE, errno.ENOBUFS, errno.ENOMEM):
-                self.strangers.drop_oldest()
-                time.sleep(PAUSE)
+                self.unauthenticated.drop_oldest()
+                time.sleep(RETRY_PAUSE)
             raise
 
     def process_request(self, request: Any, client_address: Any) -> None:
         """Read the request in a thread of its own."""
-        self.strangers.add(request)
+        self.unauthenticated.add(request)
         super().process_request(request, client_address)
 
     def shutdown_request(self, request: Any) -> None:
         """The connection is over."""
-        self.strangers.remove(request)
+        self.unauthenticated.remove(request)
         super().shutdown_request(request)
 
-    def start(self, words: list[str], text: bytes) -> Child:
+    def start_process(self, words: list[str], text: bytes) -> Child:
         """A process of trlab that reads this input. Progress lines, if any, come before the output."""
         source = os.memfd_create("trlab-lab")
         try:
@@ -135,7 +136,7 @@ class Lab(ThreadingHTTPServer):
         finally:
             os.close(source)
 
-    def end(self, child: Child) -> None:
+    def end_process(self, child: Child) -> None:
         """End a process, if it still runs."""
         child.kill()
         child.wait()
@@ -160,15 +161,15 @@ class Lab(ThreadingHTTPServer):
             super().handle_error(request, client_address)
 
 
-class Page(BaseHTTPRequestHandler):
+class PageHandler(BaseHTTPRequestHandler):
     """One connection of a browser."""
 
     protocol_version = "HTTP/1.1"
     server: Lab
-    timeout = FIRST_WAIT
+    timeout = FIRST_REQUEST_TIMEOUT
 
     def do_GET(self) -> None:
-        name = self.allowed()
+        name = self.requested_name()
         if name == "examples":
             self.answer(200, json.dumps(examples()).encode(), "application/json")
         elif name == "film":
@@ -180,10 +181,10 @@ class Page(BaseHTTPRequestHandler):
             self.answer(404, b"There is no such page.\n")
 
     def do_POST(self) -> None:
-        name = self.allowed()
+        name = self.requested_name()
         if name is None:
             return
-        if name not in RUNS and name not in QUESTIONS and name != RULES:
+        if name not in LONG_COMMANDS and name not in SHORT_COMMANDS and name != RULES:
             self.refuse(404, "There is no such command.")
             return
         text = self.body()
@@ -193,7 +194,7 @@ class Page(BaseHTTPRequestHandler):
             except ValueError as error:
                 self.answer(400, f"{error}\n".encode())
         elif text is not None:
-            self.take_turn(name, text)
+            self.run_command(name, text)
 
     def body(self) -> Optional[bytes]:
         """The input of the request; None if the request is refused, because it has no length, is too long or is cut."""
@@ -215,7 +216,7 @@ class Page(BaseHTTPRequestHandler):
         self.close_connection = True
         self.answer(status, f"{message}\n".encode())
 
-    def allowed(self) -> Optional[str]:
+    def requested_name(self) -> Optional[str]:
         """The requested name, if the request comes from a page of this server; otherwise the request is refused."""
         hosts: list[str] = self.headers.get_all("Host", [])
         origin = self.headers.get("Origin")
@@ -224,38 +225,38 @@ class Page(BaseHTTPRequestHandler):
         own = host in self.server.hosts and origin in origins
         token, slash, name = self.path[1:].partition("?")[0].partition("/")
         if own and slash and secrets.compare_digest(token.encode(), self.server.token.encode()):
-            self.server.strangers.remove(self.connection)
-            self.connection.settimeout(WAIT)
+            self.server.unauthenticated.remove(self.connection)
+            self.connection.settimeout(REQUEST_TIMEOUT)
             return name
         self.refuse(403, "This address is not valid. Use the one that trlab-lab printed.")
         return None
 
-    def skipped(self) -> int:
+    def bytes_to_skip(self) -> int:
         """How many bytes of the output the page does not need: `?skip=N`."""
         match = re.search(r"\?skip=([0-9]{1,15})$", self.path, re.ASCII)
         return int(match[1]) if match else 0
 
-    def take_turn(self, name: str, text: bytes) -> None:
+    def run_command(self, name: str, text: bytes) -> None:
         """Stream the output of a command, as soon as a processor is free. Its chunks show whether it is whole."""
         if self.request_version != self.protocol_version:
             self.refuse(505, "This request needs HTTP/1.1.")
             return
-        turns = self.server.runs if name in RUNS else self.server.questions
-        if not turns.acquire(timeout=PATIENCE):
+        slots = self.server.long_slots if name in LONG_COMMANDS else self.server.short_slots
+        if not slots.acquire(timeout=SLOT_TIMEOUT):
             self.answer(503, b"Every processor is in use by a run. Pause or close another page of trlab-lab.\n")
             return
         try:
-            child = self.server.start(RUNS.get(name) or QUESTIONS[name], text)
+            child = self.server.start_process(LONG_COMMANDS.get(name) or SHORT_COMMANDS[name], text)
             try:
-                is_whole = self.stream(child, self.skipped()) and child.exit_status() in (0, 1)
+                is_whole = self.stream(child, self.bytes_to_skip()) and child.exit_status() in (0, 1)
                 # Without the last chunk the page knows that the output is cut.
                 self.close_connection = self.close_connection or not is_whole
                 if is_whole:
                     self.wfile.write(b"0\r\n\r\n")
             finally:
-                self.server.end(child)
+                self.server.end_process(child)
         finally:
-            turns.release()
+            slots.release()
 
     def stream(self, child: Child, skip: int) -> bool:
         """Whether the page has the whole output. A page that sends or closes anything meanwhile has gone away."""
@@ -268,9 +269,9 @@ class Page(BaseHTTPRequestHandler):
             while True:
                 if any(key.fileobj is self.connection for key, _ in ready.select()):
                     return False
-                piece = os.read(child.stdout.fileno(), PIECE)
+                piece = os.read(child.stdout.fileno(), CHUNK_BYTES)
                 if not piece:
-                    self.connection.settimeout(WAIT)
+                    self.connection.settimeout(REQUEST_TIMEOUT)
                     return True
                 piece, skip = piece[skip:], max(0, skip - len(piece))
                 if piece:

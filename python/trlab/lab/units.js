@@ -2,53 +2,58 @@
 // car occupies about 7.5 m, which is the length of a cell, and free traffic of 4.5 cells per step drives at about 120 km/h, so
 // that a step takes about 1 s.
 
-const METRES = 7.5, SECONDS = 1;
+import { setText } from "./dom.js";
+import { curveMaxima } from "./curves.js";
+
+const METRES_PER_CELL = 7.5, SECONDS_PER_STEP = 1;
 const SYSTEMS = {
   cells: {
-    density: { times: 1, digits: 3, words: "cars per cell", short: "per cell" },
-    flow: { times: 1, digits: 3, words: "cars per step", short: "per step" },
-    speed: { times: 1, digits: 2, words: "cells per step", short: "cells/step" },
+    density: { factor: 1, digits: 3, words: "cars per cell", short: "per cell" },
+    flow: { factor: 1, digits: 3, words: "cars per step", short: "per step" },
+    speed: { factor: 1, digits: 2, words: "cells per step", short: "cells/step" },
   },
   road: {
-    density: { times: 1000 / METRES, digits: 0, words: "vehicles per km", short: "per km" },
-    flow: { times: 3600 / SECONDS, digits: 0, words: "vehicles per hour", short: "per hour" },
-    speed: { times: 3.6 * METRES / SECONDS, digits: 0, words: "km/h", short: "km/h" },
+    density: { factor: 1000 / METRES_PER_CELL, digits: 0, words: "vehicles per km", short: "per km" },
+    flow: { factor: 3600 / SECONDS_PER_STEP, digits: 0, words: "vehicles per hour", short: "per hour" },
+    speed: { factor: 3.6 * METRES_PER_CELL / SECONDS_PER_STEP, digits: 0, words: "km/h", short: "km/h" },
   },
 };
 
 /** The units that the page shows: "cells" or "road". */
-export const units = { now: "cells" };
-export const unitOf = kind => SYSTEMS[units.now][kind];
-/** A density, flow or speed in the shown unit, as a number and in words, with more digits on request. */
-export const converted = (kind, number) => number * unitOf(kind).times;
-export const shownAs = (kind, number, more = 0) => converted(kind, number).toFixed(unitOf(kind).digits + more);
+export const shownUnits = { system: "cells" };
+const isRoad = () => shownUnits.system === "road";
+export const unitOf = kind => SYSTEMS[shownUnits.system][kind];
+/** A density, flow or speed in the shown unit, as a number, and formatted, with more digits on request. */
+export const converted = (kind, number) => number * unitOf(kind).factor;
+export const formatted = (kind, number, moreDigits = 0) => converted(kind, number).toFixed(unitOf(kind).digits + moreDigits);
 /** A speed in cells per step with its unit. */
 export const speedWords = number =>
-  `${+converted("speed", number).toFixed(2)} ${units.now === "cells" && number === 1 ? "cell per step" : unitOf("speed").words}`;
+  `${+converted("speed", number).toFixed(2)} ${!isRoad() && number === 1 ? "cell per step" : unitOf("speed").words}`;
 /** A number of cells as a length. */
-export const lengthWords = cells => units.now === "road" ? `${cells * METRES} m` : `${cells} cell${cells === 1 ? "" : "s"}`;
+export const lengthWords = cells => isRoad() ? `${cells * METRES_PER_CELL} m` : `${cells} cell${cells === 1 ? "" : "s"}`;
 
 /** The axes of a space-time diagram: the road across, and the steps down. */
-export const axesWords = (length, first, last) => units.now === "road"
-  ? `Across: 0 to ${lengthWords(length)}. Down: ${first * SECONDS} to ${last * SECONDS} s.`
+export const axesWords = (length, first, last) => isRoad()
+  ? `Across: 0 to ${lengthWords(length)}. Down: ${first * SECONDS_PER_STEP} to ${last * SECONDS_PER_STEP} s.`
   : `Across: cells 0 to ${length - 1}. Down: steps ${first} to ${last}.`;
 
-/** The ticks of an axis from 0 to `most` of the model's unit: round numbers of the shown unit, each with its place. */
-export function ticks(kind, most, count = 6) {
-  const { times } = unitOf(kind), high = most * times, rough = high / count, power = 10 ** Math.floor(Math.log10(rough));
-  const step = [1, 2, 5, 10].find(it => it * power >= rough * 0.999) * power;
-  const places = Array.from({ length: Math.floor(high / step + 1e-9) + 1 }, (_, k) => k * step);
-  return places.map(it => ({ at: it / times, words: String(+it.toPrecision(6)) }));
+/** The digits of a tick are cut after rounding errors, which are smaller than this share of a step. */
+const ROUNDING = 1e-9, TICK_DIGITS = 6, ALMOST = 0.999;
+/** The ticks of an axis from 0 to `maximum` of the model's unit: round numbers of the shown unit, each with its place. */
+export function axisTicks(kind, maximum, count = 6) {
+  const { factor } = unitOf(kind), end = maximum * factor, rough = end / count, power = 10 ** Math.floor(Math.log10(rough));
+  const step = [1, 2, 5, 10].find(digit => digit * power >= rough * ALMOST) * power;
+  const places = Array.from({ length: Math.floor(end / step + ROUNDING) + 1 }, (_, k) => k * step);
+  return places.map(place => ({ at: place / factor, words: String(+place.toPrecision(TICK_DIGITS)) }));
 }
-
-/** Write the units and the scales above the curves, whose axes end at the most that a run can have. */
-export function tellUnits(limit) {
-  const most = { flow: limit / (limit + 1), density: 1, speed: limit };
-  for (const place of document.querySelectorAll("[data-unit]")) place.textContent = unitOf(place.dataset.unit).short;
-  for (const place of document.querySelectorAll("[data-most]")) place.textContent = mostOf(place.dataset.most, most[place.dataset.most]);
-}
-/** The end of an axis in the shown unit. */
-export function mostOf(kind, most) {
-  const end = converted(kind, most);
+/** The end of an axis in the shown unit: two digits, or a whole number. */
+export function axisEnd(kind, maximum) {
+  const end = converted(kind, maximum);
   return String(end < 100 ? +end.toPrecision(2) : Math.round(end));
+}
+/** Write the units and the scales above the curves. */
+export function showUnits(limit) {
+  const maxima = curveMaxima(limit);
+  for (const place of document.querySelectorAll("[data-unit]")) setText(place, unitOf(place.dataset.unit).short);
+  for (const place of document.querySelectorAll("[data-most]")) setText(place, axisEnd(place.dataset.most, maxima[place.dataset.most]));
 }

@@ -11,7 +11,7 @@ from collections.abc import Mapping
 from pathlib import Path
 
 from .export import film_page
-from .scripts import HERE, element, joined, sum_of
+from .scripts import HERE, joined, policy_hash, script_element
 from .server import examples
 
 _POLICY = (
@@ -24,13 +24,13 @@ def whole_page(module: bytes, inputs: Mapping[str, str]) -> str:
     """The page with a module and example inputs, by file name. Rules in Python are left out, because they need the server."""
     script, style = joined("page"), (HERE / "page.css").read_text("utf-8")
     examples = {name: text for name, text in inputs.items() if not name.endswith(".py")}
-    policy = _POLICY.format(script=sum_of(script), style=sum_of(style))
+    policy = _POLICY.format(script=policy_hash(script), style=policy_hash(style))
     parts = [
-        element(json.dumps(examples).replace("<", "\\u003c"), 'type="application/json" id="examples"'),
-        element(json.dumps(film_page()).replace("<", "\\u003c"), 'type="application/json" id="filmpage"'),
-        element(joined("worker"), 'type="text/plain" id="worker"'),
-        element(base64.b64encode(gzip.compress(module, 9, mtime=0)).decode(), 'type="text/plain" id="program"'),
-        element(script, 'type="module"'),
+        script_element(json.dumps(examples).replace("<", "\\u003c"), 'type="application/json" id="examples"'),
+        script_element(json.dumps(film_page()).replace("<", "\\u003c"), 'type="application/json" id="filmpage"'),
+        script_element(joined("worker"), 'type="text/plain" id="worker"'),
+        script_element(base64.b64encode(gzip.compress(module, 9, mtime=0)).decode(), 'type="text/plain" id="program"'),
+        script_element(script, 'type="module"'),
     ]
     page = (HERE / "page.html").read_text("utf-8")
     for place, content in (

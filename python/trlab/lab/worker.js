@@ -4,42 +4,44 @@
 
 import { Exit, hostOf } from "./host.js";
 
-const canWait = "Suspending" in WebAssembly;
-/** The number of unread bytes from which on a program ends that cannot wait. */
-const MOST = 2 ** 26;
-class Full extends Error {}
-/** How many bytes the page has taken, and the call that looks whether this is enough to go on. */
-let taken = 0, look = () => {};
+const canSuspend = "Suspending" in WebAssembly;
+/** A program that cannot wait ends when this many bytes of its output are unread. */
+const MAX_BUFFERED_BYTES = 2 ** 26;
+class BufferFullError extends Error {}
+
+/** How many bytes the page has taken, and the call that resumes the program if that is enough. */
+let bytesTaken = 0, resumeIfRead = () => {};
 
 onmessage = ({ data }) => {
-  if (data.module) return run(data);
-  taken = data.taken;
-  look();
+  if (data.module) return runProgram(data);
+  bytesTaken = data.bytesTaken;
+  resumeIfRead();
 };
 
-/** Take output, of which the page has the first `skip` bytes already. Progress goes to it too, but no other errors. */
-function outputOf({ words, skip, room }) {
-  let sent = 0;
-  taken = skip;
+/** The call that takes the program's output. The page has its first `skip` bytes already. Progress is a part of the output, but no
+ * other text on standard error is. */
+function outputWriter({ args, skip, maxUnread }) {
+  let bytesWritten = 0;
+  bytesTaken = skip;
   return (bytes, isError) => {
-    if (isError && !words.includes("--progress")) return undefined;
-    const fresh = bytes.subarray(Math.max(0, skip - sent));
-    sent += bytes.length;
-    if (fresh.length) postMessage({ bytes: fresh }, [fresh.buffer]);
-    if (!canWait && sent - taken > MOST) throw new Full();
-    const isRead = () => sent - taken <= room;
-    return !canWait || isRead() ? undefined : new Promise(go => look = () => isRead() && go());
+    if (isError && !args.includes("--progress")) return undefined;
+    const unsent = bytes.subarray(Math.max(0, skip - bytesWritten));
+    bytesWritten += bytes.length;
+    if (unsent.length) postMessage({ bytes: unsent }, [unsent.buffer]);
+    if (!canSuspend && bytesWritten - bytesTaken > MAX_BUFFERED_BYTES) throw new BufferFullError();
+    const isRead = () => bytesWritten - bytesTaken <= maxUnread;
+    return !canSuspend || isRead() ? undefined : new Promise(resolve => resumeIfRead = () => isRead() && resolve());
   };
 }
-async function run(request) {
-  const { module, words, text } = request;
-  const host = hostOf({ words, input: new TextEncoder().encode(text), put: outputOf(request) });
-  if (canWait) host.known.write = new WebAssembly.Suspending(host.known.write);
+async function runProgram(request) {
+  const { module, args, input } = request;
+  const host = hostOf({ words: args, input: new TextEncoder().encode(input), put: outputWriter(request) });
+  if (canSuspend) host.known.write = new WebAssembly.Suspending(host.known.write);
   try {
     const instance = await WebAssembly.instantiate(module, host.importsOf(module));
-    postMessage({ status: await host.start(instance, canWait ? WebAssembly.promising : undefined)() });
-  } catch (fault) {
-    if (fault instanceof Exit) postMessage({ status: fault.status });
-    else postMessage(fault instanceof Full ? { isFull: true } : { fault: `${fault.name}: ${fault.message}` });
+    postMessage({ status: await host.start(instance, canSuspend ? WebAssembly.promising : undefined)() });
+  } catch (error) {
+    if (error instanceof Exit) postMessage({ status: error.status });
+    else postMessage(error instanceof BufferFullError ? { isFull: true } : { error: `${error.name}: ${error.message}` });
   }
 }

@@ -17,7 +17,7 @@ MAX_WORDS = {
     "docs/FAQ.md": 950,
     "docs/FILES.md": 2450,
     "docs/GLOSSARY.md": 780,
-    "docs/LAB.md": 1750,
+    "docs/LAB.md": 1950,
     "docs/LAWS.md": 4280,
     "docs/LAWS_BY_EXAMPLE.md": 400,
     "docs/MODELS.md": 2030,

@@ -27,7 +27,7 @@ SOLUTION = re.compile(r"(?<![\w/.])\d+(?:\.\d+)?(?![\w/])")
 NO_RESULTS = re.compile(r"^#.*$|`[^`]*`|\]\([^)]*\)|\b\d+/\d+\b", re.M)
 # Words in italics.
 ITALIC = re.compile(r"(?<![*\w])\*([^*]+)\*(?!\*)")
-LAB = "python/trlab/lab"
+LAB, LAB_PAGE = "python/trlab/lab", "docs/LAB.md"
 # Names in the page of trlab-lab end like this, in its HTML and in its scripts.
 NAME_ON_PAGE = re.compile(r"[>\"]([^<>\"\n]+)[<\"]")
 
@@ -79,11 +79,14 @@ def solutions_are_measured() -> Verdicts:
 
 
 def controls_are_on_the_page() -> Verdicts:
-    """Each name in italics in the course is a name on the page of trlab-lab."""
-    sources = (content(f"{LAB}/{name}") for name in ("page.html", "page.js", "phenomena.js", "player.js"))
+    """Each name in italics in the course and on the page about trlab-lab is a name on the page of trlab-lab."""
+    sources = (content(f"{LAB}/{name}") for name in ("page.html", "controls.js", "phenomena.js", "player.js"))
     names_on_page = {name.strip() for source in sources for name in NAME_ON_PAGE.findall(source)}
-    for name in sorted({" ".join(name.split()) for name in ITALIC.findall(content(COURSE))} - {"italics"}):
-        yield name in names_on_page, f"{COURSE} names the control {name!r}, which is not on the page of trlab-lab"
+    for page in COURSE, LAB_PAGE:
+        names = {" ".join(name.split()) for name in ITALIC.findall(content(page))} - {"italics"}
+        yield len(names) > 5, f"{page} names few controls in italics"
+        for name in sorted(names):
+            yield name in names_on_page, f"{page} names the control {name!r}, which is not on the page of trlab-lab"
 
 
 def verdicts() -> Verdicts:

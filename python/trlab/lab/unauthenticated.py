@@ -6,15 +6,15 @@ import resource
 import socket
 import threading
 
-MOST = 64
+MAX_CONNECTIONS = 64
 
 
-class Strangers:
+class UnauthenticatedConnections:
     """The connections without a valid request, the oldest first: at most 64, or a quarter of the descriptors of this process."""
 
     def __init__(self) -> None:
         descriptors, _ = resource.getrlimit(resource.RLIMIT_NOFILE)
-        self.most = MOST if descriptors == resource.RLIM_INFINITY else min(MOST, max(1, descriptors // 4))
+        self.maximum = MAX_CONNECTIONS if descriptors == resource.RLIM_INFINITY else min(MAX_CONNECTIONS, max(1, descriptors // 4))
         self.lock = threading.Lock()
         self.waiting: dict[socket.socket, None] = {}
 
@@ -22,7 +22,7 @@ class Strangers:
         """A new connection, for which the oldest one has to go if there are too many."""
         with self.lock:
             self.waiting[connection] = None
-            is_full = len(self.waiting) > self.most
+            is_full = len(self.waiting) > self.maximum
         if is_full:
             self.drop_oldest()
 
