@@ -67,9 +67,10 @@ class Drawn(NamedTuple):
 
 
 def run_python(folder, *arguments):
-    """The output of Python in a folder with a copy of the studies without figures and means, and the figures and means that
-    it makes there."""
-    copytree(STUDIES, Path(folder) / "studies", ignore=ignore_patterns("*.svg", "*means.csv", "cache"))
+    """The output of Python in a folder with a copy of the studies without figures and means, and of the examples that they
+    read, and the figures and means that it makes there."""
+    for name in "studies", "examples":
+        copytree(TOP / name, Path(folder) / name, ignore=ignore_patterns("*.svg", "*means.csv", "cache"))
     environment = {**os.environ, "PYTHONPATH": str(TOP / "python"), "PYTHONIOENCODING": "utf-8", "MPLBACKEND": "agg"}
     command = [sys.executable, "-B", *arguments]
     options = {"cwd": folder, "env": environment, "check": True, "stdout": subprocess.PIPE, "encoding": "utf-8"}
