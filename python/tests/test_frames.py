@@ -332,6 +332,22 @@ class Misreadings(unittest.TestCase):
         by_window = trlab.means(frame, "seed")
         self.assertRaisesRegex(FrameError, "are they means already", trlab.means, by_window, "step")
 
+    def test_runs_of_two_branches(self) -> None:
+        frame = trlab.per_run(self.frame(seed=range(10)))
+        for flows in [0.8, 0.4, *8 * [0.2]], [0.8, *9 * [0.21]], [0.2, 0.3, 0.4, 0.5, 0.6, 0.7, 0.75, 0.8, 0.8, 0.8]:
+            mixed = frame.assign(flow=flows).drop(columns=["distance"])
+            self.assertRaisesRegex(FrameError, "differ too much for one mean: 0.2.*mixed=True", trlab.means, mixed, "seed")
+            self.assertAlmostEqual(trlab.means(mixed, "seed", of="flow", mixed=True).flow.iloc[0], sum(flows) / 10)
+        for flows in 10 * [0.0], 10 * [0.2], [0.5, *9 * [0.45]], [0.3, 0.31, 0.32, 0.33, 0.34, 0.35, 0.36, 0.37, 0.38, 0.39]:
+            one = frame.assign(flow=flows).drop(columns=["distance"])
+            self.assertAlmostEqual(trlab.means(one, "seed", of="flow").flow.iloc[0], sum(flows) / 10)
+
+    def test_normal_flows_are_one_branch(self) -> None:
+        frame = trlab.per_run(self.frame(seed=range(8)))
+        noise = numpy.random.default_rng(1).normal(size=(300, 8))
+        for flows in 0.5 + 0.02 * noise:
+            trlab.means(frame.assign(flow=flows), "seed", of="flow")
+
     def test_columns_of_a_result_are_not_replaced(self) -> None:
         frame = self.frame(lambda job: {"count": 7, "x": 1.0, "x_sem": 0.001})
         self.assertEqual(list(frame["count"]), [7] * 4)

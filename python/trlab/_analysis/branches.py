@@ -6,11 +6,13 @@ from .repetitions import Repetitions
 from .required import numpy
 from .._errors import FrameError
 
-LEAST_GAP, LEAST_RATIO = 0.2, 3.0
+LEAST_RUNS = 5
+
+LEAST_GAP, LEAST_RATIO = 0.25, 3.0
 """The gap between two groups of flows, as a share of the largest flow, and in standard deviations within the groups."""
 
-MAX_SCATTER, LEAST_RUNS = 0.15, 5
-"""The standard deviation of flows, as a share of their mean, up to which these many or more runs are of one branch."""
+MAX_SCATTER = 0.15
+"""The standard deviation of flows, as a share of their mean, up to which runs are of one branch."""
 
 
 def need_one_branch(groups: Repetitions) -> None:
@@ -21,9 +23,10 @@ def need_one_branch(groups: Repetitions) -> None:
     least, largest = numpy.full(group.max() + 1, numpy.inf), numpy.full(group.max() + 1, -numpy.inf)
     numpy.minimum.at(least, group, flow)
     numpy.maximum.at(largest, group, flow)
-    for number in numpy.flatnonzero(largest - least >= MAX_SCATTER * largest):
+    differ = (numpy.bincount(group) >= LEAST_RUNS) & (largest > least) & (largest - least >= MAX_SCATTER * largest)
+    for number in numpy.flatnonzero(differ):
         flows = numpy.sort(flow[group == number])
-        if _are_in_two_groups(flows) or _scatter(flows):
+        if _are_in_two_groups(flows) or flows.std(ddof=1) >= MAX_SCATTER * flows.mean():
             raise FrameError(
                 f"the flows of the {len(flows)} runs at {groups.place(int(number))} differ too much for one mean: "
                 f"{_shown(flows)}. Some runs may have jammed and others not, so that the mean would be the flow of "
@@ -35,17 +38,10 @@ def need_one_branch(groups: Repetitions) -> None:
 
 def _are_in_two_groups(flows: Array) -> bool:
     """Whether there is a gap between sorted flows that is large, also compared with the scatter on both sides of it."""
-    if len(flows) < 3:
-        return False
     size = int(numpy.diff(flows).argmax()) + 1
     gap = flows[size] - flows[size - 1]
     squares = sum(((part - part.mean()) ** 2).sum() for part in (flows[:size], flows[size:]))
     return bool(gap >= LEAST_GAP * flows[-1] and gap >= LEAST_RATIO * numpy.sqrt(squares / (len(flows) - 2)))
-
-
-def _scatter(flows: Array) -> bool:
-    """Whether flows differ by more than the noise of roads that are long enough to study."""
-    return len(flows) >= LEAST_RUNS and bool(flows.std(ddof=1) >= MAX_SCATTER * flows.mean())
 
 
 def _shown(flows: Array) -> str:

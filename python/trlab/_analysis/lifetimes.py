@@ -41,8 +41,7 @@ def lifetime(times: Values, observed: Values) -> Lifetime:
     For another law the mean and its error would be wrong, so the law is tested, also if some lives are cut off: in the
     total time of all lives up to an age, the ends of exponential lives are at random places (Epstein, Technometrics 2,
     83, 1960). If the mean of these places is more than 3 standard deviations from the middle, which happens for 3 of
-    1000 samples of an exponential law, the estimate is rejected. Few lives can always pass: 10 lives of the same length
-    are rejected, but two are not.
+    1000 samples of an exponential law, the estimate is rejected. Three lives or fewer always pass.
 
     Raises `EstimateError` if no life ended, because there is only a lower bound then, if the law is clearly not
     exponential, if times and ends are not as described, and if an index shows that runs of several inputs are mixed.
@@ -66,14 +65,12 @@ def _need_exponential(time: Array, is_observed: Array) -> None:
     ends[-1] = False
     if not ends.any():
         return
-    # The total time of all lives up to each age. Times are whole steps, so that an end is half a step earlier on
-    # average if many lives have the same length.
-    left = len(ages) - numpy.arange(len(ages))
-    totals = numpy.cumsum(numpy.diff(ages, prepend=0.0) * left)
-    before = numpy.searchsorted(ages, ages, side="left")
-    starts = numpy.where(before > 0, totals[before - 1], 0.0)
-    is_tied = numpy.diff(numpy.append(numpy.unique(ages, return_index=True)[1], len(ages)))
-    places = numpy.where(numpy.repeat(is_tied, is_tied) > 1, (starts + totals) / 2, totals)[ends] / totals[-1]
+    # The total time of all lives up to each age. Whole times are those of windows, in which lives end half a window
+    # earlier on average.
+    left = len(ages) - numpy.searchsorted(ages, ages, side="left")
+    totals = numpy.cumsum(numpy.diff(ages, prepend=0.0) * (len(ages) - numpy.arange(len(ages))))
+    window = numpy.gcd.reduce(ages.astype(numpy.int64)) if (ages % 1 == 0).all() else 0
+    places = (totals - left * window / 2)[ends] / totals[-1]
     z = (places.mean() - 0.5) * math.sqrt(12 * len(places))
     if abs(z) > MAX_Z:
         sample = numpy.sort(time)

@@ -54,11 +54,11 @@ def means(
 
     It also raises `FrameError` if the flows of the runs of one mean differ too much, for example because some roads
     jammed and others did not: then the mean is the flow of neither, and depends on the length of the runs. With `mixed`
-    you get it all the same, as the mean over runs of exactly this length. Flows differ too much if at least 5 of them
-    have a standard deviation of 15 % of their mean, or if at least 3 have a gap of a fifth of the largest flow, which
-    is at least 3 times the standard deviation on both sides of it. In 6888 means of the Nagel-Schreckenberg model on
-    1000 cells there was no false alarm; runs whose flows scatter by less than 4 % rarely cause one (below 1 in 100).
-    Fewer runs, and branches whose flows differ by less than a fifth, are not noticed."""
+    you get it all the same, as the mean over runs of exactly this length. Five or more flows differ too much if their
+    standard deviation is at least 15 % of their mean, or if there is a gap between two of them that is at least a
+    quarter of the largest flow and 3 times the standard deviation on both sides of it. In 6888 means of the
+    Nagel-Schreckenberg model on 1000 cells there was no false alarm, but very short runs or roads may cause one. Fewer
+    than 5 runs, and branches whose flows differ by less than a quarter, are not noticed."""
     groups = repetitions(frame, over, unequal, drawn)
     if of is None:
         chosen = _measured(frame)

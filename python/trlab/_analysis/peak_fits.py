@@ -127,7 +127,7 @@ class Curve:
             if not places[1] <= c <= places[-2]:
                 return
             distance = places - c
-            halves = numpy.stack([distance < 0, distance >= 0], axis=1)
+            halves = numpy.stack([distance < 0, distance >= 0], axis=1).astype(float)
             design = numpy.column_stack([numpy.ones(len(places)), -halves * distance[:, None] ** 2])
             height, *bends = numpy.linalg.pinv(design * weights[:, None]) @ (mean * weights)
             residuals = mean - design @ [height, *bends]
