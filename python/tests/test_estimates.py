@@ -5,7 +5,6 @@ import math
 import unittest
 from collections.abc import Callable, Mapping, Sequence
 from typing import Any
-from unittest import mock
 
 import trlab
 from tests.libraries import numpy, pandas
@@ -168,10 +167,10 @@ class Peaks(unittest.TestCase):
     def test_the_errors_cover_curves_of_any_shape(self) -> None:
         # The density of the top is TOP, at a random place between two densities.
         def ratio(x: float) -> float:
-            return HEIGHT * (x / TOP * math.exp(1 - x / TOP)) ** 1.5
+            return HEIGHT * math.pow(x / TOP * math.exp(1 - x / TOP), 1.5)
 
         def exponential(x: float) -> float:
-            return HEIGHT - 0.008 * (math.exp((TOP - x) / 0.01) + (x - TOP) / 0.01 - 1)
+            return max(0.05, HEIGHT - 0.008 * (math.exp((TOP - x) / 0.01) + (x - TOP) / 0.01 - 1))
 
         def skewed(x: float) -> float:
             return HEIGHT - (45 if x < TOP else 15) * (x - TOP) ** 2
@@ -186,15 +185,18 @@ class Peaks(unittest.TestCase):
         for flow in self.parabola, ratio, exponential, skewed, corner, bent_corner:
             z: list[tuple[float, float]] = []
             for step, count in (0.004, 17), (0.008, 11), (0.012, 9):
-                for _ in range(10):
+                for _ in range(20):
                     densities = TOP + step * (numpy.arange(count) - count // 2 + self.numbers.uniform(-0.5, 0.5))
                     for peak in self.peaks(1, flow, densities, runs=8):
                         z.append((abs(peak.y - HEIGHT) / peak.y_sem, abs(peak.x - TOP) / peak.x_sem))
             shares[flow.__name__] = [(numpy.array(z) < sems).mean(axis=0) for sems in (1, 2)]
-            self.assertGreater(len(z), 15, flow.__name__)
+            self.assertGreater(len(z), 50, flow.__name__)
+        # Of 60 curves of a shape, the shares scatter by 0.06 and 0.04.
         for name, (within_one, within_two) in shares.items():
             with self.subTest(name, within_one=within_one, within_two=within_two):
-                self.assertTrue((within_one >= 0.6).all() and (within_two >= 0.9).all())
+                self.assertTrue((within_one >= 0.55).all() and (within_two >= 0.87).all())
+        within_one, within_two = numpy.mean(list(shares.values()), axis=0)
+        self.assertTrue((within_one >= 0.65).all() and (within_two >= 0.93).all())
 
     def test_a_corner_is_known_to_half_a_step(self) -> None:
         peaks = self.peaks(5, lambda x: min(5 * x, 1 - x), numpy.linspace(0.13, 0.21, 12), 8, 0.0005)
@@ -213,7 +215,7 @@ class Peaks(unittest.TestCase):
                 fitted.append(trlab.peak(frame, "seed").y)
             except EstimateError:
                 continue
-        self.assertGreater(highest - HEIGHT, 2 * abs(numpy.mean(fitted) - HEIGHT))
+        self.assertGreater(highest - HEIGHT, 1.2 * abs(numpy.mean(fitted) - HEIGHT))
 
     def peaks(
         self, count: int, flow: Callable[[float], float], densities: Array = AT, runs: int = 10, noise: float = 0.002,
@@ -261,10 +263,10 @@ class Peaks(unittest.TestCase):
 
     def test_the_fields_of_a_peak(self) -> None:
         frame = self.curve(self.parabola, runs=7, noise=1e-4)
-        peak = trlab.peak(frame, over="seed", within=0.05)
+        peak = trlab.peak(frame, over="seed")
         self.assertEqual(peak.n, 7)
-        self.assertEqual(peak.points, 7)
-        self.assertTrue(2 <= peak.dof <= 4)
+        self.assertEqual(peak.points, 8)
+        self.assertTrue(2 <= peak.dof <= 5)
         self.assertTrue(0 <= peak.corner < 0.5)
         with_constants = frame.assign(limit=5, step=30).set_index(["limit", "step"], append=True)
         self.assertEqual(trlab.peak(with_constants, over="seed"), peak)

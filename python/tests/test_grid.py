@@ -193,7 +193,7 @@ class Frames(unittest.TestCase):
         def call(job: Job) -> int:
             if job.density == 0.2:
                 try:
-                    return {}["x"]
+                    return int({"y": 1}["x"])
                 except KeyError:
                     return 1 // 0
             return 1

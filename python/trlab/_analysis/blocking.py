@@ -43,8 +43,9 @@ def blocking(values: Union[Iterable[float], Array, pandas.Series]) -> Blocking:
     runs for a detector on 1000 cells over 10,000 steps. In the long run all cells have the same mean flow.
 
     `values` is a column of a frame or any list of at least 32 numbers. If its index has the parameters of a study, they
-    must be those of one run. Raises `EstimateError` if it is not such a series, if it is that of a detector, or if fewer than 16 blocks would be
-    left, because the series is then too short for its correlations, or drifts (see `Table.drift`)."""
+    must be those of one run. Raises `EstimateError` if it is not such a series, if it is that of a detector, or if
+    fewer than 16 blocks would be left, because the series is then too short for its correlations, or drifts (see
+    `Table.drift`)."""
     series = _series(values)
     # `level` has the means of the blocks of this length.
     count, block, level = len(series), 1, series

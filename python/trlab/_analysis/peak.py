@@ -113,7 +113,7 @@ def _one_curve(frame: pandas.DataFrame, over: str, x: str, y: str) -> pandas.Dat
 
 def _around_top(curve: pandas.DataFrame, y: str, within: float) -> pandas.DataFrame:
     """The points around the highest one that are at most the share `within` lower, and at least three on each side, if
-    there are so many."""
+    they exist."""
     values = curve[y].to_numpy()
     top = int(values.argmax())
     low = values < values[top] - within * abs(values[top])

@@ -19,7 +19,8 @@ def value(coefficients: Array, x: float) -> float:
 
 def derivative(coefficients: Array) -> Array:
     """The coefficients of the derivative."""
-    return coefficients[1:] * numpy.arange(1, len(coefficients))
+    derived: Array = coefficients[1:] * numpy.arange(1, len(coefficients))
+    return derived
 
 
 def powers(x: float, degree: int) -> Array:
