@@ -5,7 +5,6 @@ import math
 import unittest
 from collections.abc import Callable, Mapping, Sequence
 from typing import Any
-from unittest import mock
 
 import trlab
 from tests.libraries import numpy, pandas
@@ -112,6 +111,8 @@ class Blocking(unittest.TestCase):
         self.assertEqual(trlab.blocking(flow_of_run), trlab.blocking(table))
         self.assertEqual(len(flow.groupby(["density", "seed"]).apply(trlab.blocking)), 4)
         twice, shuffled = pandas.concat([flow_of_run, flow_of_run]), flow_of_run.sample(frac=1, random_state=1)
+        detected = job.detectors(cells=[0], every=50).xs(0, level="lane").flow
+        self.assertRaisesRegex(EstimateError, "detector.*take the whole road", trlab.blocking, detected)
         for part in flow_of_run.drop(400), flow_of_run[::-1], twice, shuffled:
             self.assertRaisesRegex(EstimateError, "gaps", trlab.blocking, part)
         self.assertEqual(trlab.blocking(flow_of_run[50:]), trlab.blocking(list(flow_of_run[50:])))
@@ -156,11 +157,54 @@ class Peaks(unittest.TestCase):
                     continue
                 z.append(((peak.y - HEIGHT) / peak.y_sem, (peak.x - TOP) / peak.x_sem))
             self.assertGreater(len(z), 65)
-            # Normal errors have the mean 0 and the standard deviation 1, and 95 percent of them are below 2.
+            # Normal errors have the mean 0 and the standard deviation 1, and 95 percent of them are below 2. These errors
+            # include the choice of the fit, so they may be larger.
             for deviations in numpy.array(z).T:
                 self.assertGreater((abs(deviations) < 2).mean(), 0.87)
                 self.assertLess(abs(deviations.mean()), 0.4)
-                self.assertLess(abs(deviations.std() - 1), 0.3)
+                self.assertTrue(0.4 < deviations.std() < 1.3)
+
+    def test_the_errors_cover_curves_of_any_shape(self) -> None:
+        # The density of the top is TOP, at a random place between two densities.
+        def ratio(x: float) -> float:
+            return HEIGHT * math.pow(x / TOP * math.exp(1 - x / TOP), 1.5)
+
+        def exponential(x: float) -> float:
+            return max(0.05, HEIGHT - 0.008 * (math.exp((TOP - x) / 0.01) + (x - TOP) / 0.01 - 1))
+
+        def skewed(x: float) -> float:
+            return HEIGHT - (45 if x < TOP else 15) * (x - TOP) ** 2
+
+        def corner(x: float) -> float:
+            return HEIGHT - (4.5 * (TOP - x) if x < TOP else 0.8 * (x - TOP))
+
+        def bent_corner(x: float) -> float:
+            return HEIGHT - (4.5 * (TOP - x) if x < TOP else 0.3 * (x - TOP) + 2 * (x - TOP) ** 2)
+
+        shares = {}
+        for flow in self.parabola, ratio, exponential, skewed, corner, bent_corner:
+            z: list[tuple[float, float]] = []
+            for step, count in (0.004, 17), (0.008, 11), (0.012, 9):
+                for _ in range(20):
+                    densities = TOP + step * (numpy.arange(count) - count // 2 + self.numbers.uniform(-0.5, 0.5))
+                    for peak in self.peaks(1, flow, densities, runs=8):
+                        z.append((abs(peak.y - HEIGHT) / peak.y_sem, abs(peak.x - TOP) / peak.x_sem))
+            shares[flow.__name__] = [(numpy.array(z) < sems).mean(axis=0) for sems in (1, 2)]
+            self.assertGreater(len(z), 50, flow.__name__)
+        # Of 60 curves of a shape, the shares scatter by 0.06 and 0.04.
+        for name, (within_one, within_two) in shares.items():
+            with self.subTest(name, within_one=within_one, within_two=within_two):
+                self.assertTrue((within_one >= 0.55).all() and (within_two >= 0.87).all())
+        within_one, within_two = numpy.mean(list(shares.values()), axis=0)
+        self.assertTrue((within_one >= 0.65).all() and (within_two >= 0.93).all())
+
+    def test_a_corner_is_known_to_half_a_step(self) -> None:
+        peaks = self.peaks(5, lambda x: min(5 * x, 1 - x), numpy.linspace(0.13, 0.21, 12), 8, 0.0005)
+        for peak in peaks:
+            self.assertGreater(peak.corner, 0.9)
+            self.assertLess(abs(peak.x - 1 / 6), peak.x_sem)
+            self.assertLess(abs(peak.y - 5 / 6), 1.5 * peak.y_sem)
+            self.assertTrue(0.5 <= peak.x_sem / (0.08 / 11) < 1)
 
     def test_the_peak_is_nearer_to_the_maximum_than_the_highest_mean(self) -> None:
         frames = [self.curve(self.parabola, runs=5, noise=0.004) for _ in range(40)]
@@ -171,11 +215,11 @@ class Peaks(unittest.TestCase):
                 fitted.append(trlab.peak(frame, "seed").y)
             except EstimateError:
                 continue
-        self.assertGreater(highest - HEIGHT, 2 * abs(numpy.mean(fitted) - HEIGHT))
+        self.assertGreater(highest - HEIGHT, 1.2 * abs(numpy.mean(fitted) - HEIGHT))
 
     def peaks(
         self, count: int, flow: Callable[[float], float], densities: Array = AT, runs: int = 10, noise: float = 0.002,
-        within: float = 0.05,
+        within: float = 0.1,
     ) -> list[Peak]:
         """The peaks of a number of curves, without those that are rejected."""
         peaks = []
@@ -187,8 +231,8 @@ class Peaks(unittest.TestCase):
     def test_chi2_is_about_the_degrees_of_freedom(self) -> None:
         peaks = self.peaks(60, self.parabola, runs=5)
         self.assertGreater(len(peaks), 48)
-        # Less than 1, because the degree is the best of four.
-        self.assertTrue(0.4 < numpy.mean([peak.chi2 / peak.dof for peak in peaks]) < 1.2)
+        # Less than 1, because the fit is the best of many.
+        self.assertTrue(0.2 < numpy.mean([peak.chi2 / peak.dof for peak in peaks]) < 1.2)
 
     def test_a_flat_curve_has_no_peak(self) -> None:
         peaks = self.peaks(40, lambda x: HEIGHT - (x - 0.09) ** 2, runs=5, noise=0.01)
@@ -219,9 +263,11 @@ class Peaks(unittest.TestCase):
 
     def test_the_fields_of_a_peak(self) -> None:
         frame = self.curve(self.parabola, runs=7, noise=1e-4)
-        peak = trlab.peak(frame, over="seed", within=0.05)
+        peak = trlab.peak(frame, over="seed")
         self.assertEqual(peak.n, 7)
-        self.assertEqual(peak.points - peak.degree - 1, peak.dof)
+        self.assertEqual(peak.points, 8)
+        self.assertTrue(2 <= peak.dof <= 5)
+        self.assertTrue(0 <= peak.corner < 0.5)
         with_constants = frame.assign(limit=5, step=30).set_index(["limit", "step"], append=True)
         self.assertEqual(trlab.peak(with_constants, over="seed"), peak)
         scaled = trlab.peak(frame.assign(scaled=frame.flow * 3600), over="seed", y="scaled")
@@ -231,32 +277,43 @@ class Peaks(unittest.TestCase):
         )
 
     def test_a_bad_fit_has_larger_errors(self) -> None:
-        from trlab._analysis.peak import _Fit, _fit as fit
+        from trlab._analysis.peak import _mean_of_fits
+        from trlab._analysis.peak_fits import Fit, Top
 
-        frame = self.curve(self.parabola, runs=7, noise=1e-4)
+        def variances(chi2: float) -> tuple[float, float]:
+            """The variances of the mean of one fit, with 4 degrees of freedom."""
+            top, _, _ = _mean_of_fits([Fit(chi2, 3, 7, 0, Top(0.1, 0.01, 1.0, 0.04), False)])
+            return top.x_variance, top.y_variance
 
-        def errors(ratio: float) -> tuple[float, float]:
-            """The errors of the peak if chi2 is this many times the degrees of freedom."""
+        numpy.testing.assert_allclose(variances(8.0), [0.02, 0.08])
+        numpy.testing.assert_allclose(variances(2.0), [0.01, 0.04])
 
-            def fitted(t: Array, mean: Array, covariance: Array, n: int) -> _Fit:
-                best = fit(t, mean, covariance, n)
-                return best._replace(chi2=ratio * (len(t) - best.degree - 1))
+    def test_the_mean_of_fits(self) -> None:
+        from trlab._analysis.peak import _mean_of_fits
+        from trlab._analysis.peak_fits import Fit, Top
 
-            with mock.patch("trlab._analysis.peak._fit", fitted):
-                peak = trlab.peak(frame, over="seed")
-            return peak.x_sem, peak.y_sem
-
-        # Errors grow with the root of the ratio if it is above 1, and a ratio below 1 does not make them smaller.
-        numpy.testing.assert_allclose(errors(4.0), numpy.multiply(2, errors(0.5)))
+        # The second fit has a parameter more, and the third leaves a point out: both cost exp(-1).
+        tops = [Top(0.0, 0.01, 1.0, 0.0), Top(0.1, 0.01, 2.0, 0.0), Top(0.1, 0.01, 2.0, 0.0)]
+        fits = [Fit(2.0, 3, 8, 0, tops[0], False), Fit(2.0, 4, 8, 0, tops[1], True), Fit(2.0, 3, 7, 1, tops[2], False)]
+        top, best, corner = _mean_of_fits(fits)
+        weight = math.exp(-1) / (1 + 2 * math.exp(-1))
+        self.assertEqual(best, fits[0])
+        self.assertAlmostEqual(corner, weight)
+        self.assertAlmostEqual(top.y, 1 + 2 * weight)
+        self.assertAlmostEqual(top.y_variance, 2 * weight * (1 - 2 * weight))
+        self.assertAlmostEqual(top.x_variance, 0.01 + 0.01 * 2 * weight * (1 - 2 * weight))
+        without_top = [fits[0]._replace(top=None), *fits[1:]]
+        self.assertRaisesRegex(EstimateError, "does not show where", _mean_of_fits, without_top)
+        self.assertRaisesRegex(EstimateError, "no curve fits", _mean_of_fits, [fits[0]._replace(chi2=40.0)])
 
     def test_curves_without_a_peak(self) -> None:
         densities = numpy.linspace(0.13, 0.21, 12)
         for message, frame in (
-            ("kink", self.curve(lambda x: min(5 * x, 1 - x), densities, 8, 0.0005)),
-            ("points are within", self.curve(lambda x: x, densities, 8, 0.0005)),
-            ("points are within", self.curve(lambda x: 1 - x, densities, 8, 0.0005)),
-            ("points are within", self.curve(self.parabola, self.AT[:4])),
-            ("does not fall significantly|kink|points are within", self.curve(lambda x: 0.3, noise=0.001)),
+            ("points are needed", self.curve(lambda x: x, densities, 8, 0.0005)),
+            ("points are needed", self.curve(lambda x: 1 - x, densities, 8, 0.0005)),
+            ("points are needed", self.curve(self.parabola, self.AT[:4])),
+            ("no curve fits", self.curve(lambda x: 0.5 + (abs(x - 0.17) < 0.02) * (0.01 - (x * 1e3 % 2) * 0.001), densities, 8, 0.00002)),
+            ("does not fall significantly|points are needed", self.curve(lambda x: 0.3, noise=0.001)),
             ("at least 5 runs", self.curve(self.parabola, runs=4)),
             ("all equal", self.curve(self.parabola, noise=0.0)),
         ):
@@ -283,6 +340,32 @@ class Peaks(unittest.TestCase):
 
 
 class Lifetimes(unittest.TestCase):
+    def test_a_law_that_is_not_exponential(self) -> None:
+        numbers = numpy.random.default_rng(1)
+        exponential = numbers.exponential(100, size=(400, 30))
+        for cut in math.inf, 70:
+            rejected = 0
+            for times in exponential:
+                try:
+                    trlab.lifetime(numpy.minimum(times, cut), times <= cut)
+                except EstimateError:
+                    rejected += 1
+            # 3 of 1000 are expected.
+            self.assertLess(rejected, 6)
+            for message, times in ("too many are short", exponential**2), ("too few are short", 200 + exponential):
+                for lives in times[:5].reshape(5, -1):
+                    many = numpy.concatenate([lives] * 4)
+                    end = cut * (200 if message == "too many are short" else 5)
+                    self.assertRaisesRegex(
+                        EstimateError, f"not exponential.*{message}", trlab.lifetime, numpy.minimum(many, end), many <= end
+                    )
+
+    def test_lives_of_nearly_equal_length(self) -> None:
+        self.assertEqual(trlab.lifetime([100, 103], [True, True]).mean, 101.5)
+        self.assertRaisesRegex(EstimateError, "too few are short", trlab.lifetime, range(100, 110), 10 * [True])
+        # All of these ended in the first window, whose length is not known.
+        self.assertEqual(trlab.lifetime(10 * [7], 10 * [True]).mean, 7)
+
     def test_the_formula(self) -> None:
         estimate = trlab.lifetime([3, 5, 2, 10], [True, True, False, False])
         self.assertEqual(estimate, trlab.Lifetime(mean=10.0, sem=10 / math.sqrt(2), observed=2, censored=2))

@@ -1,5 +1,6 @@
 """Means against plain Python: they are equal, or there is an error."""
 import contextlib
+import functools
 import io
 import math
 import os
@@ -61,6 +62,10 @@ def at_random(frame: pandas.DataFrame, order: random.Random) -> pandas.DataFrame
     return frame.iloc[rows]
 
 
+means_of_all = functools.partial(trlab.means, mixed=True)
+"""Means of the runs of random studies, which are so short that their flows may differ by any amount."""
+
+
 class Defects:
     """Wrong calls for the runs of a study, in some of which one row is wrong: each call by its name, and whether it is
     harmless."""
@@ -77,7 +82,7 @@ class Defects:
 
     def with_row(self, column: str, wrong: object, right: object) -> pandas.DataFrame:
         """The means of runs of which one has a wrong value."""
-        return trlab.means(self.runs.assign(**{column: self.in_row(wrong, right)}), "seed")
+        return means_of_all(self.runs.assign(**{column: self.in_row(wrong, right)}), "seed")
 
     def all(self) -> dict[str, Call]:
         return {**self.of_calls(), **self.of_values(), **self.of_columns(), **self.of_rows(), **self.of_parameters()}
@@ -86,17 +91,17 @@ class Defects:
         """Means over wrong rows or levels."""
         frame, runs = self.frame, self.runs
         return {
-            "windows": (lambda: trlab.means(frame.droplevel("step"), "seed"), len(frame) == len(runs)),
-            "over windows": (lambda: trlab.means(frame, ["seed", "step"]), False),
+            "windows": (lambda: means_of_all(frame.droplevel("step"), "seed"), len(frame) == len(runs)),
+            "over windows": (lambda: means_of_all(frame, ["seed", "step"]), False),
             "windows per run twice": (lambda: trlab.per_run(runs), False),
             "a window twice": (lambda: trlab.per_run(pandas.concat([frame, frame.iloc[[self.row]]])), False),
-            "means of means": (lambda: trlab.means(trlab.means(runs, "seed"), self.level), False),
-            "means without n": (lambda: trlab.means(trlab.means(runs, "seed")[["flow"]], self.level), False),
-            "means with runs": (lambda: trlab.means(pandas.concat([runs, trlab.means(runs, "seed")]), "seed"), False),
-            "means of pandas": (lambda: trlab.means(runs.groupby("seed").mean(numeric_only=True), "seed"), False),
-            "no index": (lambda: trlab.means(runs.reset_index(), "seed"), False),
-            "no such level": (lambda: trlab.means(runs, "sed"), False),
-            "no such column": (lambda: trlab.means(runs, "seed", of=["flw"]), False),
+            "means of means": (lambda: means_of_all(means_of_all(runs, "seed"), self.level), False),
+            "means without n": (lambda: means_of_all(means_of_all(runs, "seed")[["flow"]], self.level), False),
+            "means with runs": (lambda: means_of_all(pandas.concat([runs, means_of_all(runs, "seed")]), "seed"), False),
+            "means of pandas": (lambda: means_of_all(runs.groupby("seed").mean(numeric_only=True), "seed"), False),
+            "no index": (lambda: means_of_all(runs.reset_index(), "seed"), False),
+            "no such level": (lambda: means_of_all(runs, "sed"), False),
+            "no such column": (lambda: means_of_all(runs, "seed", of=["flw"]), False),
         }
 
     def of_values(self) -> dict[str, Call]:
@@ -105,14 +110,14 @@ class Defects:
         flows = runs.flow.where(numpy.arange(len(runs)) != self.row)
         return {
             "a text": (lambda: self.with_row("x", "a", 1), self.is_one),
-            "a complex number": (lambda: trlab.means(runs.assign(x=1j), "seed"), False),
+            "a complex number": (lambda: means_of_all(runs.assign(x=1j), "seed"), False),
             "a list": (lambda: self.with_row("x", [1], 1), False),
-            "NaN": (lambda: trlab.means(runs.assign(flow=flows), "seed"), False),
+            "NaN": (lambda: means_of_all(runs.assign(flow=flows), "seed"), False),
             "NaN of a speed": (lambda: self.with_row("speed", numpy.nan, 1), False),
-            "infinite": (lambda: trlab.means(runs.assign(speed=numpy.inf), "seed"), False),
+            "infinite": (lambda: means_of_all(runs.assign(speed=numpy.inf), "seed"), False),
             "None": (lambda: self.with_row("x", None, 1), False),
             "NA": (
-                lambda: trlab.means(runs.assign(x=pandas.array(self.in_row(pandas.NA, 1), dtype="Int64")), "seed"), False
+                lambda: means_of_all(runs.assign(x=pandas.array(self.in_row(pandas.NA, 1), dtype="Int64")), "seed"), False
             ),
         }
 
@@ -120,12 +125,12 @@ class Defects:
         """Columns that identify a run, and columns that means would replace."""
         runs = self.runs
         return {
-            "same keys": (lambda: trlab.means(runs.assign(key="0" * 64), "seed"), self.is_one_seed),
+            "same keys": (lambda: means_of_all(runs.assign(key="0" * 64), "seed"), self.is_one_seed),
             "no key": (lambda: self.with_row("key", None, "0" * 64), False),
-            "keys as numbers": (lambda: trlab.means(runs.assign(key=range(len(runs))), "seed"), False),
+            "keys as numbers": (lambda: means_of_all(runs.assign(key=range(len(runs))), "seed"), False),
             "no road": (lambda: self.with_row("road", None, 0), False),
-            "own sem": (lambda: trlab.means(runs.assign(flow_sem=0.0), "seed"), False),
-            "own n": (lambda: trlab.means(runs.assign(n=7), "seed"), False),
+            "own sem": (lambda: means_of_all(runs.assign(flow_sem=0.0), "seed"), False),
+            "own n": (lambda: means_of_all(runs.assign(n=7), "seed"), False),
             "other length": (lambda: self.with_row("steps", 1, 2), self.is_one_seed),
             "other cars": (lambda: self.with_row("cars", 1, 2), self.is_one_seed),
         }
@@ -136,11 +141,11 @@ class Defects:
         is_group_lost = self.is_one_seed and not self.is_one
         return {
             "missing run": (
-                lambda: trlab.means(runs.iloc[others], "seed"), is_group_lost or len(runs) == self.study.seeds > 1
+                lambda: means_of_all(runs.iloc[others], "seed"), is_group_lost or len(runs) == self.study.seeds > 1
             ),
-            "doubled": (lambda: trlab.means(pandas.concat([runs, runs.iloc[[self.row]]]), "seed"), False),
+            "doubled": (lambda: means_of_all(pandas.concat([runs, runs.iloc[[self.row]]]), "seed"), False),
             "doubled under another name": (
-                lambda: trlab.means(pandas.concat({"a": runs, "b": runs}, names=["of"]), ["of", "seed"]), False
+                lambda: means_of_all(pandas.concat({"a": runs, "b": runs}, names=["of"]), ["of", "seed"]), False
             ),
         }
 
@@ -152,10 +157,10 @@ class Defects:
         levels = [*group, "seed"][1:] or ["seed"]
         renumbered = runs.assign(run=range(len(runs))).set_index("run")
         return {
-            "forgotten parameter": (lambda: trlab.means(runs.reset_index().set_index(levels), "seed"), is_harmless),
-            "dropped parameter": (lambda: trlab.means(without_first, "seed", unequal=True), is_harmless),
-            "a parameter is not a repetition": (lambda: trlab.means(runs, over=group[:1] + ["seed"]), is_harmless),
-            "renumbered": (lambda: trlab.means(renumbered, "run"), len(runs) == self.study.seeds),
+            "forgotten parameter": (lambda: means_of_all(runs.reset_index().set_index(levels), "seed"), is_harmless),
+            "dropped parameter": (lambda: means_of_all(without_first, "seed", unequal=True), is_harmless),
+            "a parameter is not a repetition": (lambda: means_of_all(runs, over=group[:1] + ["seed"]), is_harmless),
+            "renumbered": (lambda: means_of_all(renumbered, "run"), len(runs) == self.study.seeds),
         }
 
 
@@ -172,13 +177,13 @@ class Means(unittest.TestCase):
     @given(studies(), st.randoms())
     def test_equal_plain_python_in_any_order(self, study: Study, order: random.Random) -> None:
         runs = trlab.per_run(at_random(study.frame, order))
-        self.same(as_dict(trlab.means(at_random(runs, order), over="seed")), study.expected())
+        self.same(as_dict(means_of_all(at_random(runs, order), over="seed")), study.expected())
 
     @MANY
     @given(studies(), st.randoms())
     def test_equal_plain_pandas(self, study: Study, order: random.Random) -> None:
         runs = at_random(trlab.per_run(study.frame), order)
-        means = trlab.means(runs, over="seed", of=["speed", "stopped", "windows"])
+        means = means_of_all(runs, over="seed", of=["speed", "stopped", "windows"])
         groups = runs.groupby(study.names) if study.names else runs.groupby(lambda _: 0)
         for name in "speed", "stopped", "windows":
             mean, sem = groups[name].mean(), groups[name].sem()
@@ -197,7 +202,7 @@ class Means(unittest.TestCase):
         sizes = set(rest.groupby(study.names).size()) if study.names else {len(rest)}
         if len(sizes) > 1:
             self.assertRaisesRegex(FrameError, "groups have", trlab.means, rest, "seed")
-        means = trlab.means(rest, over="seed", of="flow", unequal=True)
+        means = means_of_all(rest, over="seed", of="flow", unequal=True)
         for place, (n, mean, sem) in as_dict(means).items():
             flows = [row.flow for choice, row in rest.iterrows() if not study.names or choice[:-1] == place]
             self.assertEqual(n, len(flows))
@@ -331,6 +336,22 @@ class Misreadings(unittest.TestCase):
         self.assertEqual(round(means.flow_sem, 12), round(statistics.stdev(flows) / 2, 12))
         by_window = trlab.means(frame, "seed")
         self.assertRaisesRegex(FrameError, "are they means already", trlab.means, by_window, "step")
+
+    def test_runs_of_two_branches(self) -> None:
+        frame = trlab.per_run(self.frame(seed=range(10)))
+        for flows in [0.8, 0.4, *8 * [0.2]], [0.8, *9 * [0.21]], [0.2, 0.3, 0.4, 0.5, 0.6, 0.7, 0.75, 0.8, 0.8, 0.8]:
+            mixed = frame.assign(flow=flows).drop(columns=["distance"])
+            self.assertRaisesRegex(FrameError, "differ too much for one mean: 0.2.*mixed=True", trlab.means, mixed, "seed")
+            self.assertAlmostEqual(trlab.means(mixed, "seed", of="flow", mixed=True).flow.iloc[0], sum(flows) / 10)
+        for flows in 10 * [0.0], 10 * [0.2], [0.5, *9 * [0.45]], [0.3, 0.31, 0.32, 0.33, 0.34, 0.35, 0.36, 0.37, 0.38, 0.39]:
+            one = frame.assign(flow=flows).drop(columns=["distance"])
+            self.assertAlmostEqual(trlab.means(one, "seed", of="flow").flow.iloc[0], sum(flows) / 10)
+
+    def test_normal_flows_are_one_branch(self) -> None:
+        frame = trlab.per_run(self.frame(seed=range(8)))
+        noise = numpy.random.default_rng(1).normal(size=(300, 8))
+        for flows in 0.5 + 0.02 * noise:
+            trlab.means(frame.assign(flow=flows), "seed", of="flow")
 
     def test_columns_of_a_result_are_not_replaced(self) -> None:
         frame = self.frame(lambda job: {"count": 7, "x": 1.0, "x_sem": 0.001})

@@ -4,6 +4,7 @@ import math
 import os
 import pickle
 import tempfile
+import traceback
 import unittest
 from collections.abc import Callable
 from fractions import Fraction
@@ -188,6 +189,28 @@ class Inputs(unittest.TestCase):
 
 @needs("pandas")
 class Frames(unittest.TestCase):
+    def test_an_error_says_which_choice_failed(self) -> None:
+        def call(job: Job) -> int:
+            if job.density == 0.2:
+                try:
+                    return int({"y": 1}["x"])
+                except KeyError:
+                    return 1 // 0
+            return 1
+
+        grid = Grid(job, p=[0.25], density=[0.1, 0.2], seed=[0])
+        with self.assertRaises(ZeroDivisionError) as caught:
+            grid.run(call=call)
+        text = "".join(traceback.format_exception(None, caught.exception, None))
+        self.assertRegex(text, r"failed for the input Choice\(p=0.25, density=0.2, seed=0\)(.|\n)*KeyError(.|\n)*ZeroDivision")
+
+        def make(density: float, key: int) -> Job:
+            return Job(limit=5, length=50, density=density, rule=Nasch(3 * density), steps=5, key=key)
+
+        with self.assertRaisesRegex(ParameterError, "between 0 and 1, not 1.5") as wrong:
+            Grid(make, density=[0.1, 0.5])
+        self.assertEqual(str(wrong.exception.__cause__), "`make` failed for Choice(density=0.5)")
+
     def test_a_row_for_each_job(self) -> None:
         frame = Grid(job, **JOBS).run(call=last)
         self.assertEqual(list(frame)[:4], ["flow", "speed", "stopped_share", "change_rate"])

@@ -375,6 +375,15 @@ class Idioms(unittest.TestCase):
 
 
 class Errors(unittest.TestCase):
+    def test_the_budget_of_a_function_that_was_not_called(self) -> None:
+        (rule,) = rules_in("@trlab.motion\ndef keep(car, g=1):\n    return min(car.limit, max(car.gap - g, 0))\n").values()
+        rule_as_any: Any = rule
+        for name in "budget", "words":
+            with self.assertRaisesRegex(AttributeError, rf"write `keep\(\).{name}`"):
+                getattr(rule_as_any, name)
+            self.assertTrue(hasattr(rule_as_any(), name))
+        self.assertRaisesRegex(AttributeError, "a motion rule has no 'budgets'", getattr, rule_as_any, "budgets")
+
     def message_of(self, body: str, kind: str = "motion", **parameters: object) -> str:
         """The error of a function with these lines."""
         with self.assertRaises(RuleError) as caught:

@@ -9,6 +9,19 @@ class TrlabError(Exception):
     """The base class of all errors of trlab."""
 
 
+def set_first_cause(error: BaseException, text: str) -> None:
+    """Make `text` the first cause in the chain of exceptions that Python prints before `error`, which keeps its type, its
+    message and its chain. (Notes of exceptions need Python 3.11.)"""
+    seen = {id(error)}
+    while True:
+        before = error.__cause__ or (None if error.__suppress_context__ else error.__context__)
+        if before is None or id(before) in seen:
+            error.__cause__ = TrlabError(text)
+            return
+        seen.add(id(before))
+        error = before
+
+
 class TrlabWarning(UserWarning):
     """An input that is valid, but may not do what you want. The message describes its effect, and how to change it."""
 

@@ -69,7 +69,7 @@ def maximum(name, frame):
     """A row of the page: the largest mean, and the peak of the curve through the means near it."""
     found = means(frame, "density")
     density = found.flow.idxmax()
-    peak = trlab.peak(frame.set_index(["density", "input"]), over="input", within=0.02)
+    peak = trlab.peak(frame.set_index(["density", "input"]), over="input")
     return (f"| {name} | {found.flow[density]:.5f} ± {found.flow_sem[density]:.5f} | {density} "
             f"| {peak.y:.5f} ± {peak.y_sem:.5f} | {peak.x:.4f} ± {peak.x_sem:.4f} |")
 

@@ -19,7 +19,7 @@ def make(length, warm, seed, key):
 
 grid = Grid(make, length=[2000, 4000, 10000], warm=[10000], seed=range(16))
 runs = grid.run(cache=HERE / "cache", progress=True).droplevel("warm")
-peaks = {length: trlab.peak(curve.droplevel("length"), over="seed", within=0.03)
+peaks = {length: trlab.peak(curve.droplevel("length"), over="seed")
          for length, curve in runs.groupby(level="length")}
 peaks = pandas.DataFrame(peaks.values(), index=pandas.Index(peaks, name="length"))
 

@@ -19,11 +19,11 @@ def measured(job):
     """The measurements of the second half of a run: a column for each name."""
     snapshots = job.run(first=1000)
     trajectories = snapshots.trajectories()
-    jams = [jam for jam in trajectories.jams() if not jam.is_older]
+    jams = trajectories.jams()
     return {
         "gap": trajectories.gaps().mean(), "space_headway": trajectories.space_headways().mean(),
         "time_headway": trlab.passings(snapshots, cells=[500]).time_headway.mean(),
-        "jams": len(jams), "jam_lifetime": trlab.lifetime([jam.lifetime for jam in jams], [not jam.is_censored for jam in jams]).mean,
+        "jams": len(jams), "jam_lifetime": sum(jam.lifetime for jam in jams) / sum(not jam.is_censored for jam in jams),
     }
 
 

@@ -15,7 +15,7 @@ NASCH = (HERE.parents[1] / "examples" / "nasch.rule").read_text()  # p = 1/2
 def return_to_lane_0(car):
     wanted = car.speed + 1
     wants = car.lane == 1 or car.gap < wanted  # on lane 0 only if the car is hindered
-    return car.side and wants and car.sidegap >= wanted and car.sideback >= car.limit
+    return car.side and wants and car.sidegap > wanted and car.sideback > car.limit
 
 
 RULES = {"both lanes alike": Rickert("1/2", 1), "return to lane 0": Own(NASCH, return_to_lane_0)}

@@ -38,9 +38,14 @@ def blocking(values: Union[Iterable[float], Array, pandas.Series]) -> Blocking:
     blocks are powers of 2. Values that do not fill a block are left out of the error, never out of the mean. The error
     of a series of equal values is 0.
 
+    Take the whole road, as here, and not a detector. On a ring the same jams pass a detector again in each lap, so that
+    its counts over long times scatter less than blocks show, and the error would be too large: twice the scatter of
+    runs for a detector on 1000 cells over 10,000 steps. In the long run all cells have the same mean flow.
+
     `values` is a column of a frame or any list of at least 32 numbers. If its index has the parameters of a study, they
-    must be those of one run. Raises `EstimateError` if it is not such a series, or if fewer than 16 blocks would be
-    left, because the series is then too short for its correlations, or drifts (see `Table.drift`)."""
+    must be those of one run. Raises `EstimateError` if it is not such a series, if it is that of a detector, or if
+    fewer than 16 blocks would be left, because the series is then too short for its correlations, or drifts (see
+    `Table.drift`)."""
     series = _series(values)
     # `level` has the means of the blocks of this length.
     count, block, level = len(series), 1, series
@@ -78,6 +83,12 @@ def _series(values: Union[Iterable[float], Array, pandas.Series]) -> Array:
 def _need_one_run(values: pandas.Series) -> None:
     """Raises `EstimateError` if the index of a series shows that it is not one run from beginning to end."""
     levels = list(values.index.names)
+    if "cell" in levels:
+        raise EstimateError(
+            "on a ring the same jams pass a detector again in each lap, so that the error from blocks would be too "
+            "large: take the whole road, for example `job.series(every=10, first=1000).to_pandas().flow`, or repeat the "
+            "run, and take `means` over the runs"
+        )
     step = "step" if "step" in levels else levels[-1]
     various = [name for name in various_levels(values) if name not in (step, 0)]
     if various:

@@ -4,6 +4,7 @@ from __future__ import annotations
 from collections.abc import Sequence
 from typing import Union
 
+from .branches import need_one_branch
 from .columns import COUNTS, DERIVED, IDENTITY, LANE_SUMS, Array, derived, strange_value
 from .required import numpy, pandas
 from .repetitions import Repetitions, grouped, need_runs, numbers, repetitions
@@ -29,6 +30,7 @@ def means(
     of: Union[None, str, Sequence[str]] = None,
     unequal: bool = False,
     drawn: bool = False,
+    mixed: bool = False,
 ) -> pandas.DataFrame:
     """The means over independent repetitions, for example `means(frame, over="seed")`.
 
@@ -48,7 +50,15 @@ def means(
     Raises `FrameError` if the result would not be such a mean: for a frame of means, for several windows of one run
     (see `per_run` and `blocking`), for runs with the same key or of different inputs, for missing values, for times
     that are censored (see `lifetime`), for groups of different size unless `unequal`, and for different roads that you
-    gave cell by cell, unless you confirm with `drawn` that you drew them at random."""
+    gave cell by cell, unless you confirm with `drawn` that you drew them at random.
+
+    It also raises `FrameError` if the flows of the runs of one mean differ too much, for example because some roads
+    jammed and others did not: then the mean is the flow of neither, and depends on the length of the runs. With `mixed`
+    you get it all the same, as the mean over runs of exactly this length. Five or more flows differ too much if their
+    standard deviation is at least 15 % of their mean, or if there is a gap between two of them that is at least a
+    quarter of the largest flow and 3 times the standard deviation on both sides of it. In 6888 means of the
+    Nagel-Schreckenberg model on 1000 cells there was no false alarm, but very short runs or roads may cause one. Fewer
+    than 5 runs, and branches whose flows differ by less than a quarter, are not noticed."""
     groups = repetitions(frame, over, unequal, drawn)
     if of is None:
         chosen = _measured(frame)
@@ -56,6 +66,8 @@ def means(
         chosen = [of] if isinstance(of, str) else list(of)
     _check_columns(frame, chosen)
     _need_ends(frame, chosen)
+    if not mixed:
+        need_one_branch(groups)
     columns: dict[str, Array] = {}
     for name in "density", "requested_density":
         if name in frame and name not in chosen:

@@ -2,32 +2,41 @@
 from __future__ import annotations
 
 import math
-from typing import Any, NamedTuple
+from collections.abc import Sequence
+from typing import NamedTuple
 
 from .columns import RUN, Array
-from .required import numpy, pandas
 from .means import means
+from .peak_fits import LEAST_POINTS, Curve, Fit, Top
 from .repetitions import numbers, repetitions
+from .required import numpy, pandas
 from .._errors import EstimateError
 
-LEAST_RUNS, LEAST_POINTS, MAX_DEGREE = 5, 5, 5
+LEAST_RUNS = 5
+
+LEAST_NEIGHBOURS = 3
+"""The points on each side of the highest one that fits may use, however low they are."""
 
 SIGNIFICANT = 3
 """How much the curve must fall on both sides, in standard errors, because a flat curve has a highest point too."""
 
-MAX_X_SEM = 0.5
-"""A maximum whose standard error is larger than a quarter of the width of the fit, from -1 to 1, is not a peak."""
+MAX_X_SEM = 0.25
+"""A maximum whose standard error is a larger share of the range of the fits is not a peak."""
+
+LEAST_WEIGHT = 0.5
+"""The least weight of the fits that have a maximum inside."""
 
 _FLAT = (
-    "the curve does not fall significantly on both sides of its highest point: take more runs, or points farther from "
-    "the peak, or a larger `within`"
+    "the curve does not show where its maximum is, because it does not fall significantly on both sides of its highest "
+    "point: take more runs, or points farther from the peak"
 )
 
 
 class Peak(NamedTuple):
-    """The maximum `y` of a curve at `x`, with the standard errors `y_sem` and `x_sem`, in the units of the
-    columns. It is from at least `n` runs at each of `points` points, to whose means a polynomial of `degree` was fitted
-    with `chi2`, for `dof` degrees of freedom."""
+    """The maximum `y` of a curve at `x`, with the standard errors `y_sem` and `x_sem`, in the units of the columns.
+
+    It is a mean over many fits, to at most `points` points with at least `n` runs each. `corner`, 0 to 1, is the weight
+    of those fits whose maximum is a corner. `chi2`, for `dof` degrees of freedom, is that of the best fit."""
 
     x: float
     x_sem: float
@@ -35,49 +44,51 @@ class Peak(NamedTuple):
     y_sem: float
     n: int
     points: int
-    degree: int
+    corner: float
     chi2: float
     dof: int
 
 
-def peak(frame: pandas.DataFrame, over: str, x: str = "density", y: str = "flow", within: float = 0.05) -> Peak:
+def peak(frame: pandas.DataFrame, over: str, x: str = "density", y: str = "flow", within: float = 0.1) -> Peak:
     """The peak of a curve of `y` against the parameter `x`, from runs that are repeated over `over`:
 
         trlab.peak(frame.xs(0.25, level="p"), over="seed")
 
-    The largest of several noisy means is usually too high. So a polynomial is fitted, by least squares, to the means
-    next to the highest one that are lower by at most the share `within`, and its maximum is returned. The degree, 2 to
-    5, is that with the smallest chi2 + 2 degree (Akaike, IEEE Trans. Autom. Control 19, 716, 1974).
+    The largest of several noisy means is usually too high. So curves are fitted to the means around the highest one:
+    polynomials of degree 2 to 4, and two lines or parabolas that meet in a corner between two neighbouring points, each
+    to all these means and again without the lowest ones. The result is the mean of the maxima of all fits, with the
+    weights exp(-AIC / 2). The criterion AIC is chi2 + 2 (parameters + points left out) (W. I. Jay and E. T. Neil, Phys.
+    Rev. D 103, 114502, 2021), so that fits to few points, or with many parameters, have little weight. Each fit has at
+    least two degrees of freedom. `within` limits the fits to points that are lower by at most this share, but to no
+    fewer than three on each side.
 
-    `y_sem` and `x_sem` are one standard error: the covariance of the means, from the scatter of the n runs (with n -
-    1), is propagated to first order, also if runs share keys between points, which correlates their means. The errors
-    do not include the choice of `within`: results for different values scatter by about as much, so you should try
-    several. `chi2` is scaled for the uncertainty of errors from n runs, so that it is about `dof` or less. If it is
-    more, the polynomial fits badly, and both errors are multiplied by the square root of chi2 / dof.
+    `x_sem` and `y_sem` are one standard error, from three sources: the scatter of the runs, propagated to first order,
+    also if runs share keys between points; the scatter of the maxima of the different fits; and, if the maximum is a
+    corner, half the distance of the two points between which it is, because the corner may be round there. So if
+    `corner` is near 1, a longer run will not reduce `x_sem` below half a step, and closer points will. If a fit is bad,
+    its errors are multiplied by the square root of chi2 / dof. In tests with smooth curves, corners and simulations,
+    with steps from fine to coarse, the true value was within one standard error in more than 60 % of the cases, and
+    within two in more than 90 %.
 
     Raises `EstimateError` if there are fewer than 5 runs at a point or fewer than 5 points, if the peak is at an end of
-    the curve, if no such polynomial fits because the curve has a kink (take points closer to the peak, and a smaller
-    `within`), and if the curve does not fall by 3 standard errors on both sides, as on a plateau: either the polynomial
-    or the next point beyond those that it fits must be lower than the peak by as much. Raises `FrameError` as `means`
-    does."""
+    the curve, if no curve fits, if the fits do not agree that there is a maximum inside, if `x_sem` is more than a
+    quarter of the range of the fits, and if the curve does not fall by 3 standard errors on both sides, as on a
+    plateau. Raises `FrameError` as `means` does."""
     if isinstance(within, bool) or not 0 < within < 1:
         raise EstimateError(f"`within` is a share between 0 and 1, not {within!r}")
     runs = _one_curve(frame, over, x, y)
     curve = means(runs, over=over, of=[y]).sort_index()
-    part = _top(curve, y, within)
+    part = _around_top(curve, y, within)
     places = part.index.to_numpy(dtype=float)
     middle, width = (places[0] + places[-1]) / 2, (places[-1] - places[0]) / 2
     n, covariance = int(part["n"].min()), _covariance(runs, over, x, y, part)
-    # The places of the fit are from -1 to 1.
-    fit = _fit((places - middle) / width, part[y].to_numpy(), covariance, n)
-    dof = len(part) - fit.degree - 1
-    scatter = max(1.0, fit.chi2 / dof)
-    coefficients = fit.solve @ part[y].to_numpy()
-    covariance_of_fit = scatter * (fit.solve @ covariance @ fit.solve.T)
-    top = _maximum(coefficients, covariance_of_fit, _has_fallen(curve, part, y))
+    # The places of the fits are from -1 to 1.
+    fits = Curve((places - middle) / width, part[y].to_numpy(), covariance, n).fits()
+    top, best, corner = _mean_of_fits(fits)
+    _need_fall(curve, y, part[y].idxmax(), top)
     return Peak(
-        x=middle + top.x * width, x_sem=top.x_sem * width, y=top.y, y_sem=top.y_sem, n=n, points=len(part),
-        degree=fit.degree, chi2=fit.chi2, dof=dof,
+        x=middle + top.x * width, x_sem=math.sqrt(top.x_variance) * width, y=top.y, y_sem=math.sqrt(top.y_variance),
+        n=n, points=len(part), corner=corner, chi2=best.chi2, dof=best.freedom,
     )
 
 
@@ -100,19 +111,20 @@ def _one_curve(frame: pandas.DataFrame, over: str, x: str, y: str) -> pandas.Dat
     return frame.droplevel(others)
 
 
-def _top(curve: pandas.DataFrame, y: str, within: float) -> pandas.DataFrame:
-    """The points next to the highest one that are at most the share `within` lower."""
+def _around_top(curve: pandas.DataFrame, y: str, within: float) -> pandas.DataFrame:
+    """The points around the highest one that are at most the share `within` lower, and at least three on each side, if
+    they exist."""
     values = curve[y].to_numpy()
     top = int(values.argmax())
     low = values < values[top] - within * abs(values[top])
     before, after = numpy.flatnonzero(low[:top]), numpy.flatnonzero(low[top:])
     first = before[-1] + 1 if len(before) else 0
     end = top + after[0] if len(after) else len(values)
-    part = curve.iloc[first:end]
+    part = curve.iloc[max(0, min(first, top - LEAST_NEIGHBOURS)):max(end, top + 1 + LEAST_NEIGHBOURS)]
     if not 0 < top < len(values) - 1 or len(part) < LEAST_POINTS:
         raise EstimateError(
-            f"{len(part)} of {len(values)} points are within {within:g} of the highest one, which is point {top + 1} "
-            f"at {curve.index[top]:g}: at least {LEAST_POINTS} are needed, on both sides of it"
+            f"the highest of {len(values)} points is point {top + 1}, at {curve.index[top]:g}: at least {LEAST_POINTS} "
+            "points are needed, on both sides of it"
         )
     if part["n"].min() < LEAST_RUNS:
         raise EstimateError(f"`peak` needs at least {LEAST_RUNS} runs at each point, and there are {part['n'].min()}")
@@ -137,78 +149,38 @@ def _covariance(runs: pandas.DataFrame, over: str, x: str, y: str, part: pandas.
     return numpy.atleast_2d(numpy.cov(by_key.to_numpy().T)) / len(by_key)
 
 
-class _Fit(NamedTuple):
-    """The degree of a polynomial, its chi2, and the matrix that gives its coefficients from the means."""
-
-    degree: int
-    chi2: float
-    solve: Array
-
-
-def _fit(places: Array, mean: Array, covariance: Array, n: int) -> _Fit:
-    """The best polynomial through the means of n runs at these places."""
-    # With few runs the errors are uncertain too: the mean of Student's t**2 is (n - 1) / (n - 3) for n - 1 degrees of
-    # freedom.
-    scale = (n - 3) / (n - 1)
-    fits = []
-    for degree in range(2, min(MAX_DEGREE, len(places) - 2) + 1):
-        design = numpy.vander(places, degree + 1, increasing=True)
-        solve = numpy.linalg.pinv(design)
-        chi2 = float(((mean - design @ (solve @ mean)) ** 2 / numpy.diag(covariance)).sum()) * scale
-        fits.append(_Fit(degree, chi2, solve))
-    best = min(fits, key=lambda fit: fit.chi2 + 2 * fit.degree)
-    dof = len(places) - best.degree - 1
+def _mean_of_fits(fits: Sequence[Fit]) -> tuple[Top, Fit, float]:
+    """The mean of the maxima of the fits with its variances, the best fit, and the weight of corners. Raises
+    `EstimateError` if there is no such mean."""
+    criteria = numpy.array([fit.criterion for fit in fits])
+    weights = numpy.exp((criteria.min() - criteria) / 2)
     # The mean of chi2 is dof, and its standard deviation sqrt(2 dof).
-    if best.chi2 > dof + 3 * math.sqrt(2 * dof):
+    best = fits[int(criteria.argmin())]
+    if best.chi2 > best.freedom + 3 * math.sqrt(2 * best.freedom):
         raise EstimateError(
-            f"no polynomial fits (chi2 {best.chi2:.0f} for {dof} degrees of freedom): the curve has a kink. Take "
-            "points closer to the peak, and a smaller `within`"
+            f"no curve fits the means around the highest one (chi2 {best.chi2:.0f} for {best.freedom} degrees of "
+            "freedom): take points closer to the peak, or a smaller `within`"
         )
-    return best
-
-
-def _has_fallen(curve: pandas.DataFrame, part: pandas.DataFrame, y: str) -> tuple[bool, bool]:
-    """Whether the next point below, and the next one above, those of the fit is significantly lower than the highest
-    one."""
-    values, errors = curve[y].to_numpy(), curve[f"{y}_sem"].to_numpy()
-    first = curve.index.get_loc(part.index[0])
-    top = first + int(part[y].to_numpy().argmax())
-
-    def is_lower(at: int) -> bool:
-        """Whether the point with this number is there, and significantly lower than the highest one."""
-        if not 0 <= at < len(curve):
-            return False
-        return bool(values[top] - values[at] >= SIGNIFICANT * math.hypot(errors[top], errors[at]))
-
-    return is_lower(first - 1), is_lower(first + len(part))
-
-
-class _Maximum(NamedTuple):
-    """The maximum `y` of a polynomial at `x`, with standard errors."""
-
-    x: float
-    x_sem: float
-    y: float
-    y_sem: float
-
-
-def _maximum(coefficients: Array, covariance: Array, has_fallen: tuple[bool, bool]) -> _Maximum:
-    """The maximum of a polynomial between -1 and 1. On a side where the curve has not fallen beyond the fit, the
-    polynomial itself has to fall significantly."""
-    fitted: Any = numpy.polynomial.Polynomial(coefficients)
-    slope, bend = fitted.deriv(), fitted.deriv(2)
-    roots = [float(root.real) for root in slope.roots() if abs(root.imag) < 1e-12 and abs(root.real) < 1]
-    top = max(roots, key=fitted, default=1.0)
-    powers = numpy.arange(len(coefficients))
-    # The derivatives of the powers at the maximum: with the covariance they give the errors of its height and slope.
-    heights, slopes = top**powers, powers * top ** numpy.maximum(powers - 1, 0)
-    height_sem, slope_sem = (math.sqrt(row @ covariance @ row) for row in (heights, slopes))
-    top_sem = slope_sem / abs(float(bend(top))) if bend(top) else math.inf
-    falls = [heights - end**powers for end in (-1.0, 1.0)]
-    min_errors = [0 if is_sure else SIGNIFICANT for is_sure in has_fallen]
-    is_flat = any(
-        fall @ coefficients < errors * math.sqrt(fall @ covariance @ fall) for errors, fall in zip(min_errors, falls)
-    )
-    if not roots or bend(top) >= 0 or is_flat or top_sem > MAX_X_SEM:
+    chosen = [number for number, fit in enumerate(fits) if fit.top is not None]
+    share = weights[chosen].sum() / weights.sum()
+    if share < LEAST_WEIGHT:
         raise EstimateError(_FLAT)
-    return _Maximum(x=top, x_sem=top_sem, y=float(fitted(top)), y_sem=height_sem)
+    weights = weights[chosen] / weights[chosen].sum()
+    x, x_variance, y, y_variance = numpy.array([fits[number].top for number in chosen]).T
+    scatter = numpy.array([max(1.0, fits[number].chi2 / fits[number].freedom) for number in chosen])
+    mean_x, mean_y = float(weights @ x), float(weights @ y)
+    top = Top(
+        mean_x, float(weights @ (scatter * x_variance + (x - mean_x) ** 2)),
+        mean_y, float(weights @ (scatter * y_variance + (y - mean_y) ** 2)),
+    )
+    # The range of the fits is from -1 to 1.
+    if math.sqrt(top.x_variance) > 2 * MAX_X_SEM:
+        raise EstimateError(_FLAT)
+    return top, best, float(weights @ [fits[number].has_corner for number in chosen])
+
+
+def _need_fall(curve: pandas.DataFrame, y: str, highest: float, top: Top) -> None:
+    """Raises `EstimateError` unless a point on each side is significantly lower than the maximum."""
+    falls = (top.y - curve[y]) / numpy.hypot(curve[f"{y}_sem"], math.sqrt(top.y_variance))
+    if not all((falls[side] >= SIGNIFICANT).any() for side in (curve.index < highest, curve.index > highest)):
+        raise EstimateError(_FLAT)

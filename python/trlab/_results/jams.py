@@ -14,10 +14,18 @@ class Jam(NamedTuple):
     Two stopped cars (speed 0) belong to one jam if they are in neighbouring cells of a lane after the same step, or are
     the same car after consecutive steps. If `is_older`, the jam is in the first snapshot, so that its beginning was not
     seen; if `is_censored`, it is in the last one, so that its end was not seen. Its lifetime, cars and size are then
-    lower bounds. For the mean lifetime leave out older jams, and count censored ones as not observed:
+    lower bounds.
 
-        jams = [jam for jam in trajectories.jams() if not jam.is_older]
-        trlab.lifetime([jam.lifetime for jam in jams], [not jam.is_censored for jam in jams])"""
+    The mean lifetime in one run, if the traffic is steady, is the time of all jams together, divided by the number of
+    jams that end:
+
+        jams = trajectories.jams()
+        mean = sum(jam.lifetime for jam in jams) / sum(not jam.is_censored for jam in jams)
+
+    This is right for lifetimes of any law, although the run cuts off some of them, because the mean number of jams is
+    the number that end per step, times their mean lifetime (J. D. C. Little, Oper. Res. 9, 383, 1961). Take its error
+    from several runs (`trlab.means`): jams of one run are not independent, and their lifetimes are not exponential, so
+    that `trlab.lifetime` is not for them."""
 
     first: int
     lifetime: int

@@ -50,6 +50,14 @@ class PythonRule(Decorated):
                 f"`{self.name}` has too many brackets inside each other: give their values names",
             ) from None
 
+    def __getattr__(self, name: str) -> Any:
+        if name in ("budget", "words"):
+            raise AttributeError(
+                f"`{self.name}` has no `{name}` before it is called, because a program depends on the values of its "
+                f"parameters: write `{self.name}().{name}`"
+            )
+        raise AttributeError(f"a {self.kind} rule has no {name!r}")
+
     def __repr__(self) -> str:
         return f"<{self.kind} rule {self.name} of {self.file}>"
 

@@ -10,7 +10,7 @@ from queue import Empty, SimpleQueue
 from collections.abc import Callable, Iterable, Iterator, Mapping
 from typing import Any, Optional, TypeVar, Union, overload
 
-from .._errors import ParameterError
+from .._errors import ParameterError, set_first_cause
 from .cache import Cache
 from .ownership import Lease
 from .progress import Line, Progress, reporter
@@ -85,8 +85,8 @@ def results(
       `mpi4py.futures.MPIPoolExecutor`, joblib's `get_reusable_executor()`), `call` must be a top-level function of a
       module, unless the executor can send others.
     - `progress=True` reports on standard error; a function is called with the numbers of finished and of all inputs.
-    - `errors="raise"` raises the first exception of a call, for example `RejectedInputError`; `errors="keep"` yields it
-      as the result and continues.
+    - `errors="raise"` raises the first exception of a call, for example `RejectedInputError`, after a line with the name
+      of the input; `errors="keep"` yields it as the result and continues.
     - `at_once` is the number of inputs that run at a time, by default one per processor, or as many as the executor
       takes.
 
@@ -155,7 +155,7 @@ def _results(
             for done in range(1, len(named) + 1):
                 future = _next_of(finished)
                 name = names.pop(future)
-                result = _result_of(future, are_errors_kept)
+                result = _result_of(future, name, are_errors_kept)
                 submit(1)
                 if report is not None:
                     report(done, len(named))
@@ -201,11 +201,13 @@ def _next_of(finished: SimpleQueue[Future[Any]]) -> Future[Any]:
             return finished.get(timeout=SPAN)
 
 
-def _result_of(future: Future[Any], are_errors_kept: bool) -> Any:
+def _result_of(future: Future[Any], name: object, are_errors_kept: bool) -> Any:
     """The result of a call, or its exception if these are kept; one of the executor itself is always raised."""
     error = future.exception()
-    if are_errors_kept and isinstance(error, Exception) and not isinstance(error, BrokenExecutor):
-        return error
+    if isinstance(error, Exception) and not isinstance(error, BrokenExecutor):
+        if are_errors_kept:
+            return error
+        set_first_cause(error, f"the call failed for the input {name!r}")
     return future.result()
 
 

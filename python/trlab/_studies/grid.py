@@ -10,7 +10,7 @@ from collections.abc import Callable, Hashable, Iterable, Iterator, Mapping, Seq
 from pathlib import Path
 from typing import TYPE_CHECKING, Any, Union, cast
 
-from .._errors import ParameterError
+from .._errors import ParameterError, set_first_cause
 from .._inputs.jobs import Job
 from .._inputs.sweeps import Sweep
 from .._renamed import IN_GRID, need_current_name
@@ -45,8 +45,8 @@ class Grid:
         trlab.means(trlab.per_run(frame), over="seed")
 
     `make` gets each parameter by name, and also `key`, a number below 2**256, which you should pass to the input.
-    Values are numbers or strings. Other values, such as rules, need names, which frames show:
-    `rule={"nasch": Nasch(0.25), "slow": SlowToStart("1/64", 0.75)}`.
+    Values are numbers or strings. Other values, such as rules and initial states, need names, which frames show:
+    `rule={"nasch": Nasch(0.25), "slow": SlowToStart("1/64", 0.75)}, start={"moving": moving, "jammed": jammed}`.
 
     The key depends only on the names and values of the parameters (`key_for`). A choice keeps its key if the grid
     grows, and different choices have independent random numbers. With another key in `make`, for example `key=seed`,
@@ -69,7 +69,7 @@ class Grid:
         for names in itertools.product(*values.values()):
             chosen = {name: values[name][value] for name, value in zip(self.names, names)}
             key = int(key_for(**dict(zip(self.names, names))), 16)
-            self.inputs[choice(*names)] = _checked(make(**chosen, key=key))
+            self.inputs[choice(*names)] = _made(make, choice(*names), {**chosen, "key": key})
         self._runs = {place: known_roads(input) for place, input in self.inputs.items()}
         for place, input in self.inputs.items():
             _check_roads(place._asdict(), self._runs[place])
@@ -224,8 +224,14 @@ def _check_make(make: Callable[..., Input], names: Sequence[str]) -> None:
         ) from None
 
 
-def _checked(input: object) -> Input:
-    """The input of a choice. Raises `ParameterError` for anything else."""
+def _made(make: Callable[..., Input], choice: Any, chosen: Mapping[str, Any]) -> Input:
+    """The input of a choice. Raises `ParameterError` for anything else, and an exception of `make` with the choice as
+    its first cause."""
+    try:
+        input = make(**chosen)
+    except Exception as error:
+        set_first_cause(error, f"`make` failed for {choice!r}")
+        raise
     if not isinstance(input, (Job, Sweep)):
         raise ParameterError(f"`make` must return a Job or a Sweep, not {input!r}")
     return input
