@@ -7,11 +7,11 @@ from typing import NamedTuple, Optional, Union
 from . import TOP
 
 # A line in which each backslash but the last begins an escape.
-WELL_FORMED = re.compile(r"([^\\]|\\[strk0\\])*\\?")
+WELL_FORMED = re.compile(r"([^\\]|\\[strkb0\\])*\\?")
 ESCAPE = re.compile(r"\\(.)")
 # An end with a backslash of its own, after which the line has no line feed.
 OPEN_END = re.compile(r"(?<!\\)(\\\\)*\\$")
-ESCAPES = {"s": " ", "t": "\t", "r": "\r", "0": "\0", "\\": "\\"}
+ESCAPES = {"s": " ", "t": "\t", "r": "\r", "0": "\0", "b": "\ufeff", "\\": "\\"}
 # The options with which a command runs in parallel.
 PARALLEL_OPTIONS = {"run": "--workers 16", "sweep": "--runners 16 --workers 16"}
 # The forms of `explain` that take an input, and those that take a number.

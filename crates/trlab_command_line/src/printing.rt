@@ -96,22 +96,36 @@ fn suggest_redirection<R: AllocGlobal + Eprint>(rt: &R, arguments: &[String]) {
     }
 }
 
-/// Prints on standard error the range of the number of an option, if `clap` rejects that number.
-fn print_range<R: AllocGlobal + Eprint>(rt: &R, error: &Error) {
-    if error.kind() != ErrorKind::ValueValidation {
-        return;
-    }
-    let Ok(text) = error.to_string(rt.alloc()) else {
-        return;
-    };
-    // The text is `error: invalid value 'VALUE' for 'OPTION <n>': REASON`, and VALUE may be any text.
-    let Some((_, option_at_fault)) = text.as_str().rsplit_once(" for '") else {
-        return;
-    };
+/// The argument of `explain` whose value is a number, and its range in words.
+const NUMBER_ARGUMENT: (&str, &str) = ("[number]", "0 to 4294967295");
+
+/// The range in words of the option or argument that `clap` shows like this.
+fn range_of(shown: &str) -> Option<&'static str> {
     for (option, range) in &NUMBER_OPTIONS {
-        if option_at_fault.starts_with(*option) {
-            let _ = eprintln!(rt; "{option} must be {range}.");
+        if shown.starts_with(*option) {
+            return Some(*range);
         }
+    }
+    let (argument, range) = NUMBER_ARGUMENT;
+    if shown == argument { Some(range) } else { None }
+}
+
+/// Prints on standard error why arguments are rejected, with the range in words if a number is wrong: `clap` writes it
+/// as `1..=16`, or not at all.
+fn print_error<R: AllocGlobal + Eprint>(rt: &R, error: &Error) {
+    // The text is `error: invalid value 'VALUE' for 'OPTION <n>': REASON`, and VALUE may be any text.
+    if error.kind() == ErrorKind::ValueValidation
+        && let Ok(text) = error.to_string(rt.alloc())
+        && let Some((front, back)) = text.as_str().rsplit_once(" for '")
+        && let Some((shown, _)) = back.split_once('\'')
+        && let Some(range) = range_of(shown)
+    {
+        let _ = eprintln!(rt;
+            "{front} for '{shown}': it must be a whole number from {range}\n\n\
+             For more information, try '--help'."
+        );
+    } else {
+        let _ = rt.eprint(error);
     }
 }
 
@@ -132,8 +146,7 @@ pub fn print_help_or_error<R: AllocGlobal + Eprint, K: Sink>(
         }
         ErrorKind::OutOfMemory => status_of_end(End::Memory),
         _ => {
-            let _ = rt.eprint(error);
-            print_range(rt, error);
+            print_error(rt, error);
             suggest_redirection(rt, arguments);
             status_of_error(error)
         }

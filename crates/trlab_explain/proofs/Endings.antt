@@ -10,8 +10,8 @@ use Rattle.trlab_jobs.specs.declared.subject.Subject.TheVariants.{Job, Sweep, Ch
 use Rattle.trlab_campaign.specs.{declared.end.End.End, Device.IsInputOrTooLong, Output.{Outputs, fault_line}}
 use Rattle.trlab_campaign.specs.{declared.end.End.TheVariants.Memory, Ending.{WroteAtEnd, WroteOutputAtEnd}}
 use Rattle.trlab_campaign.{specs.Writers.{SinkBytes, AddsNone}, proofs.Endings.{output_ends, kept_at_memory}}
-use Rattle.trlab_explain.specs.Explanations.{leading_word, MayBeMeantAs, Explains, IsReadAs, IsHeadAs, IsCheckHead}
-use Rattle.trlab_explain.specs.{Explanations.IsTextHead, declared.{explanation.Head.Head, explain.Form.Form}}
+use Rattle.trlab_explain.specs.Explanations.{leading_word, without_mark, MayBeMeantAs, Explains, IsReadAs, IsHeadAs}
+use Rattle.trlab_explain.specs.{Explanations.{IsCheckHead, IsTextHead}, declared.{explanation.Head.Head, explain.Form.Form}}
 
 -- the end of a written output
 pub output_ends_so : {A E : Type 0} (told : Result A E) (rejected : A → Bool) (bytes : A → List ℕ) (IsWhole : Outputs) (e : End) (old new : SinkBytes)
@@ -33,7 +33,7 @@ some_meant (Some word) = meant_by word (subject_named word)
 
 some_read : (wanted : Option Subject) (text : List ℕ) → (subject : Subject) × IsReadAs wanted text subject
 some_read (Some wanted) text = (wanted, refl)
-some_read None text = some_meant (leading_word (lines_of text))
+some_read None text = some_meant (leading_word (lines_of (without_mark text)))
 
 -- the fault of a text that is too long, and the line of its rejection
 abbrev too_big : LocatedFault

@@ -7,23 +7,23 @@ use Rattle.trlab_jobs.{specs.declared.subject.Subject.TheVariants.Check, proofs.
 use Rattle.trlab_jobs.proofs.{OneSweep.something as sweep_says, OneCheck.{HasProgram, says_program}}
 use Rattle.trlab_lines.specs.Lines.{lines_of, line_at}
 use Rattle.trlab_campaign.specs.{CheckOutput.rejected_line, Output.fault_line}
-use Rattle.trlab_explain.specs.Explanations.{quote_line, accepted_line, IsCheckHead, IsFaultHead}
+use Rattle.trlab_explain.specs.Explanations.{quote_line, accepted_line, budget_sentence, IsCheckHead, IsFaultHead}
 use Rattle.trlab_explain.specs.{Explanations.{IsProgramHead, IsTextHead}, declared.explanation.Head.Head}
 use Rattle.trlab_explain.specs.Laws.{EveryTextHasAHead}
 
 fault_some : (text : List ℕ) (fault : LocatedFault) → (head : Head) × IsFaultHead text fault head
-fault_some text fault = (record { is_rejected = true; answer = fault_line fault; quote = quote_line fault.line (line_at fault.line (lines_of text)) }, (refl, refl, refl))
+fault_some text fault = (record { is_rejected = true; answer = fault_line fault; quote = quote_line fault.line (line_at fault.line (lines_of text)); budget = [] }, (refl, refl, refl))
 
 text_some : {A : Type 0} (text : List ℕ) (says : Result A LocatedFault) → (head : Head) × IsTextHead text says head
-text_some text (Ok said) = (record { is_rejected = false; answer = []; quote = [] }, (refl, refl, refl))
+text_some text (Ok said) = (record { is_rejected = false; answer = []; quote = []; budget = [] }, (refl, refl, refl, refl))
 text_some text (Err fault) = fault_some text fault
 
 program_some : (check : CheckSaid) → HasProgram check → (head : Head) × IsProgramHead check head
 program_some check is = elim (accepted_or_refused check.program.kind check.program) [
   | inl accepted ↦
       let found = some_budget check.program.kind check.program is accepted in
-      (record { is_rejected = false; answer = accepted_line found.0; quote = [] }, (accepted, (found.0, found.1.longest, refl)))
-  | inr refused ↦ (record { is_rejected = true; answer = rejected_line refused.0 refused.1; quote = [] }, (refused.0, refused.1, refused.2, refl, refl))
+      (record { is_rejected = false; answer = accepted_line found.0; quote = []; budget = budget_sentence found.0 }, (accepted, (found.0, found.1.longest, refl, refl)))
+  | inr refused ↦ (record { is_rejected = true; answer = rejected_line refused.0 refused.1; quote = []; budget = [] }, (refused.0, refused.1, refused.2, refl, refl))
 ]
 
 check_some : (text : List ℕ) (says : Result CheckSaid LocatedFault) → IfOk says HasProgram → (head : Head) × IsCheckHead text says head

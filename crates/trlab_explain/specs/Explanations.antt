@@ -1,10 +1,10 @@
 -- Explanations of inputs and of numbers: how the text form begins, and how the JSON form ends.
 use Rattle.std.specs.Prelude.{ℕ, ◌&&◌, Bool, List, [], ◌∷◌, nat_le, ◌++◌, codes, decimal, Option, None, Some}
 use Rattle.std.specs.Prelude.{◌≡◌, ◌≤◌, nat_eq, MatchOption, ◌-◌, ◌==◌, ⊤, All, length, take, if◌then◌else◌}
-use Rattle.std.specs.{Prelude.{true, false, not, ◌||◌, Result, Ok, Err, find, map}, List.list_any}
+use Rattle.std.specs.{Prelude.{true, false, not, ◌||◌, Result, Ok, Err, find, map}, List.list_any, Option.unwrap_or}
 use Rattle.trlab_explain.specs.declared.topics.Topic.{Topic, TheVariants.{Cause, Reason}}
 use Rattle.trlab_explain.specs.declared.{explanation.Head.Head, explain.Form.{Form, TheVariants.{Text, Json}}}
-use Rattle.trlab_lines.specs.{Plain.{quoted, IsPlain}, Lines.{first_word, lines_of, line_at}}
+use Rattle.trlab_lines.specs.{Plain.{quoted, IsPlain}, Lines.{first_word, lines_of, line_at, without_prefix}}
 use Rattle.strsim.specs.Edits.{damerau}
 use Rattle.trlab_texts.specs.Reading.{LocatedFault, Reports}
 use Rattle.trlab_texts.specs.declared.fault.TextFault.{TextFault}
@@ -47,6 +47,10 @@ quote_line number (Some line) =
     codes "line " ++ (decimal number ++ (codes ": " ++ (quoted line ++ (10 ∷ []))))
 
 -- The kind of input that a text is meant to be.
+
+-- a text without a byte order mark (the bytes 239, 187 and 191) at its beginning
+abbrev pub without_mark : List ℕ → List ℕ
+without_mark text = unwrap_or (without_prefix (239 ∷ 187 ∷ 191 ∷ []) text) text
 
 -- is a line with this first word neither blank nor a comment? Comments begin with `;` (59) or `#` (35), and a
 -- carriage return (13) is all that an empty line of a Windows file has
@@ -111,9 +115,9 @@ EndsObject rejected answer text =
 
 -- Explanations: whether an input is rejected, and how the text form begins and the JSON form ends.
 
--- the blank head: not rejected, with no printed line and no quote
+-- the blank head: not rejected, with no printed line, no quote and no sentence on a budget
 abbrev pub IsBlankHead : Head → Type 0
-IsBlankHead head = (head.is_rejected ≡ false) × (head.answer ≡ []) × (head.quote ≡ [])
+IsBlankHead head = (head.is_rejected ≡ false) × (head.answer ≡ []) × (head.quote ≡ []) × (head.budget ≡ [])
 
 -- the text `out` begins with the text `front`
 abbrev pub BeginsWith : List ℕ → List ℕ → Type 0
@@ -135,19 +139,26 @@ IsTextHead text (Err fault) head = IsFaultHead text fault head
 abbrev pub accepted_line : ℕ → List ℕ
 accepted_line budget = codes "accepted budget " ++ (decimal budget ++ (10 ∷ []))
 
--- the parts of the head for the program of a check. If the verifier accepts it: not rejected (`false`), with
--- the line `accepted budget B`, where B is the number of instructions on the program's longest path. If the
--- verifier rejects it: rejected (`true`), with the line `refused at N reason R`, and no quote
-abbrev pub IsProgramAnswer : CheckSaid → Bool → List ℕ → List ℕ → Type 0
-IsProgramAnswer check false answer quote = IsAccepted check.program.kind check.program × ((budget : ℕ)
-    × IsLongest check.program.instrs 0 budget × (answer ≡ accepted_line budget))
-IsProgramAnswer check true answer quote =
+-- the sentence on the budget of an accepted program with its LF, for example `Accepted: a car runs at most 8
+-- instructions per step.`
+abbrev pub budget_sentence : ℕ → List ℕ
+budget_sentence budget = codes "Accepted: a car runs at most " ++ (decimal budget
+    ++ (codes " instructions per step." ++ (10 ∷ [])))
+
+-- the head for the program of a check. If the verifier accepts it (`false`): the line `accepted budget B` and
+-- the sentence on this budget, where B is the number of instructions on the program's longest path. If the
+-- verifier rejects it (`true`): the line `refused at N reason R`, and no quote
+abbrev pub IsProgramHeadIf : Bool → CheckSaid → Head → Type 0
+IsProgramHeadIf false check head = IsAccepted check.program.kind check.program × ((budget : ℕ)
+    × IsLongest check.program.instrs 0 budget × (head.answer ≡ accepted_line budget)
+    × (head.budget ≡ budget_sentence budget))
+IsProgramHeadIf true check head =
     (at reason : ℕ) × IsRefused check.program.kind check.program at reason
-    × (answer ≡ rejected_line at reason) × (quote ≡ [])
+    × (head.answer ≡ rejected_line at reason) × (head.quote ≡ [])
 
 -- the head for the program of a check, given the verdict of the verifier
 abbrev pub IsProgramHead : CheckSaid → Head → Type 0
-IsProgramHead check head = IsProgramAnswer check head.is_rejected head.answer head.quote
+IsProgramHead check head = IsProgramHeadIf head.is_rejected check head
 
 -- the head for the text of a check, given the result of reading it: for a valid text, the head for its
 -- program; for an invalid text, the head for its fault
@@ -174,10 +185,11 @@ IsRejectedWith Job text fault = Reports (ParsesAsJob text) (Err fault)
 IsRejectedWith Sweep text fault = Reports (ParsesAsSweep text) (Err fault)
 IsRejectedWith Check text fault = Reports (ParsesAsCheck text) (Err fault)
 
--- a text is read as `subject`: the wanted kind of input, or if none is wanted, a kind that `IsMeant` allows
+-- a text is read as `subject`: the wanted kind of input, or if none is wanted, a kind that `IsMeant` allows for
+-- the text without a byte order mark
 abbrev pub IsReadAs : Option Subject → List ℕ → Subject → Type 0
 IsReadAs (Some wanted) text subject = subject ≡ wanted
-IsReadAs None text subject = IsMeant (lines_of text) subject
+IsReadAs None text subject = IsMeant (lines_of (without_mark text)) subject
 
 -- the head for a text that is read as the wanted kind of input, or if none is wanted, as a kind that
 -- `IsMeant` allows
@@ -185,9 +197,9 @@ abbrev pub IsHead : Option Subject → List ℕ → Head → Type 0
 IsHead wanted text head = (subject : Subject) × IsReadAs wanted text subject × IsHeadAs subject text head
 
 -- the beginning of an explanation in text form: for a rejected input the printed line and then the quote, for
--- a valid one nothing
+-- an accepted program the sentence on its budget, and for a valid job or sweep nothing
 abbrev pub text_front : Head → List ℕ
-text_front head = if head.is_rejected then head.answer ++ head.quote else []
+text_front head = if head.is_rejected then head.answer ++ head.quote else head.budget
 
 -- the explanation `out` has this head: in text form it begins with `text_front`; in JSON form its object ends
 -- with the exit status and the printed line, and the quote is not fixed

@@ -8,7 +8,7 @@ ghost use Rattle.trlab_lines.specs.Plain.{IsPlain};
 ghost use Rattle.trlab_verify.specs.Verified.{IsFaultOf};
 ghost use Rattle.trlab_jobs.specs.Check.{Check as CheckSaid};
 ghost use Rattle.trlab_explain.specs.Explanations.{quote_line};
-ghost use Rattle.trlab_explain.specs.Explanations.{Explains, HasHead, IsBlankHead, IsRejectedWith, IsHeadAs, IsFaultHead, IsProgramHead, accepted_line};
+ghost use Rattle.trlab_explain.specs.Explanations.{Explains, HasHead, IsBlankHead, IsRejectedWith, IsHeadAs, IsFaultHead, IsProgramHead, accepted_line, budget_sentence};
 
 use crate::explanation::{Explanation, json_form, text_form};
 use crate::meant::subject_of;
@@ -95,6 +95,26 @@ fn explain_refusal(
     }
 }
 
+/// Adds the line that the command prints for an accepted program to an empty page.
+fn push_accepted_line(page: &mut Page, budget: u32) -> Result<()>
+    requires { page.old ≡ [] }
+    ensures { OnOk result (page.new ≡ accepted_line budget) }
+{
+    page.say("accepted budget ")?;
+    page.number(u64::from(budget))?;
+    page.end_line()
+}
+
+/// Adds the sentence on the budget of an accepted program to an empty page.
+fn push_budget_sentence(page: &mut Page, budget: u32) -> Result<()>
+    requires { page.old ≡ [] }
+    ensures { OnOk result (page.new ≡ budget_sentence budget) }
+{
+    page.say("Accepted: a car runs at most ")?;
+    page.number(u64::from(budget))?;
+    page.line(" instructions per step.")
+}
+
 /// Explains a program that the verifier accepts with a budget.
 fn explain_accepted(
     explanation: &mut Explanation,
@@ -102,13 +122,13 @@ fn explain_accepted(
     code: &Code,
     budget: u32,
 ) -> Result<()>
-    requires { explanation.old.head.answer ≡ [] }
+    requires { IsBlankHead explanation.old.head }
     ensures rejected { explanation.new.head.is_rejected ≡ explanation.old.head.is_rejected }
     ensures answer { OnOk result (explanation.new.head.answer ≡ accepted_line budget) }
+    ensures budget { OnOk result (explanation.new.head.budget ≡ budget_sentence budget) }
 {
-    explanation.head.answer.say("accepted budget ")?;
-    explanation.head.answer.number(u64::from(budget))?;
-    explanation.head.answer.end_line()?;
+    push_accepted_line(&mut explanation.head.answer, budget)?;
+    push_budget_sentence(&mut explanation.head.budget, budget)?;
     add_program(
         &mut explanation.body,
         text,

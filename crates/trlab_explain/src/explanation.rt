@@ -19,6 +19,8 @@ pub struct Head {
     pub answer: Page,
     /// The line at fault with its number, if there is one.
     pub quote: Page,
+    /// The sentence on the budget of an accepted program; otherwise empty.
+    pub budget: Page,
 }
 
 /// An explanation of an input.
@@ -47,13 +49,15 @@ impl Explanation {
                 is_rejected: false,
                 answer: Page::new(alloc),
                 quote: Page::new(alloc),
+                budget: Page::new(alloc),
             },
             body: Body::new(alloc, subject),
         }
     }
 }
 
-/// The text form of an explanation: for a rejected input first its answer and its quote, then the body.
+/// The text form of an explanation: first the answer and the quote of a rejected input, or the sentence on the budget
+/// of an accepted program, and then the body.
 pub fn text_form(alloc: Global, explanation: &Explanation) -> Result<Page>
     ensures { IfOk result (BeginsWith (text_front explanation.now.head)) }
 {
@@ -65,6 +69,8 @@ pub fn text_form(alloc: Global, explanation: &Explanation) -> Result<Page>
     if head.is_rejected {
         page.add(&head.answer)?;
         page.add(&head.quote)?;
+    } else {
+        page.add(&head.budget)?;
     }
     page.add(&body)?;
     Ok(page)

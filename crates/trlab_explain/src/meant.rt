@@ -2,13 +2,14 @@
 
 ghost use Rattle.std.specs.Prelude.{◌≡◌, ◌≢◌, [], IfOk, option_map, true};
 ghost use Rattle.trlab_lines.specs.Lines.{lines_of};
-ghost use Rattle.trlab_explain.specs.Explanations.{IsMeant, IsWithinOneEdit, MayBeMeantAs, has_content, leading_word};
+ghost use Rattle.trlab_explain.specs.Explanations.{IsMeant, IsWithinOneEdit, MayBeMeantAs, has_content, leading_word, without_mark};
 
 use std::alloc::Global;
 use strsim::generic_damerau_levenshtein;
 use trlab_jobs::{Subject, subject_named};
 use trlab_lines::{next_line, up_to_blank, without_indent};
 use trlab_messages::Result;
+use trlab_texts::word::without_prefix;
 
 /// The maximum length of a word that may be a misspelled name.
 const LONGEST_WORD: usize = 16;
@@ -65,15 +66,26 @@ fn leading_word(text: &[u8]) -> Option<&[u8]>
     None
 }
 
-/// The kind that an input is meant to be, by its leading word, even a misspelled one; otherwise a check.
+/// A text without a byte order mark at its beginning.
+fn without_mark(text: &[u8]) -> &[u8]
+    ensures { result.now ≡ without_mark text.now }
+{
+    match without_prefix(b"\xef\xbb\xbf", text) {
+        Some(rest) => rest,
+        None => text,
+    }
+}
+
+/// The kind that an input is meant to be, by its leading word, even a misspelled one; otherwise a check. A byte order
+/// mark before it does not count.
 ///
 /// # Errors
 ///
 /// If an allocation fails.
 pub fn subject_of(alloc: Global, text: &[u8]) -> Result<Subject>
-    ensures { IfOk result (IsMeant (lines_of text.now)) }
+    ensures { IfOk result (IsMeant (lines_of (without_mark text.now))) }
 {
-    let Some(word) = leading_word(text) else {
+    let Some(word) = leading_word(without_mark(text)) else {
         return Ok(Subject::Check);
     };
     match subject_named(word) {

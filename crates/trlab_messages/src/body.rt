@@ -10,7 +10,8 @@ use trlab_jobs::Subject;
 use trlab_texts::Cause;
 
 /// A number that a valid input determines. The text form puts it between two phrases, on a line of its own. A
-/// number without a key is only in the text form, on the line of the next number.
+/// number without a key is only in the text form, on the line of the next number, and one without phrases only in the
+/// JSON form.
 #[derive(Clone, Copy)]
 pub struct Number {
     pub key: &'static str,

@@ -25,6 +25,10 @@ const MISSPELLED: &str = "probably a misspelling.";
 
 const COMMENT: &str = "comments are allowed only inside programs.";
 
+const EMPTY: &str = "empty lines are allowed only inside programs.";
+
+const COMMENTS_AND_EMPTY: &str = "comments and empty lines are allowed only inside programs.";
+
 const OTHER_COMMENT: &str = "a comment begins with `;`.";
 
 const DIGITS: &str = "write the number with digits only.";
@@ -104,8 +108,13 @@ impl Candidates {
 
     /// Adds a candidate that deletes the line at fault.
     pub fn delete_line(&mut self, fault: &Fault<'_>, mistake: &'static str) {
-        let left = fault.place.text.len().saturating_sub(self.start);
-        let removed = fault.line.len().saturating_add(1).min(left);
+        self.delete_to(fault, mistake, fault.place.below());
+    }
+
+    /// Adds a candidate that deletes the line at fault and all others above `below`, the end of the input.
+    pub fn delete_to(&mut self, fault: &Fault<'_>, mistake: &'static str, below: &[u8]) {
+        let above = fault.place.text.len().saturating_sub(below.len());
+        let removed = above.saturating_sub(self.start);
         self.edit_in_line(mistake, 0, removed, b"");
     }
 

@@ -119,7 +119,22 @@ fn add_swap<W: ObjectWriter>(out: &mut W, line_number: u32, first: &[u8], second
     add_edit(out, line_number.saturating_add(1), lower, second);
 }
 
-/// Adds a repair: an edit with its line, its span and the replacement, or another command that reads the input.
+/// Adds the edits that delete lines, from the line `first` on.
+fn add_deletion<W: ObjectWriter>(out: &mut W, first: u32, lines: &Draft) {
+    let mut number = first;
+    match lines.text() {
+        Ok(text) => {
+            for line in text.split_inclusive('\n') {
+                let length = line.chars().count();
+                add_edit(out, number, ByteSpan { start: 0, length }, b"");
+                number = number.saturating_add(1);
+            }
+        }
+        Err(error) => out.token(Err(error)),
+    }
+}
+
+/// Adds a repair: its edits with their lines, spans and replacements, or another command that reads the input.
 fn add_repair<W: ObjectWriter>(out: &mut W, found: &RepairInWords) {
     out.token(Ok(Token::BeginObject));
     add_words(out, "why", Ok(found.repair.mistake));
@@ -133,6 +148,9 @@ fn add_repair<W: ObjectWriter>(out: &mut W, found: &RepairInWords) {
             begin_member(out, "edits", Token::BeginArray);
             match edit.swapped_lines() {
                 Some((first, second)) => add_swap(out, found.line_number, first, second),
+                None if !found.deleted.is_empty() => {
+                    add_deletion(out, found.line_number, &found.deleted)
+                }
                 None => {
                     let removed = ByteSpan {
                         start: found.before,

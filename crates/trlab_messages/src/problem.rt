@@ -17,6 +17,14 @@ use trlab_texts::{Cause, Wanted};
 /// The number of digits of a key.
 pub const KEY_DIGITS: usize = 64;
 
+/// The first bytes of a text with a byte order mark.
+pub const BYTE_ORDER_MARK: &[u8] = b"\xef\xbb\xbf";
+
+/// The problem with a text that begins with a byte order mark.
+pub const WITH_BYTE_ORDER_MARK: &str =
+    "the file begins with a byte order mark, which most editors do not show: \
+    save it as UTF-8 without a byte order mark, or delete the first three bytes (`tail -c +4 FILE > NEW`).";
+
 /// The number of bytes before the cells in the line of a lane.
 pub const BEFORE_CELLS: usize = 5;
 

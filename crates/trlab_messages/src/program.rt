@@ -95,10 +95,8 @@ fn known_before(alloc: Global, program: Listing<'_>, pc: u32, note: &Note) -> Kn
 
 /// Adds the budget of an accepted program, and the facts known before each instruction.
 fn add_accepted(body: &mut Body, program: Listing<'_>, budget: u32) {
-    let runs = "Accepted: a car runs at most ";
-    let number = Number::whole("budget", runs, u64::from(budget), " instructions per step.");
-    body.add_numbers(&[number]);
-    body.numbers_above = 1;
+    // The head has its sentence.
+    body.add_numbers(&[Number::whole("budget", "", u64::from(budget), "")]);
     let pushed = push_program_draws(body.alloc, &mut body.facts, program);
     body.ok_or_fail(pushed);
     // The notes of an accepted program are never refused.

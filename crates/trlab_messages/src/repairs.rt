@@ -110,6 +110,25 @@ fn push_within(how: &mut Draft, place: &Place<'_>, before: usize, edit: &Edit) {
     }
 }
 
+/// The bytes that an edit removes, without the LF at their end.
+fn removed_lines<'a>(text: &'a [u8], edit: &Edit) -> &'a [u8] {
+    let removed = bytes_at(text, edit.at, edit.removed);
+    removed.strip_suffix(b"\n").unwrap_or(removed)
+}
+
+/// Adds how to delete lines, from the line `first` on.
+fn push_deletion(how: &mut Draft, first: u32, lines: &[u8]) {
+    let ends = lines.iter().filter(|byte| **byte == b'\n').count();
+    let last = u32::try_from(ends)
+        .unwrap_or(u32::MAX)
+        .saturating_add(first);
+    if last == first {
+        write!(how, "Delete line {first}.");
+    } else {
+        write!(how, "Delete lines {first} to {last}.");
+    }
+}
+
 /// Adds how to edit lines as a whole, or else a part of one.
 fn push_edit(how: &mut Draft, place: &Place<'_>, before: usize, edit: &Edit) {
     let number = place.number;
@@ -124,7 +143,7 @@ fn push_edit(how: &mut Draft, place: &Place<'_>, before: usize, edit: &Edit) {
         let below = number.saturating_add(1);
         write!(how, "Swap lines {number} and {below}.");
     } else if edit.inserted.is_empty() && before == 0 && edit.removed >= length.max(1) {
-        write!(how, "Delete line {number}.");
+        push_deletion(how, number, removed_lines(place.text, edit));
     } else if before == 0 && edit.removed == length {
         write!(how, "Replace line {number} with `{line}`.");
     } else {
@@ -142,17 +161,28 @@ pub struct RepairInWords {
     pub line_number: u32,
     /// The number of bytes of this line before the edit.
     pub before: usize,
+    /// The lines that are deleted, if there are two or more.
+    pub deleted: Draft,
 }
 
 impl RepairInWords {
     /// Puts a repair of the error at a place into words.
     pub fn new(alloc: Global, error: &Place<'_>, repair: Repair) -> RepairInWords {
         let mut how = Draft::new(alloc);
+        let mut deleted = Draft::new(alloc);
         let (line_number, before) = match &repair.change {
             Change::Edited(edit) => {
                 let place = place_of(error, edit.at);
                 let before = edit.at.saturating_sub(place.start);
                 push_edit(&mut how, &place, before, edit);
+                let lines = removed_lines(place.text, edit);
+                if edit.inserted.is_empty() && lines.contains(&b'\n') {
+                    write!(
+                        deleted,
+                        "{}",
+                        Shown(bytes_at(place.text, edit.at, edit.removed))
+                    );
+                }
                 (place.number, before)
             }
             Change::ReadAs(other) => {
@@ -165,6 +195,7 @@ impl RepairInWords {
             how,
             line_number,
             before,
+            deleted,
         }
     }
 }

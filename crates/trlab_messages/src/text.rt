@@ -30,6 +30,9 @@ fn push_problem(text: &mut Draft, problem: &Problem) {
 
 fn push_numbers(text: &mut Draft, numbers: &[Number]) {
     for number in numbers {
+        if number.front.is_empty() && number.after.is_empty() {
+            continue;
+        }
         write!(text, "{}{}", number.front, number.amount);
         text.push_str(number.after);
         if !number.key.is_empty() {

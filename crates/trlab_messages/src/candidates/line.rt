@@ -4,15 +4,16 @@ use crate::Result;
 use crate::alike::{NearestName, nearest_word};
 use crate::candidates::number::density_candidate;
 use crate::candidates::program::end_candidates;
-use crate::candidates::{COMMENT, Candidates, LATE};
+use crate::candidates::{COMMENT, COMMENTS_AND_EMPTY, Candidates, EMPTY, LATE};
 use crate::fault::Fault;
 use crate::lines::UnreadLines;
 use crate::names::{CHECK_NAMES, RULE_NAMES, after_rule, belongs_in, is_name_of_line, line_named};
+use crate::problem::BYTE_ORDER_MARK;
 use crate::repairs::Change;
 use std::alloc::Global;
 use trlab_asm::mnemonic_named;
 use trlab_jobs::{Subject, subject_named};
-use trlab_lines::{cut, name_and_operands, next_line};
+use trlab_lines::{cut, name_and_operands, next_line, without_indent};
 use trlab_texts::LineName;
 use trlab_texts::word::{head_word, without_prefix};
 
@@ -68,7 +69,45 @@ fn blanks_candidate(list: &mut Candidates, fault: &Fault<'_>) {
     }
 }
 
-/// Adds a candidate that deletes a comment: the first `byte`, everything after it, and the blanks before it.
+/// Whether a line is a comment and nothing else.
+fn is_comment(line: &[u8]) -> bool {
+    matches!(without_indent(line).first(), Some(b';' | b'#'))
+}
+
+/// Whether a line is empty but for blanks.
+fn is_blank(line: &[u8]) -> bool {
+    matches!(without_indent(line), b"" | b"\r")
+}
+
+/// Adds a candidate that deletes the line at fault and all comments and empty lines directly below it, if it is a
+/// comment or empty itself.
+fn wordless_candidate(list: &mut Candidates, fault: &Fault<'_>) {
+    let mut has_comment = is_comment(fault.line);
+    let mut has_blank = is_blank(fault.line);
+    if !has_comment && !has_blank {
+        return;
+    }
+    let mut below = fault.place.below();
+    for _ in 0..below.len() {
+        match next_line(below) {
+            Some((line, rest)) if is_comment(line) || is_blank(line) => {
+                has_comment |= is_comment(line);
+                has_blank |= is_blank(line);
+                below = rest;
+            }
+            _ => break,
+        }
+    }
+    let mistake = match (has_comment, has_blank) {
+        (true, true) => COMMENTS_AND_EMPTY,
+        (true, false) => COMMENT,
+        (false, _) => EMPTY,
+    };
+    list.delete_to(fault, mistake, below);
+}
+
+/// Adds a candidate that deletes a comment after words: the first `byte`, everything after it, and the blanks before
+/// it.
 fn comment_candidate(list: &mut Candidates, fault: &Fault<'_>, byte: u8) {
     let Some((front, _)) = cut(fault.line, byte) else {
         return;
@@ -76,25 +115,30 @@ fn comment_candidate(list: &mut Candidates, fault: &Fault<'_>, byte: u8) {
     let end = front
         .iter()
         .rposition(|byte| *byte != b' ' && *byte != b'\t');
-    match end {
-        Some(end) => {
-            let kept = end.saturating_add(1);
-            let removed = fault.line.len().saturating_sub(kept);
-            list.edit_in_line(COMMENT, kept, removed, b"");
+    if let Some(end) = end {
+        let kept = end.saturating_add(1);
+        let removed = fault.line.len().saturating_sub(kept);
+        list.edit_in_line(COMMENT, kept, removed, b"");
+    }
+}
+
+/// Adds candidates that delete a byte order mark, if the line at fault begins with one, and also a carriage return.
+fn mark_candidates(list: &mut Candidates, fault: &Fault<'_>) {
+    if let Some(line) = without_prefix(BYTE_ORDER_MARK, fault.line) {
+        let mistake = "no file may begin with a byte order mark.";
+        list.edit_in_line(mistake, 0, BYTE_ORDER_MARK.len(), b"");
+        if let Some(line) = line.strip_suffix(b"\r") {
+            let mistake =
+                "no file may begin with a byte order mark or have Windows line endings: use LF only.";
+            list.edit_in_line(mistake, 0, fault.line.len(), line);
         }
-        None => list.delete_line(fault, COMMENT),
     }
 }
 
 /// Adds candidates for characters that are not allowed in any line.
 fn odd_candidates(list: &mut Candidates, fault: &Fault<'_>) {
-    if without_prefix(b"\xef\xbb\xbf", fault.line).is_some() {
-        let mistake = "the file begins with a byte order mark: save it as plain ASCII.";
-        list.edit_in_line(mistake, 0, 3, b"");
-    }
-    if fault.line.is_empty() {
-        list.delete_line(fault, "empty lines are allowed only inside programs.");
-    }
+    mark_candidates(list, fault);
+    wordless_candidate(list, fault);
     blanks_candidate(list, fault);
     comment_candidate(list, fault, b';');
     comment_candidate(list, fault, b'#');

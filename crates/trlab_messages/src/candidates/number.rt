@@ -105,12 +105,31 @@ fn grouped_of(word: &[u8]) -> Option<f64> {
     Some(value)
 }
 
-/// The value of a number without a sign, for example `0.25`, `.25`, `1e4`, `007` or `1,000`.
+/// The value of a number with a decimal comma, for example `0,5`.
+fn with_comma_of(word: &[u8]) -> Option<f64> {
+    let (whole, decimals) = cut(word, b',')?;
+    if !is_numeral(whole) || !is_numeral(decimals) {
+        return None;
+    }
+    let whole: f64 = fast_float::parse(whole).ok()?;
+    let mut part: f64 = fast_float::parse(decimals).ok()?;
+    let mut scale = 1.0;
+    for _ in decimals {
+        scale *= 10.0;
+    }
+    part /= scale;
+    Some(whole + part)
+}
+
+/// The value of a number without a sign, for example `0.25`, `.25`, `1e4`, `007`, `1,000` or `0,25`.
 fn decimal_of(word: &[u8]) -> Option<f64> {
     match word.first() {
         Some(b'.' | b'0'..=b'9') => match fast_float::parse(word) {
             Ok(value) => Some(value),
-            Err(_) => grouped_of(word),
+            Err(_) => match grouped_of(word) {
+                None => with_comma_of(word),
+                grouped => grouped,
+            },
         },
         _ => None,
     }

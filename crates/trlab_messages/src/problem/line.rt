@@ -4,6 +4,7 @@ use crate::fault::Fault;
 use crate::names::{
     CHECK_NAMES, after_rule, belongs_in, count_probabilities, count_values, line_named,
 };
+use crate::problem::WITH_BYTE_ORDER_MARK;
 use crate::sentence::{Draft, Quoted};
 use trlab_asm::mnemonic_named;
 use trlab_jobs::Subject;
@@ -109,7 +110,7 @@ fn odd_words(oddity: Oddity, is_first: bool) -> &'static str {
         Oddity::Empty if is_first => FIRST_LINE,
         Oddity::Comment if is_first =>
             "the line has a comment: comments are allowed only inside programs, below `motion` or `change`.",
-        Oddity::ByteOrderMark => "the file begins with a byte order mark: save it as plain ASCII.",
+        Oddity::ByteOrderMark => WITH_BYTE_ORDER_MARK,
         Oddity::CarriageReturn =>
             "the line ends with a carriage return (Windows line ending): use LF only.",
         Oddity::Empty => "the line is empty: empty lines are allowed only inside programs.",
