@@ -31,7 +31,11 @@ trlab.plot_means(trlab.means(runs, over="seed"), hue="start", ax=left, linestyle
 left.set(xlim=(0, 0.31), ylim=(0, 0.8), title="means ± standard error, 5 runs")
 means = {}
 for density, its in lives.groupby(level="density"):
-    means[density] = trlab.lifetime(its.time, its.observed)
+    if its.observed.all():  # then the mean needs no law
+        mean = trlab.means(its, over="seed", of="time").iloc[0]
+        means[density] = trlab.Lifetime(mean.time, mean.time_sem, len(its), 0)
+    else:
+        means[density] = trlab.lifetime(its.time, its.observed)
     trlab.survival(its.time, its.observed).survival.plot(ax=right, logy=True, drawstyle="steps-post",
                                                          label=f"density {density}")
 right.set(xlabel="time (steps)", ylabel="share still without a stopped car", title="Kaplan-Meier, 60 runs")

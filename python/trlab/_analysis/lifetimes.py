@@ -77,7 +77,8 @@ def _need_exponential(time: Array, is_observed: Array) -> None:
         raise EstimateError(
             f"these lives are not exponential (z = {z:.1f}; the median is {numpy.median(sample):g} and the mean of all "
             f"times {time.mean():.4g}): {'too many are short' if z < 0 else 'too few are short'}. Look at `survival`. If "
-            "no life was cut off, take the mean of each run, and `means` over the runs"
+            "no life was cut off, their mean needs no law: `trlab.means(frame, over=\"seed\", of=\"time\")` for one life "
+            "per run, and for jams the mean of each run first (see `trlab.Jam`)"
         )
 
 
