@@ -214,7 +214,7 @@ class Curve:
     def _at_vertex(
         self, solve: Array, first: int, end: int, its: Array, offset: int, inside: tuple[float, float]
     ) -> list[tuple[Top, bool]]:
-        """The vertex of a parabola whose coefficients begin at `offset`, if it is a maximum inside of its piece."""
+        """The vertex of a parabola whose coefficients begin at `offset`, if it is a maximum inside its piece."""
         if its[2] >= 0 or not inside[0] < -its[1] / (2 * its[2]) < inside[1]:
             return []
         x = -its[1] / (2 * its[2])

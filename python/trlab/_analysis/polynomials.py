@@ -24,12 +24,12 @@ def derivative(coefficients: Array) -> Array:
 
 
 def powers(x: float, degree: int) -> Array:
-    """The derivatives of the value at x by the coefficients."""
+    """The derivatives of the value at x with respect to the coefficients."""
     return numpy.array([x**power for power in range(degree + 1)])
 
 
 def slopes(x: float, degree: int) -> Array:
-    """The derivatives of the slope at x by the coefficients."""
+    """The derivatives of the slope at x with respect to the coefficients."""
     return numpy.array([power * x ** (power - 1) if power else 0.0 for power in range(degree + 1)])
 
 
