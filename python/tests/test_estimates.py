@@ -361,7 +361,7 @@ class Lifetimes(unittest.TestCase):
                     )
 
     def test_lives_of_nearly_equal_length(self) -> None:
-        self.assertEqual(trlab.lifetime([100, 103], [True, True]).mean, 101.5)
+        self.assertEqual(trlab.lifetime([100, 101, 102, 103], 4 * [True]).mean, 101.5)
         self.assertRaisesRegex(EstimateError, "too few are short", trlab.lifetime, range(100, 110), 10 * [True])
         # All of these ended in the first window, whose length is not known.
         self.assertEqual(trlab.lifetime(10 * [7], 10 * [True]).mean, 7)

@@ -339,7 +339,8 @@ class Misreadings(unittest.TestCase):
 
     def test_runs_of_two_branches(self) -> None:
         frame = trlab.per_run(self.frame(seed=range(10)))
-        for flows in [0.8, 0.4, *8 * [0.2]], [0.8, *9 * [0.21]], [0.2, 0.3, 0.4, 0.5, 0.6, 0.7, 0.75, 0.8, 0.8, 0.8]:
+        spread = [0.2, 0.3, 0.4, 0.5, 0.6, 0.7, 0.75, 0.8, 0.8, 0.8]
+        for flows in [0.8, 0.4, *8 * [0.2]], [0.8, *9 * [0.21]], [0.26, *9 * [0.38]], spread:
             mixed = frame.assign(flow=flows).drop(columns=["distance"])
             self.assertRaisesRegex(FrameError, "differ too much for one mean: 0.2.*mixed=True", trlab.means, mixed, "seed")
             self.assertAlmostEqual(trlab.means(mixed, "seed", of="flow", mixed=True).flow.iloc[0], sum(flows) / 10)

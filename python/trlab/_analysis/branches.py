@@ -11,7 +11,7 @@ LEAST_RUNS = 5
 LEAST_GAP, LEAST_RATIO = 0.25, 3.0
 """The gap between two groups of flows, as a share of the largest flow, and in standard deviations within the groups."""
 
-MAX_SCATTER = 0.15
+MAX_SCATTER = 0.3
 """The standard deviation of flows, as a share of their mean, up to which runs are of one branch."""
 
 
@@ -23,7 +23,7 @@ def need_one_branch(groups: Repetitions) -> None:
     least, largest = numpy.full(group.max() + 1, numpy.inf), numpy.full(group.max() + 1, -numpy.inf)
     numpy.minimum.at(least, group, flow)
     numpy.maximum.at(largest, group, flow)
-    differ = (numpy.bincount(group) >= LEAST_RUNS) & (largest > least) & (largest - least >= MAX_SCATTER * largest)
+    differ = (numpy.bincount(group) >= LEAST_RUNS) & (largest > least) & (largest - least >= LEAST_GAP * largest)
     for number in numpy.flatnonzero(differ):
         flows = numpy.sort(flow[group == number])
         if _are_in_two_groups(flows) or flows.std(ddof=1) >= MAX_SCATTER * flows.mean():

@@ -41,7 +41,7 @@ def lifetime(times: Values, observed: Values) -> Lifetime:
     For another law the mean and its error would be wrong, so the law is tested, also if some lives are cut off: in the
     total time of all lives up to an age, the ends of exponential lives are at random places (Epstein, Technometrics 2,
     83, 1960). If the mean of these places is more than 3 standard deviations from the middle, which happens for 3 of
-    1000 samples of an exponential law, the estimate is rejected. Three lives or fewer always pass.
+    1000 samples of an exponential law, the estimate is rejected. Four lives or fewer always pass.
 
     Raises `EstimateError` if no life ended, because there is only a lower bound then, if the law is clearly not
     exponential, if times and ends are not as described, and if an index shows that runs of several inputs are mixed.
