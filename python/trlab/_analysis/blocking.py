@@ -38,6 +38,10 @@ def blocking(values: Union[Iterable[float], Array, pandas.Series]) -> Blocking:
     blocks are powers of 2. Values that do not fill a block are left out of the error, never out of the mean. The error
     of a series of equal values is 0.
 
+    If you can, repeat the run and take `means` over the runs, because one run does not show how much the road still
+    remembers of its initial state. Over 40,000 steps on 1000 cells of the Nagel-Schreckenberg model with p = 1/4, `sem`
+    was 0.6 times the scatter of 40 runs at density 0.08, 0.85 times at 0.15 and 0.7 times at 0.4.
+
     Take the whole road, as here, and not a detector. On a ring the same jams pass a detector again in each lap, so that
     its counts over long times scatter less than blocks show, and the error would be too large: twice the scatter of
     runs for a detector on 1000 cells over 10,000 steps. In the long run all cells have the same mean flow.
