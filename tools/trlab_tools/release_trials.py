@@ -84,11 +84,29 @@ def release_again(top: Path, version: str = "1.0", **others: str) -> None:
     release(top, version, **others)
 
 
+def head(top: Path) -> str:
+    """The commit of a checkout."""
+    words = ["git", "rev-parse", "HEAD"]
+    return subprocess.run(words, cwd=top, capture_output=True, check=True, text=True).stdout.strip()
+
+
+def raise_version_first(top: Path) -> None:
+    """Commit a release, then a new version without one, and make its release."""
+    commit(top)
+    release(top, commit=head(top))
+    commit(top)
+    for name in VERSIONED:
+        change_version(name, top)
+    commit(top)
+    release(top, "1.1", v2="6", commit=head(top))
+
+
 TRIALS = {
     "no change": Trial(lambda top: None),
     "a release that is committed": Trial(commit),
     "a page that is put together again": Trial(partial(release_again, page="6")),
     "another release with another version": Trial(partial(release_again, version="1.1", v2="6"), version="1.1"),
+    "a version that is raised before its release": Trial(raise_version_first, version="1.1"),
     "another source": Trial(change_source, "the release does not belong to these sources"),
     "no release": Trial(remove_release, "the release does not belong to these sources"),
     "another version": Trial(lambda top: None, "has version 1.0, the released program 1.1", "1.1"),

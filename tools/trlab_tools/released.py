@@ -54,13 +54,14 @@ def has_whole_history(top: Path = TOP) -> bool:
 
 
 def others_of(version: str, top: Path) -> Verdicts:
-    """Whether each release of a version in the history of git is the one of the checkout."""
+    """Whether each release of a version in the history of git is the one of the checkout. The version of a release is that of
+    the commit of its sources, which it names: a commit with a new version can still have the last release."""
     now = facts(top)
     for commit in (git(top, "log", "--full-history", "--format=%H", "--", FACTS) or "").split():
-        module, released = (git(top, "show", f"{commit}:{name}") for name in (MODULE, FACTS))
+        before = read(git(top, "show", f"{commit}:{FACTS}") or "")
+        module = git(top, "show", f"{before.get('commit', commit)}:{MODULE}")
         found = VERSIONS[MODULE].search(module or "")
-        if released and found and found[1] == version:
-            before = read(released)
+        if before and found and found[1] == version:
             is_same = all(before.get(name) == now.get(name) for name in LASTING)
             yield is_same, f"commit {commit[:8]} has another release {version}: give each release a version of its own"
 
