@@ -16,7 +16,7 @@ from .files import content, documents, known_files
 
 # Beside the documents: the folders with figures and linked files, and single files.
 FOLDERS = "docs/", "examples/", "node/", "studies/"
-FILES = "release/trlab-lab.html", "tools/bench/python/nasch_numpy.py"
+FILES = "release/trlab-lab.html", "tools/bench/python/nasch_numpy.py", "crates/trlab_rules/specs/Published.antt"
 # The inputs of studies, to which no page links.
 LEFT_OUT = "/texts/"
 CONFIGURATION = """INHERIT: {top}/mkdocs.yml
