@@ -215,7 +215,8 @@ class OtherFiles(Folder):
 
     def test_members_of_study_json(self) -> None:
         """Each member is missing once, and has each of these values once."""
-        values: list[object] = [None, True, 1, "x", [], {}, [1], [None], [True], 1.5]
+        sixty_four_digits = int(64 * "1")
+        values: list[object] = [None, True, 1, "x", [], {}, [1], [None], [True], 1.5, sixty_four_digits]
         for name in "format", "trlab", "program", "program_version", "parameters", "choices":
             self.reject(self.rewritten(lambda about: about.pop(name) and None))
             for value in values:
@@ -228,6 +229,7 @@ class OtherFiles(Folder):
                 if (name, value) != ("is_sweep", True):
                     with self.subTest(name=name, value=value):
                         self.reject(self.rewritten(lambda about: about["choices"][0].update({name: value})))
+        self.reject(self.rewritten(lambda about: about["choices"][0]["roads"].update({"key": sixty_four_digits})))
         for name in "key", "cells", "cars", "ensembles":
             for value in None, True, "x", [], {}, [None], [True], 1.5:
                 with self.subTest(name=name, value=value):

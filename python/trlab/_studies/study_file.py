@@ -207,10 +207,15 @@ def _check_names(file: zipfile.ZipFile, inputs: Sequence[str]) -> None:
     _need(are_short, f"an input has more than {_MAX_BYTES} bytes")
 
 
+def _is_hash(value: Any) -> bool:
+    """Whether a value is a string of 64 hexadecimal digits. (A number of 64 digits in JSON is none.)"""
+    return isinstance(value, str) and re.fullmatch("[0-9a-f]{64}", value) is not None
+
+
 def _check_about(about: Mapping[str, Any]) -> None:
     """Raises `StudyFileError` if study.json does not have the members that `save` writes."""
     _need(isinstance(about.get("trlab"), str) and isinstance(about.get("program_version"), str), "it has no version")
-    _need(re.fullmatch("[0-9a-f]{64}", str(about.get("program"))) is not None, "it has no SHA-256 of the program")
+    _need(_is_hash(about.get("program")), "it has no SHA-256 of the program")
     _need(_is_list(about.get("parameters"), str), "it has no parameters")
     _need(_is_list(about.get("choices"), dict) and about["choices"], "it has no choices")
     for choice in about["choices"]:
@@ -225,7 +230,7 @@ def _check_choice(choice: Any, parameters: int) -> None:
     _need(all(map(_WORD.fullmatch, words)), "a choice has other words")
     _need(_is_list(files, str) and files, "a choice has no inputs")
     _need(isinstance(is_sweep, bool) and (is_sweep or words[0] == "series"), "a choice has another kind")
-    _need(isinstance(roads, dict) and re.fullmatch("[0-9a-f]{64}", str(roads.get("key"))), "a choice has no key")
+    _need(isinstance(roads, dict) and _is_hash(roads.get("key")), "a choice has no key")
     cars, ensembles = roads.get("cars"), roads.get("ensembles")
     _need(_is_list(cars, int) and _is_list(ensembles, str) and 0 < len(cars) == len(ensembles), "a choice has no roads")
     _need(type(roads.get("cells")) is int, "a choice has no cells")
