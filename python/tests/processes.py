@@ -29,11 +29,14 @@ class Marked(subprocess.Popen[str]):
 
     def comes_to_run(self, count: int) -> bool:
         """Whether this number of programs comes to run for the process before it ends."""
+        numbers: list[int] = []
 
-        def do_run() -> bool:
-            return len(marked(self.mark, find_program())) == count
+        def run_or_cannot() -> bool:
+            numbers.append(len(marked(self.mark, find_program())))
+            return numbers[-1] == count or self.poll() is not None
 
-        return holds(lambda: do_run() or self.poll() is not None) and do_run()
+        # The programs are not counted again, because they may have ended since.
+        return holds(run_or_cannot) and numbers[-1] == count
 
     def read_line(self) -> str:
         """The next line of the output, or nothing at its end."""
