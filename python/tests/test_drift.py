@@ -87,13 +87,13 @@ class Rejected(unittest.TestCase):
 
     def test_too_few_windows(self) -> None:
         job = Job(limit=5, length=10, cars=2, rule=Nasch(0), steps=39)
-        self.assertRaisesRegex(EstimateError, "at least 40 windows, and this series has 39: ", job.series().drift)
-        self.assertRaisesRegex(EstimateError, "this series has 0", Table(Window).drift)
+        self.assertRaisesRegex(EstimateError, "at least 40 windows, and the series has 39: ", job.series().drift)
+        self.assertRaisesRegex(EstimateError, "the series has 0", Table(Window).drift)
 
     def test_no_series(self) -> None:
         table = Sweep(limit=5, length=10, rule=Nasch(0), warm=1, measure=1, cars=40 * [1]).sweep()
-        self.assertRaisesRegex(EstimateError, "only a series can drift", table.drift)
-        self.assertRaisesRegex(EstimateError, "only a series can drift", Table(Point).drift)
+        self.assertRaisesRegex(EstimateError, "this is the table of a sweep", table.drift)
+        self.assertRaisesRegex(EstimateError, "this is the table of a sweep", Table(Point).drift)
 
     def test_windows_of_several_runs(self) -> None:
         table, other = self.job.series(every=2), replace(self.job, cars=5).series(every=2)

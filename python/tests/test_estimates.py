@@ -8,7 +8,7 @@ from typing import Any
 
 import trlab
 from tests.libraries import numpy, pandas
-from trlab import EstimateError, FrameError, Grid, Job, Nasch, SlowToStart, moving, random_cells
+from trlab import EstimateError, FrameError, Grid, Job, SlowToStart, moving
 from trlab._analysis.columns import Array
 from trlab._analysis.peak import Peak
 
@@ -20,102 +20,6 @@ def runs_of(rows: Sequence[Mapping[str, object]], levels: list[str]) -> pandas.D
         frame["key"] = [f"{number:064x}" for number in range(len(frame))]
     others = frame[[name for name in levels if name != "seed"]].astype(str)
     return frame.assign(road=0, ensemble=others.agg("/".join, axis=1) if len(others.columns) else "e").set_index(levels)
-
-
-def autoregressive(noise: Array, memory: float = 0.9) -> Array:
-    """Series with correlations memory**k and the mean 0, one in each row."""
-    series: Array = numpy.empty_like(noise)
-    series[:, 0] = noise[:, 0] / math.sqrt(1 - memory**2)
-    for place in range(1, noise.shape[1]):
-        series[:, place] = memory * series[:, place - 1] + noise[:, place]
-    return series
-
-
-class Blocking(unittest.TestCase):
-    def setUp(self) -> None:
-        self.numbers = numpy.random.default_rng(1)
-
-    def test_the_error_covers_correlated_series(self) -> None:
-        estimates, naive_hits = [], 0
-        for series in autoregressive(self.numbers.normal(size=(400, 4096))):
-            try:
-                estimates.append(trlab.blocking(series))
-            except EstimateError:
-                continue
-            # As if the values were independent: 64 is the root of their number.
-            naive_hits += abs(estimates[-1].mean) < 2 * series.std(ddof=1) / 64
-        self.assertGreater(len(estimates), 380)
-        # Of normal errors 95 percent are below two standard errors, and here the standard error is an estimate, too.
-        self.assertGreater(numpy.mean([abs(estimate.mean) < 2 * estimate.sem for estimate in estimates]), 0.90)
-        self.assertLess(naive_hits / len(estimates), 0.5)
-        # The variance of the mean is (1 + 0.9) / (1 - 0.9) = 19 times that of independent values; blocks find a little
-        # less.
-        frame = pandas.DataFrame(estimates)
-        self.assertLess(abs(frame.inefficiency.mean() / 19 - 1), 0.15)
-        self.assertLess(abs(frame["sem"].mean() / frame["mean"].std(ddof=0) - 1), 0.12)
-        self.assertLess(abs(frame["sem"].std(ddof=0) / frame.sem_error.mean() - 1), 0.4)
-
-    def test_independent_values_need_no_blocks(self) -> None:
-        series = self.numbers.normal(size=1024)
-        blocks = [trlab.blocking(self.numbers.normal(size=1024)).block for _ in range(50)]
-        self.assertLessEqual(numpy.median(blocks), 16)
-        self.assertAlmostEqual(trlab.blocking(series).mean, series.mean())
-
-    def test_the_formulas(self) -> None:
-        # 64 values, which are 0 or 1 in pairs: blocks of 2 lose nothing, and blocks of 16 are the first that are long
-        # enough.
-        pairs = numpy.repeat(self.numbers.integers(0, 2, size=32), 2).astype(float)
-        estimate = trlab.blocking(numpy.tile(pairs, 8))
-        level = numpy.tile(pairs, 8).reshape(-1, estimate.block).mean(axis=1)
-        self.assertAlmostEqual(estimate.sem, level.std(ddof=1) / math.sqrt(len(level)))
-        self.assertAlmostEqual(estimate.sem_error, estimate.sem / math.sqrt(2 * (len(level) - 1)))
-
-    def test_values_after_the_last_whole_block_count_in_the_mean(self) -> None:
-        series = [*self.numbers.normal(size=64), 1000.0]
-        self.assertAlmostEqual(trlab.blocking([*numpy.zeros(40), *numpy.ones(41)] * 30).mean, 41 / 81)
-        try:
-            self.assertAlmostEqual(trlab.blocking(series).mean, numpy.mean(series))
-        except EstimateError:
-            pass
-
-    def test_equal_values(self) -> None:
-        for value in 0, 0.1, 7:
-            expected = trlab.Blocking(mean=value, sem=0.0, sem_error=0.0, block=1, inefficiency=1.0)
-            self.assertEqual(trlab.blocking([value] * 40), expected)
-        alternating = trlab.blocking([0, 1] * 32)
-        self.assertEqual(alternating.mean, 0.5)
-        self.assertEqual(alternating.sem, 0.0)
-
-    def test_series_without_an_error(self) -> None:
-        walk = self.numbers.normal(size=512).cumsum()
-        for values, message in (
-            ([0.0] * 31, "at least 32 values"), ([[0.0] * 40] * 2, "one list of numbers"),
-            ([*range(40), math.nan], "not finite"), ([*range(40), math.inf], "not finite"),
-            (["1"] * 40, "one list of numbers"), ([1j] * 40, "must be numbers"), (range(200), "drifts"), (walk, "drifts"),
-        ):
-            self.assertRaisesRegex(EstimateError, message, trlab.blocking, values)
-
-    def test_one_run_of_a_grid(self) -> None:
-        def make(density: float, seed: int, key: int) -> Job:
-            start = random_cells(key)
-            return Job(limit=5, length=50, density=density, rule=Nasch(0.25), steps=20000, key=key, start=start)
-
-        grid = Grid(make, density=[0.2, 0.3], seed=range(2))
-        flow = grid.run(call=lambda job: job.series(every=50)).flow
-        self.assertRaisesRegex(EstimateError, "several values of .*density.*seed", trlab.blocking, flow)
-        # The frame has the windows of four runs, and `table` those of one.
-        flow_of_run = flow.xs((0.2, 1), level=("density", "seed"))
-        job = grid.inputs[0.2, 1]
-        assert isinstance(job, Job)
-        table = job.series(every=50).to_pandas().flow
-        self.assertEqual(trlab.blocking(flow_of_run), trlab.blocking(table))
-        self.assertEqual(len(flow.groupby(["density", "seed"]).apply(trlab.blocking)), 4)
-        twice, shuffled = pandas.concat([flow_of_run, flow_of_run]), flow_of_run.sample(frac=1, random_state=1)
-        detected = job.detectors(cells=[0], every=50).xs(0, level="lane").flow
-        self.assertRaisesRegex(EstimateError, "detector.*take the whole road", trlab.blocking, detected)
-        for part in flow_of_run.drop(400), flow_of_run[::-1], twice, shuffled:
-            self.assertRaisesRegex(EstimateError, "gaps", trlab.blocking, part)
-        self.assertEqual(trlab.blocking(flow_of_run[50:]), trlab.blocking(list(flow_of_run[50:])))
 
 
 TOP, HEIGHT = 0.086, 0.318

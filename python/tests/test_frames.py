@@ -1,5 +1,4 @@
 """Means against plain Python: they are equal, or there is an error."""
-import contextlib
 import functools
 import io
 import math
@@ -419,22 +418,6 @@ class Misreadings(unittest.TestCase):
         self.assertRaisesRegex(ParameterError, "the same run", Grid, forgets, seed=range(5))
         frame = Grid(starts, seed=range(5)).run(call=lambda job: job.series(every=40))
         self.assertRaisesRegex(FrameError, "the same key", trlab.means, frame, "seed")
-
-    def test_the_error_of_one_long_run(self) -> None:
-        flows, naive, blocks = [], [], []
-        for key in range(20):
-            table = Job(
-                limit=5, length=100, density=0.12, rule=Nasch(0.25), steps=9000, key=key, start=random_cells(key)
-            ).series(every=5, first=1000)
-            flow = table.to_pandas().flow
-            flows.append(flow.mean())
-            naive.append(flow.sem())
-            with contextlib.suppress(trlab.EstimateError):
-                blocks.append(trlab.blocking(flow).sem)
-        spread = statistics.stdev(flows)
-        self.assertLess(statistics.fmean(naive) / spread, 0.75)
-        self.assertGreater(len(blocks), 15)
-        self.assertTrue(0.7 < statistics.fmean(blocks) / spread < 1.4, (statistics.fmean(blocks), spread))
 
     def test_a_row_and_its_fields_have_one_flow(self) -> None:
         rows = self.frame(lambda job: job.series(every=40)[0])

@@ -28,7 +28,7 @@ calls = {
     "Grid.run": lambda: grid.run(call=lambda job: ran.append(1) or 1), "to_pandas": table.to_pandas,
     "Grid.frame": lambda: grid.frame({}), "plot_space_time": lambda: trlab.plot_space_time(job.run()),
 }
-names = "means", "per_run", "peak", "blocking", "lifetime", "plot_means", "to_si"
+names = "means", "per_run", "peak", "lifetime", "plot_means", "to_si"
 calls.update((name, lambda name=name: getattr(trlab, name)) for name in names)
 for name, call in calls.items():
     try:
@@ -57,7 +57,7 @@ class Libraries(unittest.TestCase):
     def test_the_libraries_to_install_are_named(self) -> None:
         for missing in ("numpy", "pandas", "matplotlib"), ("pandas",):
             messages = messages_without(*missing)
-            self.assertEqual(len(messages), 11)
+            self.assertEqual(len(messages), 10)
             for name, printed in messages.items():
                 message = "this needs (numpy|pandas), which is not installed: pip install numpy pandas matplotlib"
                 self.assertRegex(printed, f"^{message}$", name)

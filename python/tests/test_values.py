@@ -180,7 +180,7 @@ class Construction(unittest.TestCase):
 
     def test_old_names_name_the_new_ones(self) -> None:
         for name, new in ("pictures", "snapshots"), ("wait", "time_until"):
-            self.rejects(RenamedError, f"a job has no `{name}` .* use `{new}", getattr, JOB, name)
+            self.rejects(RenamedError, f"a job no longer has `{name}`: use `{new}", getattr, JOB, name)
         self.assertFalse(hasattr(JOB, "nothing"))
 
     def test_a_road_has_one_lane_or_two(self) -> None:

@@ -31,6 +31,7 @@ from ._inputs.rules import Nasch, Own, Rickert, Rule, SlowToStart
 from ._inputs.states import InitialState, even, jammed, moving, random_cells
 from ._inputs.sweeps import Sweep
 from ._renamed import IN_PACKAGE as _IN_PACKAGE, need_current_name as _need_current_name
+from ._results.blocking import Blocking
 from ._results.drift import Drift
 from ._results.snapshots import Snapshot, Snapshots
 from ._results.tables import Point, Table, Window
@@ -48,7 +49,6 @@ _ANALYSIS = {
     "_results.following": ["Cars", "follow"],
     "_results.jams": ["Jam"],
     "_results.trajectories": ["Trajectories", "Trip"],
-    "_analysis.blocking": ["Blocking", "blocking"],
     "_analysis.detectors": ["detectors", "passings"],
     "_analysis.lifetimes": ["Lifetime", "lifetime", "survival"],
     "_analysis.means": ["means", "per_run"],
@@ -58,8 +58,8 @@ _ANALYSIS = {
 }
 
 __all__ = [
-    "AcceptedProgram", "Density", "Drift", "Duration", "EstimateError", "ExitStatusError", "FrameError", "Grid",
-    "IncompleteOutputError", "InitialState", "Job", "Key", "MissingLibraryError", "Nasch", "OutputFormatError", "Own",
+    "AcceptedProgram", "Blocking", "Density", "Drift", "Duration", "EstimateError", "ExitStatusError", "FrameError",
+    "Grid", "IncompleteOutputError", "InitialState", "Job", "Key", "MissingLibraryError", "Nasch", "OutputFormatError", "Own",
     "ParameterError", "Point", "Probability", "ProgramError", "ProgramNotFoundError", "PythonRule",
     "RejectedInputError",
     "RenamedError", "ResultFilesError", "Rickert", "Rule", "RuleError", "SlowToStart", "Snapshot", "Snapshots",

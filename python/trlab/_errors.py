@@ -52,7 +52,7 @@ class ProgramError(TrlabError):
 
     @property
     def said(self) -> str:
-        raise RenamedError("a `ProgramError` has no `said` since version 0.6: use `message`")
+        raise RenamedError("a `ProgramError` no longer has `said`: use `message`")
 
     def __str__(self) -> str:
         message = self.message.strip() or _MEANING.get(self.status, "no message")

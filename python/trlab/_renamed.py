@@ -17,6 +17,10 @@ IN_PACKAGE = {
     "Scale": "trlab.to_si(frame, cell=7.5, step=1)",
     "SpaceTime": "trlab.plot_space_time",
     "Start": "trlab.InitialState",
+    "blocking": (
+        "`table.blocking(\"flow\")` with the table of `job.series`. Its `sem_lower_bound` is only a lower bound; for "
+        "the error of a mean, repeat the run and take `trlab.means`"
+    ),
     "figure": "trlab.plot_means",
     "frame": "trlab.means",
     "jam": "trlab.jammed",
@@ -62,4 +66,4 @@ IN_GRID = {"texts": "`named_inputs()`", "frame_of": "`frame(results)`, with resu
 def need_current_name(owner: str, name: str, names: Mapping[str, str]) -> None:
     """Raises `RenamedError` if a name is an old one of the owner; `names` has the replacement of each old name."""
     if name in names:
-        raise RenamedError(f"{owner} has no `{name}` since version 0.6: use {names[name]}")
+        raise RenamedError(f"{owner} no longer has `{name}`: use {names[name]}")

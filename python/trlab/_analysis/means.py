@@ -48,7 +48,7 @@ def means(
     averaged only on request. Without cars a speed is NaN, and so is its mean.
 
     Raises `FrameError` if the result would not be such a mean: for a frame of means, for several windows of one run
-    (see `per_run` and `blocking`), for runs with the same key or of different inputs, for missing values, for times
+    (see `per_run`), for runs with the same key or of different inputs, for missing values, for times
     that are censored (see `lifetime`), for groups of different size unless `unequal`, and for different roads that you
     gave cell by cell, unless you confirm with `drawn` that you drew them at random.
 

@@ -102,7 +102,7 @@ def repetitions(
         raise FrameError('`over` is the name of the parameter that repeats the runs, for example over="seed"')
     for name in levels:
         if name == "step":
-            raise FrameError("windows of one run are correlated: use `per_run(frame)`, or `blocking` for one run")
+            raise FrameError("windows of one run are correlated: use `per_run(frame)`, and repeat the run")
         if name not in (*frame.index.names, "road"):
             raise FrameError(f"{name!r} is not a parameter of this frame, which has {list(frame.index.names)}")
     groups = grouped(rows, [name for name in frame.index.names if name not in levels])

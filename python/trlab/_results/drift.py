@@ -2,27 +2,19 @@
 from __future__ import annotations
 
 from itertools import accumulate
-from math import atan, cos, exp, inf, isfinite, lgamma, pi, sqrt
+from math import atan, cos, exp, inf, lgamma, pi, sqrt
 from statistics import fmean, variance
 from collections.abc import Sequence
 from typing import NamedTuple
 
-from .._errors import EstimateError, ParameterError
-from .._renamed import IN_ROW, need_current_name
-from .tables import Row, Table, Window
+from .series import values_of_series
+from .tables import Row, Table
 
 BATCHES = 20
 """The number of batches, of equally many windows, in the last half of a series."""
 
 FEWEST = 2 * BATCHES
 """The minimum number of windows of a series."""
-
-
-COLUMNS = (
-    "flow", "speed", "stopped_share", "change_rate", "distance", "stopped", "changes",
-    "cars0", "distance0", "stopped0", "cars1", "distance1", "stopped1",
-)
-"""The columns of a series that may change from window to window."""
 
 
 class Drift(NamedTuple):
@@ -56,32 +48,12 @@ class Drift(NamedTuple):
 
 def drift_of_series(table: Table[Row], column: str) -> Drift:
     """See `Table.drift`."""
-    need_current_name("a row", column, IN_ROW)
-    if column not in COLUMNS:
-        raise ParameterError(f"`column` must be one of {', '.join(COLUMNS)}, not {column!r}")
-    if table.kind is not Window:
-        raise EstimateError("only a series can drift, and this is the table of a sweep")
-    windows = [row for row in table if isinstance(row, Window)]
-    for before, after in zip(windows, windows[1:]):
-        if after.step != before.step + after.steps or after[1:4] != before[1:4]:
-            raise EstimateError(
-                f"the window of step {after.step} does not follow that of step {before.step}: the test needs the "
-                "consecutive windows of one run, all equally long"
-            )
-    values = [getattr(window, column) for window in windows]
-    if not all(map(isfinite, values)):
-        raise ParameterError(f"without cars there is no {column}: test the flow")
-    return drift_of(values)
+    return drift_of(values_of_series(table, column, FEWEST))
 
 
 def drift_of(values: Sequence[float]) -> Drift:
-    """The test for the values of a series, in their order. Raises `EstimateError` if they are fewer than 40."""
+    """The test for the values of a series, at least 40, in their order."""
     count = len(values)
-    if count < FEWEST:
-        raise EstimateError(
-            f"the test for drift needs at least {FEWEST} windows, and this series has {count}: "
-            "take fewer steps per window (`every`) or more steps"
-        )
     if min(values) == max(values):
         return Drift(0.0, 1.0)
     mean, sigma = fmean(values), _sigma(values[count // 2 :])

@@ -15,6 +15,7 @@ if TYPE_CHECKING:
     import numpy
     import pandas
 
+    from .blocking import Blocking
     from .drift import Drift
 
 
@@ -190,3 +191,13 @@ class Table(ResultList[Row]):
         from .drift import drift_of_series
 
         return drift_of_series(self, column)
+
+    def blocking(self, column: str = "flow") -> Blocking:
+        """The mean of a column over the windows of one run, and a lower bound for its standard error, see
+        `trlab.Blocking`: `job.series(every=10, first=1000).blocking("flow")`. For the error itself, repeat the run and
+        take `trlab.means`. `column` is one of those of `drift`. Raises `EstimateError` unless the table has the
+        consecutive windows of one run, at least 40 and equally long, and if the series drifts, and `ParameterError` for
+        a column without such a value."""
+        from .blocking import blocking_of_series
+
+        return blocking_of_series(self, column)

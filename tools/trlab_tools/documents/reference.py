@@ -22,7 +22,7 @@ GROUPS = {
     "Write probabilities, densities and seeds": ["Probability", "Density", "Key"],
     "Count cars": ["Sweep", "Table", "Point", "Window", "Drift"],
     "Repeat runs, and take means with errors": ["Grid", "means", "per_run", "key_for", "read_study"],
-    "Estimate from few or long runs": ["blocking", "Blocking", "peak", "Peak", "lifetime", "Lifetime", "survival", "Duration"],
+    "Estimate from few or long runs": ["Blocking", "peak", "Peak", "lifetime", "Lifetime", "survival", "Duration"],
     "Convert units": ["to_si", "UNITS"],
     "Draw": ["plot_means", "plot_space_time"],
     "Follow each car": ["Trajectories", "Trip", "Jam", "follow", "Cars"],
