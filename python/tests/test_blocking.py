@@ -3,6 +3,7 @@ are rejected."""
 import math
 import unittest
 from statistics import fmean, stdev
+from typing import Any
 
 import trlab
 from tests.test_drift import noise
@@ -87,11 +88,12 @@ class Rejected(unittest.TestCase):
         job = Job(limit=5, length=20, cars=4, rule=Nasch(0.25), steps=100)
         table = job.series(every=2)
         sweep = Sweep(limit=5, length=10, rule=Nasch(0), warm=1, measure=1, cars=40 * [1]).sweep()
-        for wrong, message in (
+        wrong: list[tuple[Table[Any], str]] = [
             (table[:39], "at least 40 windows, and the series has 39: "), (Table(Window), "the series has 0"),
             (table[::-1], "does not follow"), (table + table, "does not follow"), (sweep, "the table of a sweep"),
-        ):
-            self.assertRaisesRegex(EstimateError, message, wrong.blocking)
+        ]
+        for rows, message in wrong:
+            self.assertRaisesRegex(EstimateError, message, rows.blocking)
 
     def test_the_old_function(self) -> None:
         with self.assertRaisesRegex(RenamedError, "^trlab no longer has `blocking`: use `table.blocking.* is only a lower bound"):
