@@ -99,10 +99,10 @@ class Marionette:
 
     def read(self) -> Any:
         size = b""
-        while (sign := self.stream.read(1)) != b":":
-            if not sign:
+        while (byte := self.stream.read(1)) != b":":
+            if not byte:
                 raise WebDriverException("Firefox has ended")
-            size += sign
+            size += byte
         return json.loads(self.stream.read(int(size)))
 
     def execute(self, command: str, words: Optional[dict[str, Any]]) -> dict[str, Any]:

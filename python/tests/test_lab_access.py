@@ -2,6 +2,7 @@
 import math
 import re
 import unittest
+from typing import NamedTuple, Optional
 
 from tests.browsers import Keys, Window, missing
 from tests.lab_pages import OnPage
@@ -64,6 +65,16 @@ SIGHTS = {
     "no green": ((0.367322, 0.860646, -0.227968), (0.280085, 0.672501, 0.047413), (-0.011820, 0.042940, 0.968881)),
     "no blue": ((1.255528, -0.076749, -0.178779), (-0.078411, 0.930809, 0.147602), (0.004733, 0.691367, 0.303900)),
 }
+
+
+class Slider(NamedTuple):
+    """How a drawing that keys can move is described to a screen reader. `tab_index` is -1 if keys do not reach it, `words` say what
+    `value` means, and `maximum` is the largest value."""
+    role: str
+    tab_index: int
+    value: int
+    words: Optional[str]
+    maximum: int
 
 
 def lightness_and_hue(colour, sight):
@@ -179,19 +190,19 @@ class ForEveryone(OnPage):
     # Drawings by keyboard
 
     def slider(self, name):
-        """The value, its words and the largest value of a drawing that is a slider."""
-        return self.page.js("""const it = document.getElementById(arguments[0]);
-            return [it.getAttribute('role'), it.tabIndex, +it.getAttribute('aria-valuenow'), it.getAttribute('aria-valuetext'), +it.getAttribute('aria-valuemax')]""", name)
+        """What a screen reader is given of a drawing: `diagram`, or `band` for the road."""
+        return Slider(*self.page.js("""const it = document.getElementById(arguments[0]), number = name => Number(it.getAttribute(name));
+            return [it.getAttribute('role'), it.tabIndex, number('aria-valuenow'), it.getAttribute('aria-valuetext'), number('aria-valuemax')]""", name))
 
     def test_points_of_the_diagram_by_keyboard(self):
         self.pause()
         self.page.click("clear")
-        self.has(["slider", 0, 0, "no points yet", 0], lambda: self.slider("diagram"))
+        self.has(Slider("slider", 0, 0, "no points yet", 0), lambda: self.slider("diagram"))
         self.page.js("""const points = [[0.3, 0.4], [0.1, 0.45]].map(([density, flow]) => ({density, flow}));
             lab.marks.push({limit: 5, length: 1000, lanes: 1, points: points.slice(0, 1)}, {limit: 3, length: 500, lanes: 2, points: points.slice(1)});
             lab.fundamental.draw();
             document.getElementById('diagram').focus();""")
-        self.has(["slider", 0, 0, "2 points, none selected", 2], lambda: self.slider("diagram"))
+        self.has(Slider("slider", 0, 0, "2 points, none selected", 2), lambda: self.slider("diagram"))
         role, name = self.page.spoken(self.page.js("return document.getElementById('diagram')"))
         self.assertEqual(role, "slider")
         self.assertIn("Arrow keys read the points", name)
@@ -200,14 +211,14 @@ class ForEveryone(OnPage):
             (Keys.RIGHT, 1, first), (Keys.RIGHT, 2, second), (Keys.RIGHT, 2, second), (Keys.LEFT, 1, first), (Keys.END, 2, second), (Keys.HOME, 1, first),
         ):
             self.page.press(key)
-            self.assertEqual(self.slider("diagram")[2:4], [number, f"Point {number} of 2: {words}"])
+            self.assertEqual(self.slider("diagram"), Slider("slider", 0, number, f"Point {number} of 2: {words}", 2))
             self.assertEqual(self.page.text("pointnumbers"), words)
         circle = self.page.js("const it = document.querySelector('#diagram .selected'); return [it.getAttribute('cx'), it.getAttribute('cy')]")
         point = self.page.js("const it = document.querySelector('#diagram path.point'); const {x, width} = it.getBBox(); return x + width / 2")
         self.assertAlmostEqual(float(circle[0]), point, places=1)
         step, job = self.page.step(), self.page.job()
         self.page.press(Keys.ESCAPE)
-        self.assertEqual(self.slider("diagram")[2:4], [0, "2 points, none selected"])
+        self.assertEqual(self.slider("diagram"), Slider("slider", 0, 0, "2 points, none selected", 2))
         self.assertEqual(self.page.js("return document.querySelector('#diagram .selected')"), None)
         self.assertEqual((self.page.step(), self.page.job()), (step, job))
 
@@ -227,10 +238,10 @@ class ForEveryone(OnPage):
         ):
             self.page.press(key)
             self.assertAlmostEqual(lens(), expected % 1000, delta=0.6)
-            _, _, now, words, most = self.slider("band")
-            self.assertEqual((now, most), (int(lens()) % 1000, 999))
-            self.assertRegex(words, r"^cells \d+ to \d+ of 1000: \d+ cars?, \d+ stopped$")
-            first, last, _, cars, still = map(int, re.findall(r"\d+", words))
+            band = self.slider("band")
+            self.assertEqual((band.value, band.maximum), (int(lens()) % 1000, 999))
+            self.assertRegex(band.words, r"^cells \d+ to \d+ of 1000: \d+ cars?, \d+ stopped$")
+            first, last, _, cars, still = map(int, re.findall(r"\d+", band.words))
             self.assertEqual((last - first) % 1000, part - 1)
             self.assertLessEqual(abs(first - (lens() - part / 2) % 1000), 1)
             read = (cells() * 2)[first:first + part]
@@ -244,7 +255,7 @@ class ForEveryone(OnPage):
     def test_a_short_road_is_an_image(self):
         self.page.set("length", "100")
         self.hold(lambda: self.page.js("return lab.player.film.length === 100 && lab.player.step >= 0 && !lab.player.stale"))
-        self.has(["img", -1, 0, None, 0], lambda: self.slider("band"))
+        self.has(Slider("img", -1, 0, None, 0), lambda: self.slider("band"))
 
     def test_a_phone(self):
         page = Window(self.browser, self.lab.address, 400, 800, calm=True)

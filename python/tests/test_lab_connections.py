@@ -198,8 +198,8 @@ class Opening(unittest.TestCase):
                 self.assertEqual((Path(folder) / "errors").read_text(), "")
 
     def test_a_large_job_is_opened(self):
-        signs, chance = ".0123456789abcdefghijklmnopqrstuvwxyz", random.Random(1)
-        lanes = "".join(f"lane {''.join(chance.choices(signs, k=100000))}\n" for _ in range(2))
+        characters, chance = ".0123456789abcdefghijklmnopqrstuvwxyz", random.Random(1)
+        lanes = "".join(f"lane {''.join(chance.choices(characters, k=100000))}\n" for _ in range(2))
         job = f"road 1\nkey {'0' * 64}\nlimit 35\n{lanes}rule nasch 0\nsteps 10\n"
         with tempfile.TemporaryDirectory() as folder:
             (Path(folder) / "large.job").write_text(job)

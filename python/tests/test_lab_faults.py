@@ -32,7 +32,7 @@ class Faults(OnPage):
 
     def colour_of(self, cells, colours):
         """The colour on white of cells that share a pixel, by their mean speed and their density."""
-        speeds = [SPEEDS.index(sign) for sign in cells if sign != "."]
+        speeds = [SPEEDS.index(character) for character in cells if character != "."]
         if not speeds:
             return (255, 255, 255)
         strength = math.sqrt(len(speeds) / len(cells))

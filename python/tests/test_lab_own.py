@@ -159,6 +159,28 @@ class OwnPrograms(OnPage):
         self.page.set("changeparameter0", "0.5")
         self.has_line("draw r3, 1, 1073741824  ; parameter q: change lanes\n")
 
+    def test_long_labels_are_not_cut(self):
+        """A slider is called by the comment of its draw, which may be long, and may have a long word."""
+        self.addCleanup(self.page.size, 1280, 900)
+        for width in 1280, 800, 400:
+            self.page.size(width, 900)
+            self.page.set("example", "lane_change.rule")
+            self.has(["change with probability 1/2 (line 16)"], lambda: [slider[0] for slider in self.sliders("change")])
+            self.assertEqual(self.cut_labels(), [], width)
+            self.write(DISTANCE.replace("; brake", f"; brake as {60 * 'x'} does"))
+            self.has(["g", f"brake as {60 * 'x'} does (line 15)"], lambda: [slider[0] for slider in self.sliders()])
+            self.assertEqual(self.cut_labels(), [], width)
+
+    def cut_labels(self):
+        """The labels of fields that do not show all of their words: whose words are wider than the label, or run into the number."""
+        return self.page.js("""return [...document.querySelectorAll('.field label')].filter(it => it.checkVisibility()).filter(it => {
+            const words = document.createRange();
+            words.selectNodeContents(it);
+            const {right} = words.getBoundingClientRect(), next = it.nextElementSibling.getBoundingClientRect(), box = it.getBoundingClientRect();
+            const isBeside = next.top < box.bottom && next.left > box.left;
+            return it.scrollWidth > it.clientWidth || it.scrollHeight > it.clientHeight + 1 || right > box.right + 1 || isBeside && right > next.left;
+        }).map(it => it.textContent)""")
+
     # The first line
 
     def test_a_program_without_its_first_line(self):

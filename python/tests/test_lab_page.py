@@ -117,7 +117,7 @@ class Playing(OnPage):
     def test_a_click_follows_a_car(self):
         self.run_to(50)
         lane = snapshots(self.page.job())[self.page.step()].lanes[0]
-        cell = next(k for k, sign in enumerate(lane) if sign != "." and k > 80)
+        cell = next(k for k, character in enumerate(lane) if character != "." and k > 80)
         angle = 2 * math.pi * (cell + 0.5) / 1000
         self.page.click_at("ring", 150 + 135 * math.sin(angle), 150 - 135 * math.cos(angle))
         near = lambda: abs(self.page.js("return lab.player.car?.cell ?? -99") - cell) <= 4

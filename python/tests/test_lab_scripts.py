@@ -77,8 +77,8 @@ class Controls:
         lanes, length, steps = draw.choice([1, 2]), draw.choice([1, 2, draw.randint(1, 60), draw.randint(1, 3000)]), draw.choice([0, 1, 500000, draw.randint(1, 9999)])
         limit, cars = draw.randint(1, 35), draw.choice([0, lanes * length, draw.randint(0, lanes * length)])
         key = draw.choice([0, 1, 2**256 - 1, draw.getrandbits(31), draw.getrandbits(256)])
-        signs = ".." + "0123456789abcdefghijklmnopqrstuvwxyz"[: limit + 1]
-        road = ["".join(draw.choice(signs) for _ in range(length)) for _ in range(lanes)]
+        characters = ".." + "0123456789abcdefghijklmnopqrstuvwxyz"[: limit + 1]
+        road = ["".join(draw.choice(characters) for _ in range(length)) for _ in range(lanes)]
         steps_of_rules = draw.sample(range(steps), min(steps, draw.choice([0, 0, 1, 3])))
         return {
             "key": str(key), "limit": limit, "lanes": lanes, "length": length, "cars": cars, "density": 0, "steps": steps, "road": road,
@@ -361,8 +361,9 @@ class LongFiles(unittest.TestCase):
         self.assertIn("this.all.counted", edit(scripts.joined("reading")))
 
 
-@unittest.skipIf(MISSING, MISSING)
 class Joining(unittest.TestCase):
+    """Scripts that are joined: Python does this, without Node."""
+
     def test_a_name_that_is_not_exported(self):
         texts = {"one": 'import { there, gone } from "./two.js";\n', "two": "export const there = 1;\n"}
         with mock.patch.object(Path, "read_text", lambda path, _: texts[path.stem]):

@@ -11,9 +11,9 @@ from trlab._results.written import snapshots_in
 
 SPEEDS = "0123456789abcdefghijklmnopqrstuvwxyz"
 REASONS = """const {reasonOf} = await import('./following.js'), {film} = lab.player, [rule] = lab.job.rules, found = [];
-for (let step = 1; step <= words[0]; step++) film.at(step).cells.forEach((sign, k) => {
+for (let step = 1; step <= words[0]; step++) film.at(step).cells.forEach((byte, k) => {
     const car = {step, lane: Math.floor(k / film.length), cell: k % film.length};
-    if (sign !== 46) found.push([step, car.lane, car.cell, film.speed(car), reasonOf(film, car, rule)]);
+    if (byte !== 46) found.push([step, car.lane, car.cell, film.speed(car), reasonOf(film, car, rule)]);
 });
 return found"""
 
@@ -24,8 +24,8 @@ def snapshots(text):
 
 def speeds_by_origin(snapshot):
     """The speed of each car by its lane and the cell from which it moved."""
-    return {(lane, (cell - SPEEDS.index(sign)) % len(signs)): SPEEDS.index(sign)
-            for lane, signs in enumerate(snapshot.lanes) for cell, sign in enumerate(signs) if sign != "."}
+    return {(lane, (cell - SPEEDS.index(speed)) % len(cells)): SPEEDS.index(speed)
+            for lane, cells in enumerate(snapshot.lanes) for cell, speed in enumerate(cells) if speed != "."}
 
 
 class Teaching(OnPage):

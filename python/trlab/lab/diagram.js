@@ -17,7 +17,7 @@ const PROOFS = {
 // All sizes are in units of the image, which are about those of pixels.
 export const WIDTH = 360;
 const HEIGHT = 276, PLOT = { left: 34, width: 316, bottom: 240, height: 222 };
-const FONT_SIZE = 11, LEGEND = { rowHeight: 16, maxRows: 5, wordsX: 58, maxLetters: 50, maxWidth: 300, signWidth: 16 };
+const FONT_SIZE = 11, LEGEND = { rowHeight: 16, maxRows: 5, wordsX: 58, maxLetters: 50, maxWidth: 300, symbolWidth: 16 };
 const RADIUS = { run: 3.5, sweep: 2.5, now: 5, selected: 8 };
 const EXACT_WIDTH = 3, NOW_WIDTH = 2;
 
@@ -48,16 +48,16 @@ const lastSweeps = marks => {
 };
 
 /** The rows below the axis: the curves of the last sweep with their initial states, and the shapes of other roads. A row has its
- * `words`, and `sign(y)` draws its sign. */
+ * `words`, and `drawSymbol(y)` draws the symbol in front of them. */
 function legendRows(contents) {
-  const signX = PLOT.left, middle = signX + LEGEND.signWidth / 2;
+  const symbolX = PLOT.left, middle = symbolX + LEGEND.symbolWidth / 2;
   const sweeps = lastSweeps(contents.marks).map((mark, k) => {
     const colour = k ? SECOND : ACCENT;
-    const sign = y => line(`M${signX} ${y}h${LEGEND.signWidth}`, colour) + svgElement("circle", { cx: middle, cy: y, r: RADIUS.sweep, fill: colour });
-    return { sign, words: `${mark.name}, ${STATES[mark.start]}: ${roadWords(mark)}` };
+    const drawSymbol = y => line(`M${symbolX} ${y}h${LEGEND.symbolWidth}`, colour) + svgElement("circle", { cx: middle, cy: y, r: RADIUS.sweep, fill: colour });
+    return { drawSymbol, words: `${mark.name}, ${STATES[mark.start]}: ${roadWords(mark)}` };
   });
   const roads = otherRoads(contents.marks, roadWords(contents)).map((road, k) => (
-    { sign: y => svgElement("path", { d: shapeOf(k)(middle, y), fill: MUTED }), words: `runs: ${road}` }
+    { drawSymbol: y => svgElement("path", { d: shapeOf(k)(middle, y), fill: MUTED }), words: `runs: ${road}` }
   ));
   return [...sweeps, ...roads].slice(0, LEGEND.maxRows);
 }
@@ -65,7 +65,7 @@ function legendRows(contents) {
 function legendElement(row, k) {
   const top = HEIGHT + LEGEND.rowHeight * k, isLong = row.words.length > LEGEND.maxLetters;
   const squeezed = isLong ? { textLength: LEGEND.maxWidth, lengthAdjust: "spacingAndGlyphs" } : {};
-  return row.sign(top + 10) + words(LEGEND.wordsX, top + 14, escapeXml(row.words), { class: "legend-row", ...squeezed });
+  return row.drawSymbol(top + 10) + words(LEGEND.wordsX, top + 14, escapeXml(row.words), { class: "legend-row", ...squeezed });
 }
 /** The box of the image, which is higher with a legend: left, top, width, height. */
 export const diagramBox = contents => [0, 0, WIDTH, HEIGHT + LEGEND.rowHeight * legendRows(contents).length + 2];

@@ -52,7 +52,7 @@ def page_of(snapshots: Snapshots, limit: Optional[int] = None, title: str = "") 
     if not snapshots or snapshots[0].step != 0:
         raise ValueError("a page needs the snapshots of a run from step 0 on")
     lines = (line for shot in snapshots for line in (f"step {shot.step}", *shot.lanes))
-    fastest = max([1, *(SPEEDS.find(sign) for snapshot in snapshots for sign in set().union(*snapshot.lanes))])
+    fastest = max([1, *(SPEEDS.find(character) for snapshot in snapshots for character in set().union(*snapshot.lanes))])
     most = fastest if limit is None else checked_int("limit", limit, fastest, MAX_SPEED)
     return _page((line + "\n" for line in lines), most, title)
 
@@ -77,7 +77,7 @@ def _page(lines: Iterator[str], limit: int, title: str, text: str = "") -> str:
         if size > MAX_BYTES:
             raise ValueError(f"the snapshots are too long for one file: at most {MAX_BYTES} bytes are allowed")
     lanes = [line.rstrip("\n") for line in output[1:3] if not line.startswith("step ")]
-    cars = sum(lane.count(sign) for lane in lanes for sign in SPEEDS)
+    cars = sum(lane.count(speed) for lane in lanes for speed in SPEEDS)
     steps = len(output) // (len(lanes) + 1) - 1
     job = {"length": len(lanes[0]), "lanes": len(lanes), "limit": limit, "steps": steps}
     rings = "two rings" if len(lanes) == 2 else "a ring"

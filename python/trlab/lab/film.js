@@ -89,8 +89,8 @@ export class Film {
     const forEachCar = call => {
       for (let onLane = 0; onLane < lanes; onLane++) {
         for (let n = 0, x = first; n < count; n++, x = x + 1 === length ? 0 : x + 1) {
-          const sign = cells[onLane * length + x];
-          if (sign !== EMPTY) call(onLane, x, speedOf(sign));
+          const byte = cells[onLane * length + x];
+          if (byte !== EMPTY) call(onLane, x, speedOf(byte));
         }
       }
     };

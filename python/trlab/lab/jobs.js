@@ -77,9 +77,9 @@ function roadLanes({ start, road, length, lanes, cars }, seed, limit) {
   const cells = checkedInteger("length", length, 1, MAX_CELLS) * checkedInteger("lanes", lanes, 1, 2);
   const rows = upTo(lanes).map(() => new Array(length).fill("."));
   // Cells are counted across the lanes: on two lanes cell 0 is on lane 0, and cell 1 next to it on lane 1.
-  const sign = SPEEDS[start === "moving" ? limit : 0];
+  const character = SPEEDS[start === "moving" ? limit : 0];
   for (const cell of startCells(start, checkedInteger("cars", cars, 0, cells), cells, seed)) {
-    rows[cell % lanes][Math.floor(cell / lanes)] = sign;
+    rows[cell % lanes][Math.floor(cell / lanes)] = character;
   }
   return rows.map(row => row.join(""));
 }
@@ -91,7 +91,7 @@ function startCells(start, cars, cells, seed) {
 function checkedRoad(road, limit) {
   ensure(road.length >= 1 && road.length <= 2, () => `a road has 1 or 2 lanes, not ${road.length}`);
   for (const lane of road) {
-    const others = [...new Set(lane)].filter(sign => sign !== "." && !SPEEDS.slice(0, limit + 1).includes(sign)).sort();
+    const others = [...new Set(lane)].filter(it => it !== "." && !SPEEDS.slice(0, limit + 1).includes(it)).sort();
     ensure(!others.length, () => `a lane has the character ${quoted(others[0])}, and the limit is ${limit} cells per step: ` +
       `\`.\` is an empty cell, and 0 to ${SPEEDS[limit]} are cars`);
   }

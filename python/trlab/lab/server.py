@@ -218,18 +218,24 @@ class PageHandler(BaseHTTPRequestHandler):
 
     def requested_name(self) -> Optional[str]:
         """The requested name, if the request comes from a page of this server; otherwise the request is refused."""
-        hosts: list[str] = self.headers.get_all("Host", [])
-        origin = self.headers.get("Origin")
-        host = hosts[0] if len(hosts) == 1 else None
-        origins: set[Optional[str]] = {f"http://{host}"} if self.command == "POST" else {f"http://{host}", None}
-        own = host in self.server.hosts and origin in origins
         token, slash, name = self.path[1:].partition("?")[0].partition("/")
-        if own and slash and secrets.compare_digest(token.encode(), self.server.token.encode()):
+        has_token = bool(slash) and secrets.compare_digest(token.encode(), self.server.token.encode())
+        if has_token and self.is_of_own_page():
             self.server.unauthenticated.remove(self.connection)
             self.connection.settimeout(REQUEST_TIMEOUT)
             return name
         self.refuse(403, "This address is not valid. Use the one that trlab-lab printed.")
         return None
+
+    def is_of_own_page(self) -> bool:
+        """Whether the request names this server as its host, and does not come from a page of another one. A browser names the page's
+        server as the origin, and may leave it out only for GET."""
+        hosts: list[str] = self.headers.get_all("Host", [])
+        if len(hosts) != 1 or hosts[0] not in self.server.hosts:
+            return False
+        origin = self.headers.get("Origin")
+        may_have_no_origin = self.command != "POST"
+        return origin == f"http://{hosts[0]}" or (origin is None and may_have_no_origin)
 
     def bytes_to_skip(self) -> int:
         """How many bytes of the output the page does not need: `?skip=N`."""
