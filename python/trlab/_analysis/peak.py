@@ -151,7 +151,7 @@ def _covariance(runs: pandas.DataFrame, over: str, x: str, y: str, part: pandas.
 
 def _mean_of_fits(fits: Sequence[Fit]) -> tuple[Top, Fit, float]:
     """The mean of the maxima of the fits with its variances, the best fit, and the weight of corners. Raises
-    `EstimateError` if there is no such mean."""
+    `EstimateError` if no curve fits the points, or if too few fits have a maximum or the maxima are too far apart."""
     criteria = numpy.array([fit.criterion for fit in fits])
     weights = numpy.exp((criteria.min() - criteria) / 2)
     # The mean of chi2 is dof, and its standard deviation sqrt(2 dof).
