@@ -219,7 +219,7 @@ class Crate:
         files = sorted(glob.glob(os.path.join(self.folder, "must-fail", "*.edit")))
         planted = [body_of(os.path.basename(file).removesuffix(".edit"), read(file)) for file in files]
         planted += bodies_in(os.path.join(self.folder, "wrong.edit"))
-        # (an edit of specs/ makes a law false, which has no body: false_statements.py has those)
+        # (an edit of specs/ makes a law false, which has no body: false_statements/ has those)
         self.bodies = [body for body in planted if all(edit.file.startswith("src/") for edit in body.edits)]
         # The reason of each public function that has no wrong body.
         self.without = dict(WITHOUT.findall(read(os.path.join(self.folder, "wrong.edit"))))
