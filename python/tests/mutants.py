@@ -13,11 +13,24 @@ import sys
 import tempfile
 import unittest
 from pathlib import Path
+from typing import NamedTuple
 
-from tests.libraries import hypothesis
 from trlab import find_program
 
 TOP = Path(__file__).resolve().parents[1]
+
+
+class Mutant(NamedTuple):
+    """A wrong edit: a file of the package, a text in it, and the replacement of the first place that has this text."""
+
+    file: str
+    old: str
+    new: str
+
+    def is_possible(self) -> bool:
+        """Whether the file has the text."""
+        return self.old in (TOP / "trlab" / self.file).read_text("utf-8")
+
 
 TESTS = {
     "_analysis/means.py": [
@@ -54,15 +67,15 @@ TESTS = {
 ABOUT = "[input.limit, input.lanes, cells, start, rules, input.steps]"
 """The parameters that repetitions of a job share."""
 
-MUTANTS = [
+MUTANTS = list(map(Mutant._make, [
     # Means and their errors.
-    ("_analysis/means.py", "squares / (n - 1) / n", "squares / n / n"),
-    ("_analysis/means.py", "squares / (n - 1) / n", "squares / (n - 1)"),
-    ("_analysis/means.py", "numpy.bincount(group, values - first[group]) / n",
+    ("_analysis/means.py", "squares / (count - 1) / count", "squares / count / count"),
+    ("_analysis/means.py", "squares / (count - 1) / count", "squares / (count - 1)"),
+    ("_analysis/means.py", "numpy.bincount(group, values - first[group]) / count",
      "numpy.bincount(group, values - first[group])"),
     ("_analysis/means.py", "first[group[::-1]] = values[::-1]", "pass"),
     ("_analysis/means.py", "(values - mean[group]) ** 2", "abs(values - mean[group])"),
-    ("_analysis/means.py", "    _need_ends(frame, chosen)\n    columns", "    columns"),
+    ("_analysis/means.py", "    _need_ends(frame, chosen)\n    if not mixed", "    if not mixed"),
     ("_analysis/means.py", "if clash:", "if False:"),
     ("_analysis/means.py", "{*IDENTITY, *COUNTS, *LANE_SUMS,", "{*IDENTITY,"),
     ("_analysis/means.py", "groups[sums].sum()", "groups[sums].mean()"),
@@ -226,11 +239,11 @@ MUTANTS = [
     ("_exact/triangle.py", "-(-min(fastest * count, cells - count) // fastest)",
      "min(fastest * count, cells - count) // fastest"),
     # The minimum principle.
-    ("_exact/minimum.py", "(0, min(time, cars - 1))", "(0, min(time, cars - 2))"),
+    ("_exact/minimum.py", "= 0, min(time, cars - 1)", "= 0, min(time, cars - 2)"),
     ("_exact/minimum.py", "max(0, time - cars + 1)", "max(0, time - cars + 2)"),
     ("_exact/minimum.py", "if rising[0] <= place - size:", "if rising[0] < place - size:"),
     ("_exact/minimum.py", "values[rising[-1]] >= value", "values[rising[-1]] <= value"),
-    ("_exact/minimum.py", "- sums[x] + low", "+ low"),
+    ("_exact/minimum.py", "- sums[car] + low", "+ low"),
     ("_exact/minimum.py", "(after - cell - 1) % len(lane)", "(after - cell) % len(lane)"),
     ("_exact/minimum.py", "min(steps_to_accelerate(job.rule, job.limit), time)", "0"),
     ("_exact/minimum.py", "len({job.rule, *job.at.values()}) > 1", "False"),
@@ -243,15 +256,15 @@ MUTANTS = [
     ("_exact/rules.py", " and parts(rule.change) == 0", ""),
     ("_exact/rules.py", "if not is_exact(rule):", "if False:"),
     # Rules as Python functions: numbers below 0.
-    ("_rules/pairs.py", "by - 1), by)", "0), by)"),
+    ("_rules/pairs.py", "held(number.minus)], by - 1)", "held(number.minus)], 0)"),
     ("_rules/pairs.py", "self.excess(minus, plus), self._emitter.place)", "0)"),
     ("_rules/pairs.py", "else Number(minus, plus, self._emitter.place)", "else Number(plus, minus)"),
-    ("_rules/pairs.py", "other = \"max\" if name == \"min\" else \"min\"", "other = name"),
+    ("_rules/pairs.py", "opposite = \"max\" if name == \"min\" else \"min\"", "opposite = name"),
     ("_rules/pairs.py", "return self._best(\"max\", (number.plus, number.minus))", "return number.plus"),
-    ("_rules/pairs.py", "or name == \"min\" and best == [0]:", "or best == [0]:"),
+    ("_rules/pairs.py", "or name == \"min\" and best_constant == 0", "or best_constant == 0"),
     ("_rules/pairs.py", "max(-terms.constant, 0)", "max(terms.constant, 0)"),
     ("_rules/pairs.py", "return Number(self.excess(plus, minus))", "return Number(self.excess(minus, plus))"),
-    ("_rules/pairs.py", "(-1, number.minus)", "(1, number.minus)"),
+    ("_rules/pairs.py", "of_plus - of_minus", "of_plus + of_minus"),
     ("_rules/pairs.py", "self.constant - other.constant", "self.constant + other.constant"),
     ("_rules/pairs.py", "self.minus + other.plus,", "self.minus,"),
     ("_rules/pairs.py", "if by == 0:\n            return 0", "if by == 0:\n            return 1"),
@@ -263,14 +276,14 @@ MUTANTS = [
     ("_rules/pairs.py", "if isinstance(operator, (ast.Gt, ast.GtE)):", "if isinstance(operator, ast.Gt):"),
     ("_rules/pairs.py", "when = when == isinstance(operator, ast.Eq)", "when = when != isinstance(operator, ast.Eq)"),
     ("_rules/pairs.py", "self.jump(high, low, True, target, when)", "self.jump(high, low, False, target, when)"),
-    ("_rules/pairs.py", "self.jump(high + may_be_equal, low,", "self.jump(high + 1, low,"),
-    ("_rules/pairs.py", "low + (not may_be_equal), True", "low, True"),
+    ("_rules/pairs.py", "high + 1 if may_be_equal else high", "high + 1"),
+    ("_rules/pairs.py", "low if may_be_equal else low + 1", "low"),
     ("_rules/pairs.py", "\"jlt\" if may_be_equal else \"jle\", None, high",
      "\"jle\" if may_be_equal else \"jle\", None, high"),
     ("_rules/pairs.py", "\"jle\" if may_be_equal else \"jlt\", None, low",
      "\"jle\" if may_be_equal else \"jle\", None, low"),
     ("_rules/conditions.py", "self.branch(part, skip, not when)", "self.branch(part, skip, when)"),
-    ("_rules/conditions.py", "else (skip, False)", "else (target, False)"),
+    ("_rules/conditions.py", "skip if when else target, False", "target, False"),
     ("_rules/conditions.py", "isinstance(node.op, ast.Or))\n        self.emitter.label(end)",
      "isinstance(node.op, ast.And))\n        self.emitter.label(end)"),
     ("_rules/conditions.py", "self.emitter.new(\"copy\", registers[0])", "registers[0]"),
@@ -280,7 +293,7 @@ MUTANTS = [
     ("_rules/conditions.py", "self.numbers.jump(1, self.numbers.size(value),", "self.numbers.jump(1, value.plus,"),
     # Words, calls and statements.
     ("_rules/calls.py", "self._next_word += 1 if self.kind == \"motion\" else -1", "self._next_word += 1"),
-    ("_rules/calls.py", "if self.words.setdefault(word, bool(names)) != bool(names):", "if False:"),
+    ("_rules/calls.py", "if self.words.setdefault(word, is_given) != is_given:", "if False:"),
     ("_rules/calls.py", "[Number(value.plus), *bounds]", "bounds"),
     ("_rules/calls.py", "if name not in frame.assigned:\n", "if True:\n"),
     ("_rules/calls.py", "if next_word != self._next_word:", "if False:"),
@@ -307,60 +320,84 @@ MUTANTS = [
     ("_rules/reading.py", "if len(names) > 1 or", "if"),
     ("_rules/reading.py", "[len(arguments.args) - len(arguments.defaults):]", ""),
     # Forms of variables, and lengths.
-    ("_rules/translating.py", "if attempt.forms() > forms:", "if False:"),
+    ("_rules/translating.py", "if attempt.forms() > forms_before:", "if False:"),
     ("_rules/expressions.py", "self.attempt.numbers.add(variable.number)", "pass"),
     ("_rules/registers.py", "    _need_short(len(program.lines))\n", ""),
     # Registers.
     ("_rules/emission.py", "set.intersection(*paths)", "set.union(*paths)"),
     ("_rules/emission.py", "self.is_live = name not in ENDS", "self.is_live = True"),
     ("_rules/registers.py", " or item.difference is not None\n", "\n"),
-    ("_rules/registers.py", "(set(item.reads) if item.name == \"copy\" else set())", "set(item.reads)"),
+    ("_rules/registers.py", "{item.writes, *item.reads} if item.name == \"copy\" else {item.writes}",
+     "{item.writes, *item.reads}"),
     ("_rules/registers.py", "        else:\n            next_labels = set()\n", ""),
     ("_rules/registers.py", " if numbers.get(other) in free]", " if other in numbers]"),
     ("_rules/registers.py", "        living |= living_at.get(item.target, set())\n", ""),
     ("_rules/registers.py", "                conflicts[item.writes].add(other)\n", ""),
-]
-"""A file of the package, the text in it (once, or the first), and its replacement."""
+]))
 
 
-def first_failure(mutant: "tuple[str, str, str]") -> str:
-    """The first test that fails with this edit in a copy of the package; empty if all pass. Only for a process of its
-    own."""
-    file, old, new = mutant
-    with tempfile.TemporaryDirectory() as folder:
-        for part in "trlab", "tests":
-            shutil.copytree(TOP / part, Path(folder) / part, ignore=shutil.ignore_patterns("__pycache__"))
-        path = Path(folder) / "trlab" / file
-        path.write_text(path.read_text().replace(old, new, 1))
-        for name in [name for name in sys.modules if name.split(".")[0] in ("trlab", "tests")]:
+def write_copy(mutant: Mutant, folder: Path) -> None:
+    """Copy the package and its tests into a folder, and make the edit there."""
+    for part in "trlab", "tests":
+        shutil.copytree(TOP / part, folder / part, ignore=shutil.ignore_patterns("__pycache__"))
+    path = folder / "trlab" / mutant.file
+    path.write_text(path.read_text("utf-8").replace(mutant.old, mutant.new, 1), "utf-8")
+
+
+def forget_modules() -> None:
+    """Make Python import the package and its tests again, from the first folder that has them."""
+    for name in list(sys.modules):
+        if name.split(".")[0] in ("trlab", "tests"):
             del sys.modules[name]
+
+
+def first_failure_here(names: list[str]) -> str:
+    """The first of these tests that fails; empty if all pass."""
+    from tests.libraries import hypothesis
+
+    # A failure is enough, without the smallest example of it.
+    hypothesis.settings.register_profile("quick", phases=[hypothesis.Phase.generate])
+    hypothesis.settings.load_profile("quick")
+    with open(os.devnull, "w") as nowhere:
+        tests = unittest.defaultTestLoader.loadTestsFromNames([f"tests.{name}" for name in names])
+        result = unittest.TextTestRunner(nowhere, failfast=True).run(tests)
+    failed = [test for test, _ in result.errors + result.failures]
+    return getattr(failed[0], "test_case", failed[0]).id() if failed else ""
+
+
+def first_failure(mutant: Mutant) -> str:
+    """The first test that fails with this edit in a copy of the package; empty if all pass. It changes the modules and
+    the folder of its process, which must therefore do nothing else."""
+    with tempfile.TemporaryDirectory() as folder:
+        write_copy(mutant, Path(folder))
+        forget_modules()
         sys.path.insert(0, folder)
         os.chdir(folder)
-        # A failure is enough, without the smallest example of it.
-        hypothesis.settings.register_profile("quick", phases=[hypothesis.Phase.generate])
-        hypothesis.settings.load_profile("quick")
-        with open(os.devnull, "w") as nowhere:
-            tests = unittest.defaultTestLoader.loadTestsFromNames([f"tests.{name}" for name in TESTS[file]])
-            result = unittest.TextTestRunner(nowhere, failfast=True).run(tests)
-            failed = [test for test, _ in result.errors + result.failures]
-            return getattr(failed[0], "test_case", failed[0]).id() if failed else ""
+        return first_failure_here(TESTS[mutant.file])
+
+
+def without_edits(mutants: list[Mutant]) -> list[Mutant]:
+    """An edit that changes nothing for each group of tests that has to notice one of these mutants."""
+    file_by_tests = {tuple(TESTS[mutant.file]): mutant.file for mutant in mutants}
+    return [Mutant(file, old="", new="") for file in file_by_tests.values()]
 
 
 def main() -> int:
-    chosen = [mutant for mutant in MUTANTS if not sys.argv[1:] or any(word in mutant[0] for word in sys.argv[1:])]
-    for file, old, _ in chosen:
-        if old not in (TOP / "trlab" / file).read_text():
-            raise SystemExit(f"{file} has no {old!r}: adapt the list of mutants")
+    words = sys.argv[1:]
+    chosen = [mutant for mutant in MUTANTS if not words or any(word in mutant.file for word in words)]
+    for mutant in chosen:
+        if not mutant.is_possible():
+            raise SystemExit(f"{mutant.file} has no {mutant.old!r}: adapt the list of mutants")
     os.environ["TRLAB"] = find_program()
     missed = 0
     # Each edit has its own process, which need not import the libraries again.
     with multiprocessing.get_context("fork").Pool(maxtasksperchild=1) as pool:
-        unedited = [(file, "", "") for file in {tuple(TESTS[file]): file for file, _, _ in chosen}.values()]
-        if any(pool.imap(first_failure, unedited, chunksize=1)):
+        if any(pool.imap(first_failure, without_edits(chosen), chunksize=1)):
             raise SystemExit("the tests fail without any edit")
-        for (file, old, new), test in zip(chosen, pool.imap(first_failure, chosen, chunksize=1)):
+        for mutant, test in zip(chosen, pool.imap(first_failure, chosen, chunksize=1)):
             missed += not test
-            print(f"{test.removeprefix('tests.') or 'NOT NOTICED'}: {file}: {old!r} -> {new!r}", flush=True)
+            notice = test.removeprefix("tests.") or "NOT NOTICED"
+            print(f"{notice}: {mutant.file}: {mutant.old!r} -> {mutant.new!r}", flush=True)
     print(f"{len(chosen) - missed} of {len(chosen)} edits are noticed")
     return 1 if missed else 0
 

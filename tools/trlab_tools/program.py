@@ -19,7 +19,7 @@ BUILT = TOP / "crates" / "trlab_program" / "out" / "trlab_program"
 LONGEST = 300  # seconds after which a run counts as a hang; this long because other work may slow everything down
 NOT_FOUND = "build the program first (./trlab --prove), or name one in TRLAB"
 # The exit statuses of the program.
-DONE, REFUSED, WORDS, MEMORY, DEVICE = range(5)
+DONE, REJECTED, WRONG_ARGUMENTS, OUT_OF_MEMORY, DEVICE_FAILED = range(5)
 Answer = tuple[Union[int, str], bytes]
 
 

@@ -14,6 +14,10 @@ LEAST_POINTS, LEAST_FREEDOM, MAX_DEGREE = 5, 2, 4
 MAX_TURNS = 10
 """The turns of a fit that is not linear."""
 
+CONVERGED_STEP, MAX_LAST_STEP = 1e-4, 1e-2
+"""The step of the vertex after which such a fit ends, and the largest one with which it counts after the last turn, as
+shares of half the range of the points."""
+
 NOT_LOWER = 3
 """The maximum is next to a point that is at most this many of its standard errors lower than the highest one."""
 
@@ -105,28 +109,31 @@ class Curve:
         """The polynomials through these points."""
         for degree in range(2, min(MAX_DEGREE, end - first - 1 - LEAST_FREEDOM) + 1):
             piece = self._piece(first, end, degree)
-            its = piece.coefficients
-            ends = self.places[first], self.places[end - 1]
-            inside = real_roots(derivative(its), *ends)
-            x = max(inside, key=lambda x: value(its, x), default=None)
-            top = None
-            if x is not None and value(its, x) > max(value(its, end) for end in ends):
-                bend = value(derivative(derivative(its)), x)
-                top = self._top(piece.solve, first, end, x, slopes(x, degree) / -bend, value(its, x), powers(x, degree))
-            yield self._fit([piece], first, end, top, False)
+            yield self._fit([piece], first, end, self._top_of_polynomial(piece, first, end), has_corner=False)
+
+    def _top_of_polynomial(self, piece: _Piece, first: int, end: int) -> Optional[Top]:
+        """The maximum of a polynomial through these points, if it is between the outer ones and higher than there."""
+        curve = piece.coefficients
+        ends = self.places[first], self.places[end - 1]
+        level_places = real_roots(derivative(curve), *ends)
+        x = max(level_places, key=lambda place: value(curve, place), default=None)
+        if x is None or value(curve, x) <= max(value(curve, place) for place in ends):
+            return None
+        degree, bend = len(curve) - 1, value(derivative(derivative(curve)), x)
+        return self._top(piece.solve, first, end, x, slopes(x, degree) / -bend, value(curve, x), powers(x, degree))
 
     def _skewed(self, first: int, end: int) -> Iterator[Fit]:
-        """The curve of two halves of parabolas with the same vertex at c, if it is inside: by the method of Gauss and
-        Newton, from the vertex of the parabola on."""
+        """The curve of two halves of parabolas with the same vertex, if it is inside: by the method of Gauss and Newton,
+        from the vertex of the parabola on."""
         start = self._piece(first, end, 2).coefficients
         if end - first - 4 < LEAST_FREEDOM or start[2] >= 0:
             return
         places, mean, weights = self.places[first:end], self.mean[first:end], 1 / self.sem[first:end]
-        c = -start[1] / (2 * start[2])
+        vertex = -start[1] / (2 * start[2])
         for _ in range(MAX_TURNS):
-            if not places[1] <= c <= places[-2]:
+            if not places[1] <= vertex <= places[-2]:
                 return
-            distance = places - c
+            distance = places - vertex
             halves = numpy.stack([distance < 0, distance >= 0], axis=1).astype(float)
             design = numpy.column_stack([numpy.ones(len(places)), -halves * distance[:, None] ** 2])
             height, *bends = numpy.linalg.pinv(design * weights[:, None]) @ (mean * weights)
@@ -134,14 +141,15 @@ class Curve:
             jacobian = numpy.column_stack([design, 2 * distance * (halves @ bends)])
             solve = numpy.linalg.pinv(jacobian * weights[:, None]) * weights
             step = float(solve[3] @ residuals)
-            c += step
-            if abs(step) < 1e-4:
+            vertex += step
+            if abs(step) < CONVERGED_STEP:
                 break
-        if min(bends) > 0 and abs(step) < 1e-2:
+        if min(bends) > 0 and abs(step) < MAX_LAST_STEP:
             chi2 = float(((residuals * weights) ** 2).sum()) * self._scale
-            units = numpy.eye(4)
-            top = self._top(solve, first, end, c, units[3], float(height), units[0])
-            yield Fit(chi2, 4, end - first, len(self.mean) - end + first, top, False)
+            # The parameters are the height, the two bends and the vertex, so that place and height are two of them.
+            rows = numpy.eye(4)
+            top = self._top(solve, first, end, vertex, rows[3], float(height), rows[0])
+            yield Fit(chi2, 4, end - first, len(self.mean) - end + first, top, has_corner=False)
 
     def _top(
         self, solve: Array, first: int, end: int, x: float, x_row: Array, y: float, y_row: Array,
@@ -188,10 +196,10 @@ class Curve:
             elif next_slope >= 0 and right == 2:
                 found += self._at_vertex(solve, first, end, falling, left + 1, (x, self.places[end - 1]))
         if meetings:
-            top, has_corner = max(found, key=lambda one: one[0].y, default=(None, False))
+            top, has_corner = max(found, key=lambda candidate: candidate[0].y, default=(None, False))
             yield self._fit(pieces, first, end, top, has_corner)
 
-    def _at_corner(self, solve: Array, range_: tuple[int, int, int], its: tuple[Array, Array], x: float) -> Top:
+    def _at_corner(self, solve: Array, range_: tuple[int, int, int], halves: tuple[Array, Array], x: float) -> Top:
         """The maximum between two points, next to which polynomials meet at x in a corner.
 
         The corner may be round. Then the maximum is anywhere between the two points, and its height between that of the
@@ -199,7 +207,7 @@ class Curve:
         error of the place, and a little more than half for the height, which is at the end of its range if the corner is
         sharp."""
         first, place, end = range_
-        (rising, falling), (before, after) = its, (self.places[place - 1], self.places[place])
+        (rising, falling), (before, after) = halves, (self.places[place - 1], self.places[place])
         slope, next_slope = value(derivative(rising), x), value(derivative(falling), x)
         zeros = numpy.zeros(len(rising)), numpy.zeros(len(falling))
         height = numpy.concatenate([powers(x, len(rising) - 1), zeros[1]])
@@ -212,12 +220,13 @@ class Curve:
         )
 
     def _at_vertex(
-        self, solve: Array, first: int, end: int, its: Array, offset: int, inside: tuple[float, float]
+        self, solve: Array, first: int, end: int, parabola: Array, offset: int, inside: tuple[float, float]
     ) -> list[tuple[Top, bool]]:
         """The vertex of a parabola whose coefficients begin at `offset`, if it is a maximum inside its piece."""
-        if its[2] >= 0 or not inside[0] < -its[1] / (2 * its[2]) < inside[1]:
+        _, slope, bend = parabola
+        if bend >= 0 or not inside[0] < -slope / (2 * bend) < inside[1]:
             return []
-        x = -its[1] / (2 * its[2])
+        x = -slope / (2 * bend)
         x_row, y_row = numpy.zeros(len(solve)), numpy.zeros(len(solve))
-        x_row[offset:offset + 3], y_row[offset:offset + 3] = slopes(x, 2) / (-2 * its[2]), powers(x, 2)
-        return [(self._top(solve, first, end, x, x_row, value(its, x), y_row), False)]
+        x_row[offset:offset + 3], y_row[offset:offset + 3] = slopes(x, 2) / (-2 * bend), powers(x, 2)
+        return [(self._top(solve, first, end, x, x_row, value(parabola, x), y_row), False)]

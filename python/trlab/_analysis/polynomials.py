@@ -35,17 +35,23 @@ def slopes(x: float, degree: int) -> Array:
 
 def real_roots(coefficients: Array, low: float, high: float) -> list[float]:
     """The real roots from `low` to `high`, for polynomials of degree 1 or 2 by the stable formula."""
-    its = numpy.trim_zeros(coefficients, "b").tolist()
-    if len(its) < 2:
+    trimmed = numpy.trim_zeros(coefficients, "b").tolist()
+    if len(trimmed) < 2:
         return []
-    if len(its) == 2:
-        roots = [-its[0] / its[1]]
-    elif len(its) == 3:
-        square = its[1] ** 2 - 4 * its[2] * its[0]
-        if square < 0:
-            return []
-        half = -(its[1] + math.copysign(math.sqrt(square), its[1])) / 2
-        roots = [half / its[2], *([its[0] / half] if half else [])]
+    if len(trimmed) == 2:
+        constant, slope = trimmed
+        roots = [-constant / slope]
+    elif len(trimmed) == 3:
+        roots = _roots_of_parabola(*trimmed)
     else:
-        roots = [float(root.real) for root in numpy.roots(its[::-1]) if abs(root.imag) < 1e-9]
+        roots = [float(root.real) for root in numpy.roots(trimmed[::-1]) if abs(root.imag) < 1e-9]
     return [root for root in roots if low <= root <= high]
+
+
+def _roots_of_parabola(constant: float, slope: float, bend: float) -> list[float]:
+    """The real roots of `constant` + `slope` x + `bend` x**2, without the difference of nearly equal numbers."""
+    discriminant = slope**2 - 4 * bend * constant
+    if discriminant < 0:
+        return []
+    half = -(slope + math.copysign(math.sqrt(discriminant), slope)) / 2
+    return [half / bend, constant / half] if half else [half / bend]

@@ -3,7 +3,7 @@ from __future__ import annotations
 
 from fractions import Fraction
 
-from .._inputs.numbers import MAX_CELLS, MAX_SPEED, Density, checked_int, share
+from .._inputs.numbers import MAX_CELLS, MAX_SPEED, Density, checked_int, checked_share
 from .._inputs.rules import Nasch, Rule
 from .rules import steps_to_accelerate
 
@@ -20,7 +20,7 @@ def triangle(limit: int, density: Density) -> Fraction:
     1868) for `gap_rule`. Proved as `nasch_reaches_triangle`, `rule_184_reaches_triangle` and `gap_reaches_triangle`,
     and as a bound for every rule as `run_stays_under_triangle`."""
     fastest = checked_int("limit", limit, 1, MAX_SPEED)
-    exact_density = Fraction(share("density", density))
+    exact_density = Fraction(checked_share("density", density))
     return min(fastest * exact_density, 1 - exact_density)
 
 

@@ -18,8 +18,8 @@ from .rules import Rule, Schedule, need_rule
 from .states import InitialState, even, need_no_name, warn_of_uneven_lanes
 from .roads import Road, cars_on, lanes_of, speeds_of
 from .numbers import (
-    MAX_ALL_STEPS, MAX_CELLS, MAX_SPEED, MAX_STEPS, Density, Key, cars_at, checked_int, checked_key, derived_key,
-    key_digits, share, shown, store,
+    MAX_ALL_STEPS, MAX_CELLS, MAX_SPEED, MAX_STEPS, Density, Key, cars_at, checked_int, checked_key, checked_share,
+    derived_key, key_digits, shown, store,
 )
 from .arguments import RunOptions, input_text
 
@@ -78,7 +78,7 @@ class Job:
         if self.cars is not None:
             store(self, cars=checked_int("cars", self.cars, 0, self.cells()))
         else:
-            store(self, density=share("density", cast(Density, self.density)))
+            store(self, density=checked_share("density", cast(Density, self.density)))
         warn_of_uneven_lanes(self.start, [self.count()], self.length, self.lanes)
 
     def _store_road(self) -> None:

@@ -26,10 +26,19 @@ example from `trlab part KEY 3`, is the SHA-256 of these ASCII characters. KEY h
 there, and the number is decimal."""
 
 ALWAYS = 2**31
-"""The number in input files for the probability 1."""
+"""The probability 1 in input files, where each probability is a multiple of 1 / 2**31."""
 
-MAX_CELLS, MAX_SPEED, MAX_STEPS, MAX_POINTS = 100000, 35, 500000, 200
-"""The maximum length of a lane in cells, speed in cells per step, number of steps and number of points of one input."""
+MAX_CELLS = 100000
+"""The maximum length of a lane, in cells."""
+
+MAX_SPEED = 35
+"""The maximum speed limit, in cells per step."""
+
+MAX_STEPS = 500000
+"""The maximum number of steps of one input."""
+
+MAX_POINTS = 200
+"""The maximum number of points of one input."""
 
 MAX_ALL_STEPS = 10**15
 """The maximum number of steps of a job, whose inputs have at most `MAX_STEPS` each; it would take months."""
@@ -48,7 +57,7 @@ _MAX_CHARACTERS = 4000
 def checked_int(name: str, number: object, minimum: int, maximum: Optional[int] = None) -> int:
     """A whole number in its range, as Python's `int`. Raises `ParameterError`, which names it, if it is anything else:
     floats, booleans and members of an enumeration are not whole numbers."""
-    value = _index(number)
+    value = _as_int(number)
     shown_maximum = "2**256 - 1" if maximum == MAX_KEY else maximum
     if value is None:
         allowed = f"at least {minimum}" if maximum is None else f"from {minimum} to {shown_maximum}"
@@ -60,10 +69,10 @@ def checked_int(name: str, number: object, minimum: int, maximum: Optional[int] 
     return value
 
 
-def share(name: str, number: Probability) -> Union[int, float, Fraction]:
+def checked_share(name: str, number: Probability) -> Union[int, float, Fraction]:
     """A number from 0 to 1, as Python's own. Raises `ParameterError`, which names it, if it is anything else. A string
     or a `Decimal` is stored as a fraction of the same value."""
-    value = _real(number)
+    value = _as_real(number)
     if value is None:
         raise ParameterError(f"{name} must be a number between 0 and 1, not {shown(number)}")
     if not 0 <= value <= 1:
@@ -71,7 +80,7 @@ def share(name: str, number: Probability) -> Union[int, float, Fraction]:
     return value
 
 
-def _index(number: Any) -> Optional[int]:
+def _as_int(number: Any) -> Optional[int]:
     """A whole number of any type as Python's own; None if it is not one."""
     if _is_not_number(number):
         return None
@@ -81,14 +90,14 @@ def _index(number: Any) -> Optional[int]:
         return None
 
 
-def _real(number: Any) -> Union[None, int, float, Fraction]:
+def _as_real(number: Any) -> Union[None, int, float, Fraction]:
     """A finite number of any type as Python's own; None if it is not one."""
     if isinstance(number, (str, Decimal)) and not isinstance(number, Enum):
-        return _fraction(str.__str__(number) if isinstance(number, str) else str(number))
+        return _as_fraction(str.__str__(number) if isinstance(number, str) else str(number))
     if _is_not_number(number):
         return None
     if isinstance(number, Integral):
-        return _index(number)
+        return _as_int(number)
     if isinstance(number, Rational):
         return Fraction(int(number.numerator), int(number.denominator))
     try:
@@ -99,7 +108,7 @@ def _real(number: Any) -> Union[None, int, float, Fraction]:
     return value if math.isfinite(value) else None
 
 
-def _fraction(written: str) -> Optional[Fraction]:
+def _as_fraction(written: str) -> Optional[Fraction]:
     """A number that is written as a string; None if it is not one."""
     if len(written) > _MAX_CHARACTERS or not _NUMBER.fullmatch(written):
         return None
@@ -111,8 +120,9 @@ def _fraction(written: str) -> Optional[Fraction]:
 
 def _is_not_number(number: Any) -> bool:
     """Whether this would pass for a number, although it is a truth value, a member of an enumeration, or an array."""
-    kind = getattr(getattr(number, "dtype", None), "kind", "i")
-    return isinstance(number, (bool, Enum)) or kind not in ("i", "u", "f") or getattr(number, "shape", ()) != ()
+    # Numbers and arrays of numpy have a kind of data and a shape.
+    kind, shape = getattr(getattr(number, "dtype", None), "kind", "i"), getattr(number, "shape", ())
+    return isinstance(number, (bool, Enum)) or kind not in ("i", "u", "f") or shape != ()
 
 
 def shown(value: object) -> str:
@@ -128,7 +138,7 @@ def shown(value: object) -> str:
 def probability(name: str, number: Probability) -> Union[int, float, Fraction]:
     """A probability, as Python's own number. Raises `ParameterError` with its name if it is anything else, or so close
     to 0 or 1 that files, which have multiples of 1 / 2**31, would have 0 or 1."""
-    value = share(name, number)
+    value = checked_share(name, number)
     nearest = Fraction(parts(value), ALWAYS)
     if nearest in (0, 1) and nearest != value:
         raise ParameterError(
@@ -139,7 +149,7 @@ def probability(name: str, number: Probability) -> Union[int, float, Fraction]:
 
 def parts(number: Probability) -> int:
     """A probability times 2**31, to the nearest whole number."""
-    return round(Fraction(share("a probability", number)) * ALWAYS)
+    return round(Fraction(checked_share("a probability", number)) * ALWAYS)
 
 
 def checked_key(key: object) -> Key:
@@ -148,7 +158,7 @@ def checked_key(key: object) -> Key:
         if not re.fullmatch("[0-9a-fA-F]{64}", key):
             raise ParameterError(f"key must be a number or 64 hexadecimal digits, not {shown(key)}")
         return str.__str__(key)
-    if _index(key) is None:
+    if _as_int(key) is None:
         raise ParameterError(f"key must be a whole number or 64 hexadecimal digits, not {shown(key)}")
     return checked_int("key", key, 0, MAX_KEY)
 
@@ -170,7 +180,7 @@ def derived_key(purpose: str, key: Key, number: int) -> str:
 def cars_at(density: Density, cells: int) -> int:
     """The number of cars on `cells` cells that is nearest to a density. Raises `ParameterError` if it is 0 for a
     density above 0, because an empty road is not what was asked for."""
-    exact = Fraction(share("density", density)) * cells
+    exact = Fraction(checked_share("density", density)) * cells
     cars = round(exact)
     if exact and not cars:
         raise ParameterError(

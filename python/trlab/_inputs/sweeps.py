@@ -13,7 +13,7 @@ from . import reading
 from .jobs import Job
 from .numbers import (
     MAX_ALL_STEPS, MAX_CELLS, MAX_POINTS, MAX_SPEED, MAX_STEPS, MAX_THREADS, Density, Key, cars_at, checked_int,
-    checked_key, derived_key, key_digits, share, shown, store,
+    checked_key, checked_share, derived_key, key_digits, shown, store,
 )
 from .roads import Road, cars_on, roads_of
 from .rules import Rule, need_rule
@@ -68,7 +68,8 @@ class Sweep:
             store(self, cars=tuple(checked_int("cars", cars, 0, self.cells()) for cars in _listed("cars", self.cars)))
         if self.densities is not None:
             densities = _listed("densities", self.densities)
-            store(self, densities=tuple(share("a density of `densities`", density) for density in densities))
+            shares = [checked_share("a density of `densities`", density) for density in densities]
+            store(self, densities=tuple(shares))
         if not isinstance(self.start, InitialState):
             need_no_name(self.start)
             if not (self.cars is None and self.densities is None):

@@ -5,7 +5,7 @@ from __future__ import annotations
 
 import sys
 from array import array
-from collections.abc import Callable, Sequence
+from collections.abc import Callable, Iterator, Sequence
 from typing import Any, NamedTuple, Optional
 
 from .._inputs.numbers import MAX_CELLS, MAX_SPEED
@@ -94,6 +94,13 @@ class Fault(NamedTuple):
     contradiction: str
 
 
+def rows_in(numbers: array[int], columns: int) -> Iterator[tuple[int, ...]]:
+    """The rows of a table, whose numbers are given one after the other."""
+    all_numbers = iter(numbers)
+    # Each row takes the next number for each of its columns.
+    return zip(*columns * [all_numbers])
+
+
 def first_fault(numbers: array[int], columns: int) -> Optional[Fault]:
     """The first impossible row; None if all rows are possible. If numpy is imported, it accepts long tables ten times
     as fast."""
@@ -102,7 +109,7 @@ def first_fault(numbers: array[int], columns: int) -> Optional[Fault]:
     if _are_possible(numbers, columns, rules):
         return None
     before: Optional[tuple[int, ...]] = None
-    for place, row in enumerate(zip(*[iter(numbers)] * columns)):
+    for place, row in enumerate(rows_in(numbers, columns)):
         faults = rules(row)
         if any(faults):
             return Fault(place, sentences[faults.index(True)])

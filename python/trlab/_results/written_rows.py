@@ -9,7 +9,7 @@ from collections.abc import Iterator, Sequence
 from typing import Any
 
 from .._errors import OutputFormatError
-from .possible import first_fault
+from .possible import first_fault, rows_in
 
 BLOCK = 1 << 18
 DIGITS = b"0123456789"
@@ -38,7 +38,7 @@ class WrittenRows(Sequence[Any]):
 
     def tuples(self) -> Iterator[tuple[int, ...]]:
         """The rows as plain tuples."""
-        return zip(*[iter(self.numbers)] * self.columns)
+        return rows_in(self.numbers, self.columns)
 
     def __getitem__(self, place: Any) -> Any:
         chosen = range(len(self))[place]

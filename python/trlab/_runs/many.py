@@ -8,7 +8,7 @@ from contextlib import contextmanager, nullcontext, suppress
 from pathlib import Path
 from queue import Empty, SimpleQueue
 from collections.abc import Callable, Iterable, Iterator, Mapping
-from typing import Any, Optional, TypeVar, Union, overload
+from typing import Any, NamedTuple, Optional, TypeVar, Union, overload
 
 from .._errors import ParameterError, set_first_cause
 from .cache import Cache
@@ -141,16 +141,16 @@ def _results(
     finished: SimpleQueue[Future[Any]] = SimpleQueue()
     names: dict[Future[Any], Any] = {}
     inputs = iter(named.items())
-    with _running(executor, cache, at_once, names) as (pool, lease, waiting):
+    with _running(executor, cache, at_once, names) as run:
 
         def submit(count: Optional[int]) -> None:
             """Pass the next inputs to the executor, or all of them."""
             for name, input in itertools.islice(inputs, count):
-                future = pool.submit(_task, call, input, cache, lease)
+                future = run.pool.submit(_task, call, input, cache, run.lease)
                 names[future] = name
                 future.add_done_callback(finished.put)
 
-        submit(waiting)
+        submit(run.count_at_first)
         try:
             for done in range(1, len(named) + 1):
                 future = _next_of(finished)
@@ -165,11 +165,19 @@ def _results(
                 report.end()
 
 
+class _Run(NamedTuple):
+    """The executor of a run, its lease, and how many inputs the executor gets at first; None for all of them."""
+
+    pool: Executor
+    lease: Lease
+    count_at_first: Optional[int]
+
+
 @contextmanager
 def _running(
     executor: Optional[Executor], cache: Optional[Cache], at_once: Optional[int], futures: dict[Future[Any], Any]
-) -> Iterator[tuple[Executor, Lease, Optional[int]]]:
-    """The executor, the lease of the run, and how many inputs it gets at first. At the end nothing of it continues."""
+) -> Iterator[_Run]:
+    """A run, of which nothing continues at the end of the block."""
     current = setting()
     # A run inside a task of another run leaves the other processors to the other tasks.
     count = at_once or (processors() if current is None else 1)
@@ -182,7 +190,7 @@ def _running(
             with nullcontext() if executor is None else lease.held():
                 try:
                     # Threads of our own always have a next input while the caller uses a result.
-                    yield pool, lease, at_once if executor is not None else 2 * count
+                    yield _Run(pool, lease, at_once if executor is not None else 2 * count)
                 finally:
                     processes.stop()
                     running += [future for future in futures if not future.cancel()]

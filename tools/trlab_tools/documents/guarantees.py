@@ -1,12 +1,16 @@
 """Are the statements of docs/dev/GUARANTEES.md true about the files in which a promise is read, the tests against empty promises,
 and the libraries that are trusted?"""
 import re
+from typing import NamedTuple
 
 from .. import cases
 from ..command import Verdicts
 from ..finding import match_in
-from ..proofs import bodies, record
+from ..proofs import record
+from ..proofs.bodies import read
+from ..proofs.crates import Crate, crates_of, libraries_of
 from ..proofs.false_statements import FALSE
+from ..proofs.judging import OF_CLAUSE
 from .files import QUOTED, content
 
 PAGE = "docs/dev/GUARANTEES.md"
@@ -36,31 +40,55 @@ def walk_leads_to_definitions() -> Verdicts:
         above.append(text)
 
 
-def recorded(crate: bodies.Crate) -> list[tuple[str, str, bool]]:
-    """The rows of a crate's record: a wrong body, a function that the prover has refused with it, and whether that was a clause."""
-    rows = (row.split("\t") for row in bodies.read(record.path_of(crate)).splitlines() if not row.startswith(("#", "sources")))
-    return [(name, path, bool(bodies.OF_CLAUSE.search(line))) for name, _, path, _, line in rows]
+class Row(NamedTuple):
+    """A row of a record: a wrong body, the path of a function that the prover has refused with it, and whether a clause was."""
+
+    body: str
+    path: str
+    is_by_clause: bool
 
 
-def numbers_of_bodies(crate: bodies.Crate) -> tuple[int, ...]:
+def recorded(crate: Crate) -> list[Row]:
+    """The rows of a crate's record."""
+    lines = [line for line in read(record.path_of(crate)).splitlines() if not line.startswith(("#", "sources"))]
+    rows = []
+    for line in lines:
+        body, _, path, _, refusal = line.split("\t")
+        rows.append(Row(body, path, bool(OF_CLAUSE.search(refusal))))
+    return rows
+
+
+class Numbers(NamedTuple):
     """How many wrong bodies of a crate are refused, and by a clause of a public function; how many public functions have a clause,
     such a body, and a reason why they have none."""
+
+    refused: int
+    by_public_clause: int
+    public: int
+    covered: int
+    without: int
+
+
+def numbers_of_bodies(crate: Crate) -> Numbers:
+    """The numbers of a crate."""
     rows = recorded(crate)
-    refused = [body for body in crate.bodies if any(name == body.name for name, _, _ in rows)]
-    by_clause = {name for name, _, is_by_clause in rows if is_by_clause}
-    paths = {path for _, path, is_by_clause in rows if is_by_clause}
+    names, names_by_clause = {row.body for row in rows}, {row.body for row in rows if row.is_by_clause}
+    refused = [body for body in crate.bodies if body.name in names]
+    by_public_clause = [body for body in refused if body.name in names_by_clause and not body.is_private]
+    paths = {row.path for row in rows if row.is_by_clause}
     covered = [function for function in crate.public if any(function.path_in([path]) for path in paths)]
-    by_public_clause = [body for body in refused if body.name in by_clause and not body.is_private]
-    return len(refused), len(by_public_clause), len(crate.public), len(covered), len(crate.without)
+    return Numbers(len(refused), len(by_public_clause), len(crate.public), len(covered), len(crate.without))
 
 
 def numbers_of_tests() -> dict[str, tuple[int, ...]]:
     """Statements with numbers, which are groups of these patterns, and the numbers that the files have."""
-    numbers = [sum(column) for column in zip(*map(numbers_of_bodies, bodies.crates_of([])))]
+    numbers = Numbers(*map(sum, zip(*map(numbers_of_bodies, crates_of([])))))
     every_case = [case for name, content in cases.files() for case in cases.cases_of(name, content)]
     return {
-        r"(\d+) wrong bodies, (\d+) of them by a clause of a public function": tuple(numbers[:2]),
-        r"(\d+) public functions with a clause; (\d+) have such a body, and (\d+) a reason why not": tuple(numbers[2:]),
+        r"(\d+) wrong bodies, (\d+) of them by a clause of a public function": (numbers.refused, numbers.by_public_clause),
+        r"(\d+) public functions with a clause; (\d+) have such a body, and (\d+) a reason why not": (
+            numbers.public, numbers.covered, numbers.without
+        ),
         r"(\d+) false statements of (\d+) laws": (len(FALSE), len({false.law for false in FALSE})),
         r"(\d+) cases with (\d+) command lines": (len(every_case), sum(len(case.calls) for case in every_case)),
     }
@@ -76,7 +104,7 @@ def numbers_are_right() -> Verdicts:
 
 def trusted_libraries_are_listed() -> Verdicts:
     """GUARANTEES names each library of the toolchain that crates.txt names, and no other."""
-    crates = bodies.libraries_of()
+    crates = libraries_of()
     used = {name for names in crates.values() for name in names} - crates.keys()
     listed = set(QUOTED.findall(match_in(TRUSTED, content(PAGE))[1]))
     yield listed == used, f"{PAGE} and crates.txt have different trusted libraries: {sorted(listed ^ used)}"

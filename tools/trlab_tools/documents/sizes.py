@@ -5,7 +5,7 @@ from collections.abc import Iterable
 
 from .. import TOP
 from ..command import Verdicts
-from ..proofs import bodies
+from ..proofs.bodies import read
 from .decisions import PAGE as DECISIONS, decisions
 from .files import FENCED, content, documents
 
@@ -27,16 +27,17 @@ def words(texts: Iterable[str]) -> str:
 def lines_of(pattern: str) -> list[str]:
     """The lines of the files of crates that match a pattern, without those of tests."""
     files = sorted(glob.glob(os.path.join(TOP, "crates", "*", pattern), recursive=True))
-    return [line for file in files if not any(f"/{crate}/" in file for crate in TESTS) for line in bodies.read(file).splitlines()]
+    files_without_tests = [file for file in files if not any(f"/{crate}/" in file for crate in TESTS)]
+    return [line for file in files_without_tests for line in read(file).splitlines()]
 
 
 def size_of_sources() -> str:
-    """What decision 146 has to say."""
+    """The words of decision 146 about the lines of sources."""
     return f"have {in_thousands(len(lines_of('src/**/*.rt')))} lines without tests"
 
 
 def size_of_pages() -> str:
-    """What decision 163 has to say of all pages."""
+    """The words of decision 163 about all pages."""
     pages = [content(name) for name in documents()]
     blocks = [block for page in pages for block in FENCED.findall(page)]
     tables = [line for page in pages for line in FENCED.sub("", page).splitlines() if line.startswith("|")]
@@ -44,7 +45,7 @@ def size_of_pages() -> str:
 
 
 def share_of_imports() -> str:
-    """What decision 164 has to say."""
+    """The words of decision 164 about imports."""
     lines = lines_of("specs/**/*.antt")
     share = sum(line.startswith("use ") for line in lines) / len(lines)
     return f"Imports are {round(100 * share)} percent of the lines of definitions"

@@ -5,17 +5,16 @@ bytes, words or lines. An input that would take long to run is drawn again.
 
 A choice with weights, such as three in four, is a choice from a list in which some items are repeated."""
 import random
-from collections.abc import Callable, Iterator, Sequence
-from typing import TypeVar
+from collections.abc import Iterator, Sequence
+from typing import NamedTuple
 
 from ..worked import examples
+from .outputs import Expectation, expectation
 from .programs import (
-    FORMS, INPUT, KINDS, NUMBER, DIVISOR, PROBABILITY, RANDOM_WORD, REGISTERS, TARGET, Form, Instruction, encode, operand_text,
+    DIVISOR, FORMS, INPUT, INPUTS, KINDS, NUMBER, PROBABILITY, RANDOM_WORD, REGISTERS, TARGET, Form, Instruction, encode,
+    operand_text,
 )
 from .reader import SPEEDS, Job, Sweep
-
-Test = TypeVar("Test")
-Read = TypeVar("Read")
 
 MAX_CELLS_OF_RUN = 120000  # of all snapshots together
 MAX_CELLS_OF_SWEEP = 60000  # of all steps together
@@ -24,6 +23,8 @@ WIDE = 400  # one in 400 jobs has a road that several workers share
 NUMBERS = (0, 1, 2, 3, 5, 7, 9, 35, 36, 100, 99999, 2147483648, 2147483649, 4294967295, 4294967296)
 BOUNDS_OF_FIELDS = (0, 1, 2, 6, 7, 8, 15, 22, 23, 255)
 PROBABILITIES = (0, 1, 214748365, 536870912, 1073741824, 2147483648)
+# Bytes that inputs often have, and one that none has.
+USUAL_BYTES = b"\n\0 .09azr,;:@-\xff"
 # Bytes, words and lines that are wrong in most places.
 WRONG_BYTES = (b"\n", b"\r", b" ", b"\0", b".", b"9", b"\xff", b"\t", b",", b";", b":", b"@", b"a", b"0", b"-", b"end\n")
 WRONG_WORDS = (b"", b"r7", b"r8", b"x", b"@3", b"01", b"-1")
@@ -33,6 +34,7 @@ WRONG_LINES = (
 )
 # Instructions that a motion program must not have, or that need facts about their operands.
 RISKY = ("side", "cross", "stay", "go", "sub", "add", "mul", "and", "or", "not")
+MAX_BODY = 100  # of a careful program, which has some instructions more and may have 128
 
 
 class Dice(random.Random):
@@ -82,18 +84,24 @@ def random_program(dice: Dice, kind: str) -> list[Instruction]:
     ends = ["go"] if kind == "motion" else ["cross", "stay"]
     names = [dice.choice(list(FORMS)) for _ in range(count - 1)] + [dice.choice(ends)]
     return [
-        (name, tuple(operand(dice, form, place, count) for form in FORMS[name])) for place, name in enumerate(names)
+        Instruction(name, tuple(operand(dice, form, place, count) for form in FORMS[name]))
+        for place, name in enumerate(names)
     ]
+
+
+def get(register: int, name: str) -> Instruction:
+    """The instruction that writes an input into a register."""
+    return Instruction("get", (register, INPUTS.index(name)))
 
 
 def careful_program(dice: Dice) -> list[Instruction]:
     """A motion program that is usually accepted, because the speed is at most the gap and the limit at the end."""
     instructions = random_program(dice, "motion")[:-1]
-    body = [instruction for instruction in instructions if not instruction[0].startswith("j") and instruction[0] not in RISKY]
-    front = [("get", (register, register % 3)) for register in range(4)]
-    speed = ("num", (7, dice.choice((0, 1, 3))))
-    bounds = [("get", (5, 1)), ("get", (6, 2)), ("min", (7, 7, 5)), ("min", (7, 7, 6))]
-    return [*front, *body[:100], speed, *bounds, ("go", (7,))]
+    body = [line for line in instructions if not line.name.startswith("j") and line.name not in RISKY]
+    front = [get(0, "speed"), get(1, "limit"), get(2, "gap"), get(3, "speed")]
+    speed = Instruction("num", (7, dice.choice((0, 1, 3))))
+    bounds = [get(5, "limit"), get(6, "gap"), Instruction("min", (7, 7, 5)), Instruction("min", (7, 7, 6))]
+    return [*front, *body[:MAX_BODY], speed, *bounds, Instruction("go", (7,))]
 
 
 def operand_word(dice: Dice, form: Form, number: int) -> str:
@@ -117,7 +125,8 @@ def program_lines(dice: Dice, kind: str) -> list[bytes]:
     """The lines of a program of a kind: one of the examples, one that is usually accepted, or a random one."""
     choice = dice.random()
     if choice < 0.5:
-        return list(dice.choice([lines for kind_of_lines, lines in EXAMPLE_PROGRAMS if kind_of_lines == kind] or [[b"stay"]]))
+        of_kind = [lines for kind_of_lines, lines in EXAMPLE_PROGRAMS if kind_of_lines == kind]
+        return list(dice.choice(of_kind or [[b"stay"]]))
     program = careful_program(dice) if kind == "motion" and choice < 0.8 else random_program(dice, kind)
     return [instruction_line(dice, name, operands) for name, operands in program]
 
@@ -160,7 +169,8 @@ def key_line(dice: random.Random) -> bytes:
 def lane_line(dice: random.Random, length: int, limit: int, density: float) -> bytes:
     """A line `lane` with random cars."""
     speeds = SPEEDS[:limit + 1].decode()
-    return b"lane " + "".join(dice.choice(speeds) if dice.random() < density else "." for _ in range(length)).encode()
+    cells = [dice.choice(speeds) if dice.random() < density else "." for _ in range(length)]
+    return b"lane " + "".join(cells).encode()
 
 
 def later_rules(dice: Dice, lanes: int, steps: int) -> list[bytes]:
@@ -271,8 +281,8 @@ def with_damaged_bytes(dice: Dice, text: bytes) -> bytes:
 def random_bytes(dice: Dice) -> bytes:
     """Random bytes, some of which begin like an input."""
     count = dice.choice((0, 1, 10, 100, 1000))
-    is_of_some_bytes = dice.happens(0.5)
-    text = bytes(dice.choice(b"\n\0 .09azr,;:@-\xff") for _ in range(count)) if is_of_some_bytes else dice.randbytes(count)
+    has_usual_bytes = dice.happens(0.5)
+    text = bytes(dice.choice(USUAL_BYTES) for _ in range(count)) if has_usual_bytes else dice.randbytes(count)
     return dice.choice((b"", b"road 1\n", b"sweep 1\n", b"motion\n", b"code ", b"notes change\n")) + text
 
 
@@ -303,13 +313,19 @@ def is_small(meaning: object) -> bool:
     return True
 
 
-def random_text(
-    seed: int, number: int, read: Callable[[str, bytes], tuple[Test, Read]]
-) -> tuple[str, bytes, tuple[Test, Read]]:
-    """The command and the input with this number, which takes little work, and the result of `read` for both."""
+class SmallInput(NamedTuple):
+    """An input that takes little work, with its command, and what is expected of it."""
+
+    command: str
+    text: bytes
+    expected: Expectation
+
+
+def small_input(seed: int, number: int) -> SmallInput:
+    """The input with this number."""
     dice = Dice(f"{seed} {number}")
     while True:
         command, text = random_input(dice)
-        test, meaning = read(command, text)
-        if is_small(meaning):
-            return command, text, (test, meaning)
+        expected = expectation(command, text)
+        if is_small(expected.meaning):
+            return SmallInput(command, text, expected)

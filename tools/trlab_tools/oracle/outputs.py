@@ -5,7 +5,7 @@ other: each car has moved by its speed, over cells that were empty, from the cel
 import functools
 import re
 from collections.abc import Callable
-from typing import Optional, Union
+from typing import NamedTuple, Optional, Union
 
 from .. import program as trlab
 from .programs import Fault, Instruction, budget, disassemble
@@ -13,8 +13,6 @@ from .reader import EMPTY, SPEEDS, Check, Job, Sweep, read_check, read_job, read
 
 # An exit status, or the reason why there is none.
 Status = Union[int, str]
-# A test of the status and the output of a command, and the meaning of the input.
-Expectation = tuple[Callable[[Status, bytes], bool], Union[Job, Sweep, Check, Fault]]
 
 # The outputs of `trlab check` for a rejected program, and a note, with the ranges of numbers, flags and the side cell.
 REFUSED_PROGRAM = re.compile(rb"refused at (0|[1-9][0-9]*) reason ([1-9]|1[0-2])\n")
@@ -22,8 +20,20 @@ NOTE = re.compile(rb"note (0|[1-9][0-9]*)(?: r[0-7] (?:[0-9]+ [0-9]+|flag|side))
 HEADING = b"cars,cells,steps,distance,stopped,changes,flow\n"
 ROW = re.compile(rb"[0-9]+(,[0-9]+){6}")
 MILLION = 1000000
-# A place on the road: a lane and a cell.
-Place = tuple[int, int]
+
+
+class Expectation(NamedTuple):
+    """A test of the status and the output of a command, and the meaning of its input."""
+
+    is_right: Callable[[Status, bytes], bool]
+    meaning: Union[Job, Sweep, Check, Fault]
+
+
+class Place(NamedTuple):
+    """A place on the road."""
+
+    lane: int
+    cell: int
 
 
 def fault_line(fault: Fault) -> bytes:
@@ -36,7 +46,7 @@ def reason_of(kind: str, text: bytes) -> Optional[int]:
     """The reason for which `trlab check` rejects a program in its canonical form, or None."""
     status, output = trlab.run(["check"], kind.encode() + b"\n" + text)
     refusal = REFUSED_PROGRAM.fullmatch(output)
-    return int(refusal[2]) if status == trlab.REFUSED and refusal else None
+    return int(refusal[2]) if status == trlab.REJECTED and refusal else None
 
 
 def verdict(kind: str, program: list[Instruction]) -> Optional[int]:
@@ -48,7 +58,7 @@ def is_check(check: Check, status: Status, output: bytes) -> bool:
     """Whether an output says that a program is accepted, with its canonical form, or that it is rejected."""
     refusal = REFUSED_PROGRAM.fullmatch(output)
     if refusal:
-        return status == trlab.REFUSED and int(refusal[1]) < len(check.program)
+        return status == trlab.REJECTED and int(refusal[1]) < len(check.program)
     longest_path = budget(check.program)
     if status != trlab.DONE or longest_path is None:
         return False
@@ -67,8 +77,10 @@ def number_of_note(line: bytes) -> Optional[int]:
 def cars_of(lanes: list[bytes]) -> dict[Place, int]:
     """The speed of each car of a road by its place."""
     return {
-        (number, cell): SPEEDS.index(character)
-        for number, lane in enumerate(lanes) for cell, character in enumerate(lane) if character != EMPTY
+        Place(number, cell): SPEEDS.index(character)
+        for number, lane in enumerate(lanes)
+        for cell, character in enumerate(lane)
+        if character != EMPTY
     }
 
 
@@ -76,7 +88,7 @@ def starts_of(lanes: list[bytes], length: int) -> Optional[dict[Place, int]]:
     """The speed of each car by the place from which it has driven; None if two cars came from one place."""
     starts: dict[Place, int] = {}
     for (lane, cell), speed in cars_of(lanes).items():
-        start = lane, (cell - speed) % length
+        start = Place(lane, (cell - speed) % length)
         if start in starts or speed >= length:
             return None
         starts[start] = speed
@@ -89,11 +101,11 @@ def follows(before: list[bytes], after: list[bytes], length: int) -> bool:
     if starts is None:
         return False
     for (lane, cell), speed in starts.items():
-        passed_cells = [(cell + distance) % length for distance in range(1, speed + 1)]
-        if any((lane, passed) in starts for passed in passed_cells):
+        passed = [Place(lane, (cell + distance) % length) for distance in range(1, speed + 1)]
+        if any(place in starts for place in passed):
             return False
     # The car may have been on the other lane.
-    return sorted(cell for _, cell in starts) == sorted(cell for _, cell in cars_of(before))
+    return sorted(start.cell for start in starts) == sorted(place.cell for place in cars_of(before))
 
 
 def is_lane(line: bytes, job: Job) -> bool:
@@ -142,12 +154,12 @@ def expectation(command: str, text: bytes) -> Expectation:
     try:
         if command == "check":
             check = read_check(text)
-            return functools.partial(is_check, check), check
+            return Expectation(functools.partial(is_check, check), check)
         if command == "run":
             job = read_job(text, verdict)
-            return functools.partial(is_run, job), job
+            return Expectation(functools.partial(is_run, job), job)
         sweep = read_sweep(text, verdict)
-        return functools.partial(is_table, sweep), sweep
+        return Expectation(functools.partial(is_table, sweep), sweep)
     except Fault as fault:
-        refusal = trlab.REFUSED, fault_line(fault)
-        return lambda status, output: (status, output) == refusal, fault
+        refusal = trlab.REJECTED, fault_line(fault)
+        return Expectation(lambda status, output: (status, output) == refusal, fault)

@@ -1,15 +1,12 @@
 """A second assembler: driver programs are read from lines and from bytes, and written in their canonical form.
 
 It is written from docs/PROGRAMS.md and docs/FILES.md and not from the proved program, so that the two can be compared. A
-program is a list of instructions. An instruction is its name and the tuple of its operands, which are numbers; a label is
-the number of its instruction."""
+program is a list of instructions."""
 import re
 from collections.abc import Iterable, Sequence
 from enum import Enum, IntEnum
-from typing import NoReturn, Optional, Union
+from typing import NamedTuple, NoReturn, Optional, Union
 
-# The name of an instruction and its operands.
-Instruction = tuple[str, tuple[int, ...]]
 # The operands of an instruction whose labels are still names.
 UnresolvedOperands = list[Union[bytes, int]]
 
@@ -79,6 +76,28 @@ LABEL = re.compile(rb"[A-Za-z_][A-Za-z0-9_]{0,31}")
 DIGITS = re.compile(rb"[0-9]+")
 MAX_DIGITS = 10
 BLANKS = b" \t"
+
+
+class Instruction(NamedTuple):
+    """The name of an instruction and its operands, which are numbers: that of a target is the place of its instruction."""
+
+    name: str
+    operands: tuple[int, ...]
+
+
+class Unresolved(NamedTuple):
+    """An instruction whose labels are still names, and the number of its line."""
+
+    line: int
+    name: str
+    operands: UnresolvedOperands
+
+
+class Decoded(NamedTuple):
+    """The kind of a program, and its instructions."""
+
+    kind: str
+    instructions: list[Instruction]
 
 
 class Cause(IntEnum):
@@ -185,7 +204,7 @@ def read_label(text: bytes, labels: dict[bytes, int], target: int, line: int) ->
 
 def assemble(lines: Iterable[bytes], first: int) -> list[Instruction]:
     """The program of the lines after its first line, which has the number `first`."""
-    unresolved: list[tuple[int, str, UnresolvedOperands]] = []
+    unresolved: list[Unresolved] = []
     labels: dict[bytes, int] = {}
     for line, text in enumerate(lines, first + 1):
         without_comment = text.split(b";")[0].strip(BLANKS)
@@ -199,24 +218,27 @@ def assemble(lines: Iterable[bytes], first: int) -> list[Instruction]:
         if len(unresolved) == MAX_INSTRUCTIONS:
             raise Fault(line, Cause.TOO_MANY_INSTRUCTIONS)
         operands = read_operands(FORMS[name], statement[len(word):].strip(BLANKS), line)
-        unresolved.append((line, name, operands))
+        unresolved.append(Unresolved(line, name, operands))
     if not unresolved:
         raise Fault(first, Cause.NO_INSTRUCTIONS)
-    return [(name, resolved(operands, labels, line)) for line, name, operands in unresolved]
+    return [resolved(instruction, labels) for instruction in unresolved]
 
 
-def resolved(operands: UnresolvedOperands, labels: dict[bytes, int], line: int) -> tuple[int, ...]:
-    """The operands of an instruction, with the number of an instruction instead of each label."""
-    for operand in operands:
-        if isinstance(operand, bytes) and operand not in labels:
-            raise Fault(line, Cause.NO_SUCH_LABEL)
-    return tuple(labels[operand] if isinstance(operand, bytes) else operand for operand in operands)
+def resolved(unresolved: Unresolved, labels: dict[bytes, int]) -> Instruction:
+    """An instruction, with the place of an instruction instead of each label."""
+    operands = []
+    for operand in unresolved.operands:
+        if isinstance(operand, bytes):
+            if operand not in labels:
+                raise Fault(unresolved.line, Cause.NO_SUCH_LABEL)
+            operand = labels[operand]
+        operands.append(operand)
+    return Instruction(unresolved.name, tuple(operands))
 
 
 def uses_headspeed(instruction: Instruction) -> bool:
     """Whether an instruction gets the speed of the car ahead, which programs of version 1 cannot do."""
-    name, operands = instruction
-    return name == "get" and operands[1] == HEADSPEED
+    return instruction.name == "get" and instruction.operands[1] == HEADSPEED
 
 
 def count_in_fields(forms: Sequence[Form]) -> int:
@@ -231,19 +253,22 @@ def instruction_of(code: bytes, version: int, line: int) -> Instruction:
         raise Fault(line, Cause.OPCODE)
     name = NAMES[opcode - 1]
     forms = FORMS[name]
-    used_fields = count_in_fields(forms)
-    has_number = used_fields < len(forms)
-    operands = (*fields[:used_fields], *([number] if has_number else []))
-    unused = [*fields[used_fields:], *([] if has_number else [number])]
-    instruction = name, operands
+    count = count_in_fields(forms)
+    used, unused = tuple(fields[:count]), tuple(fields[count:])
+    # All operands are in fields, or the last one is the number.
+    if count < len(forms):
+        used += (number,)
+    else:
+        unused += (number,)
+    instruction = Instruction(name, used)
     is_too_new = version < VERSION_WITH_HEADSPEED and uses_headspeed(instruction)
-    if any(unused) or is_too_new or not all(map(is_in_range, forms, operands)):
+    if any(unused) or is_too_new or not all(map(is_in_range, forms, instruction.operands)):
         raise Fault(line, Cause.FIELD_RANGE)
     return instruction
 
 
-def decode(code: bytes, line: int) -> tuple[str, list[Instruction]]:
-    """The kind and the program of the bytes on a line."""
+def decode(code: bytes, line: int) -> Decoded:
+    """The program of the bytes on a line."""
 
     def fail(cause: Cause) -> NoReturn:
         raise Fault(line, cause)
@@ -268,7 +293,7 @@ def decode(code: bytes, line: int) -> tuple[str, list[Instruction]]:
         fail(Cause.NEEDLESS_VERSION)
     if len(code) > size:
         fail(Cause.BYTES_AFTER_CODE)
-    return KINDS[kind], instructions
+    return Decoded(KINDS[kind], instructions)
 
 
 def encode(kind: str, instructions: Sequence[Instruction]) -> bytes:
@@ -285,8 +310,7 @@ def encode(kind: str, instructions: Sequence[Instruction]) -> bytes:
 
 def target_of(instruction: Instruction) -> Optional[int]:
     """The instruction to which a jump goes, or None for another instruction."""
-    name, operands = instruction
-    return operands[-1] if TARGET in FORMS[name] else None
+    return instruction.operands[-1] if TARGET in FORMS[instruction.name] else None
 
 
 def operand_text(form: Form, number: int, count: int) -> str:
@@ -313,9 +337,9 @@ def disassemble(instructions: Sequence[Instruction]) -> bytes:
 
 def instructions_after(instructions: Sequence[Instruction], place: int) -> list[int]:
     """The instructions that may follow the one at a place."""
-    name, _ = instructions[place]
-    target = target_of(instructions[place])
-    following = [] if name in ENDS or name == "jump" else [place + 1]
+    instruction = instructions[place]
+    target = target_of(instruction)
+    following = [] if instruction.name in (*ENDS, "jump") else [place + 1]
     return following if target is None else [*following, target]
 
 

@@ -53,8 +53,8 @@ class Check(NamedTuple):
     notes: bool
 
 
-def is_never_rejected(kind: str, program: list[Instruction]) -> None:
-    """The judge of programs that need not be accepted, or are accepted already."""
+def accept_all(kind: str, program: list[Instruction]) -> None:
+    """The judge that rejects no program: for programs that need not be accepted, or are accepted already."""
 
 
 def lines_of(text: bytes) -> list[bytes]:
@@ -64,7 +64,10 @@ def lines_of(text: bytes) -> list[bytes]:
 
 
 class Lines:
-    """The lines of an input, and the number of the next one, which is read."""
+    """The lines of an input, which are read one after the other, the number of the current one, and the judge of programs.
+
+    A method whose name begins with `read` reads the current line, so that the next one becomes the current one. Each method raises
+    a fault of the current line if it has another form."""
 
     def __init__(self, text: bytes, verdict: Judge) -> None:
         if len(text) > LONGEST_TEXT:
@@ -72,78 +75,82 @@ class Lines:
         self.lines, self.number, self.verdict = lines_of(text), 1, verdict
 
     def is_end(self) -> bool:
-        """Whether all lines are read."""
+        """Whether all lines have been read."""
         return self.number > len(self.lines)
 
-    def head(self) -> Optional[bytes]:
-        """The first word of the next line, or None at the end."""
-        return None if self.is_end() else self.lines[self.number - 1].split(b" ")[0]
-
     def fail(self, cause: int) -> NoReturn:
-        """Raise a fault of the next line."""
+        """Raise a fault of the current line."""
         raise Fault(self.number, cause)
 
-    def words(self) -> list[bytes]:
-        """The words of the next line, which single spaces separate."""
+    def advance(self) -> None:
+        """Make the next line the current one."""
+        self.number += 1
+
+    def current(self) -> bytes:
+        """The current line. That there is none is a fault, too."""
         if self.is_end():
             self.fail(Cause.UNEXPECTED_LINE)
-        words = self.lines[self.number - 1].split(b" ")
+        return self.lines[self.number - 1]
+
+    def first_word(self) -> Optional[bytes]:
+        """The first word of the current line; None at the end of the input."""
+        return None if self.is_end() else self.current().split(b" ")[0]
+
+    def words(self) -> list[bytes]:
+        """The words of the current line, which single spaces separate."""
+        words = self.current().split(b" ")
         if b"" in words:
             self.fail(Cause.UNEXPECTED_LINE)
         return words
 
-    def skip(self) -> None:
-        """Continue with the line after the next one."""
-        self.number += 1
-
-    def value(self, word: bytes, least: int, most: int) -> int:
-        """The number of a word of the next line."""
-        if not NUMBER.fullmatch(word) or not least <= int(word) <= most:
-            self.fail(Cause.NUMBER)
-        return int(word)
-
-    def named(self, name: bytes) -> bytes:
-        """The one word of the next line after its name."""
+    def word_after(self, name: bytes) -> bytes:
+        """The second of the two words of the current line, of which the first is this name."""
         words = self.words()
         if len(words) != 2 or words[0] != name:
             self.fail(Cause.UNEXPECTED_LINE)
         return words[1]
 
-    def number_line(self, name: bytes, least: int, most: int) -> int:
-        """Read a line of this name, and return its number."""
-        value = self.value(self.named(name), least, most)
-        self.skip()
-        return value
+    def number_in(self, word: bytes, minimum: int, maximum: int) -> int:
+        """The number that a word of the current line is."""
+        if not NUMBER.fullmatch(word) or not minimum <= int(word) <= maximum:
+            self.fail(Cause.NUMBER)
+        return int(word)
 
-    def exactly(self, line: bytes) -> None:
-        """Read the next line, which must be this one."""
-        if self.is_end() or self.lines[self.number - 1] != line:
-            self.fail(Cause.UNEXPECTED_LINE)
-        self.skip()
-
-    def key(self) -> None:
-        """Read the line `key`."""
-        word = self.named(b"key")
-        if len(word) != 64 or not HEX.fullmatch(word):
-            self.fail(Cause.KEY)
-        self.skip()
-
-    def hexadecimal(self, word: bytes) -> bytes:
-        """The bytes of a word of the next line."""
+    def bytes_in(self, word: bytes) -> bytes:
+        """The bytes that a word of the current line has in hexadecimal digits."""
         if len(word) % 2 or not HEX.fullmatch(word):
             self.fail(Cause.HEXADECIMAL)
         return bytes.fromhex(word.decode())
 
+    def read_exactly(self, line: bytes) -> None:
+        """Read this line."""
+        if self.current() != line:
+            self.fail(Cause.UNEXPECTED_LINE)
+        self.advance()
+
+    def read_number(self, name: bytes, minimum: int, maximum: int) -> int:
+        """Read a line with this name and a number, and return the number."""
+        number = self.number_in(self.word_after(name), minimum, maximum)
+        self.advance()
+        return number
+
+    def read_key(self) -> bytes:
+        """Read the line `key`, and return its 32 bytes."""
+        word = self.word_after(b"key")
+        if len(word) != 64 or not HEX.fullmatch(word):
+            self.fail(Cause.KEY)
+        self.advance()
+        return bytes.fromhex(word.decode())
+
 
 def read_lines_of_program(lines: Lines) -> list[bytes]:
-    """Read a program after its heading, which is the next line, up to the line `end`, which is then the next one."""
-    lines.skip()
-    first = lines.number
-    while not lines.is_end() and lines.lines[lines.number - 1] != b"end":
-        lines.skip()
-    if lines.is_end():
-        lines.fail(Cause.UNEXPECTED_LINE)
-    return lines.lines[first - 1:lines.number - 1]
+    """Read a program from its heading on up to the line `end`, which is then the current one. The lines between both are returned."""
+    lines.advance()
+    lines_of_program = []
+    while lines.current() != b"end":
+        lines_of_program.append(lines.current())
+        lines.advance()
+    return lines_of_program
 
 
 def read_program(lines: Lines, kind: str, may_have_one: bool = True) -> None:
@@ -157,7 +164,7 @@ def read_program(lines: Lines, kind: str, may_have_one: bool = True) -> None:
             raise Fault(first, Cause.ONE_LANE)
         actual_kind, program = kind, assemble(lines_of_program, first)
     elif len(words) == 2 and words[0] == b"code":
-        code = lines.hexadecimal(words[1])
+        code = lines.bytes_in(words[1])
         if not may_have_one:
             raise Fault(first, Cause.ONE_LANE)
         actual_kind, program = decode(code, first)
@@ -168,7 +175,7 @@ def read_program(lines: Lines, kind: str, may_have_one: bool = True) -> None:
     reason = lines.verdict(kind, program)
     if reason is not None:
         raise Fault(first, Cause.REJECTED_PROGRAM + reason)
-    lines.skip()
+    lines.advance()
 
 
 class RuleWords(NamedTuple):
@@ -179,7 +186,7 @@ class RuleWords(NamedTuple):
 
 
 def rule_words(lines: Lines, words: list[bytes]) -> RuleWords:
-    """The rule that ends the next line. Its probabilities may be out of range."""
+    """The rule that ends the current line. Its probabilities may be out of range."""
     if len(words) < 2 or words[0] != b"rule":
         lines.fail(Cause.UNEXPECTED_LINE)
     rule = RuleWords(words[1], words[2:])
@@ -189,19 +196,19 @@ def rule_words(lines: Lines, words: list[bytes]) -> RuleWords:
 
 
 def check_probabilities(lines: Lines, rule: RuleWords) -> None:
-    """Judge the probabilities of a rule on the next line."""
+    """Judge the probabilities of a rule on the current line."""
     for probability in rule.probabilities:
-        lines.value(probability, 0, CERTAIN)
+        lines.number_in(probability, 0, CERTAIN)
 
 
 def finish_rule(lines: Lines, rule: RuleWords, lanes: int) -> None:
     """Judge whether the road may have a rule, and read its programs."""
     if rule.name == b"rickert" and lanes == 1:
         lines.fail(Cause.ONE_LANE)
-    lines.skip()
+    lines.advance()
     if rule.name == b"own":
         read_program(lines, "motion")
-        if lines.head() in (b"change", b"code"):
+        if lines.first_word() in (b"change", b"code"):
             read_program(lines, "change", may_have_one=lanes == 2)
 
 
@@ -220,7 +227,7 @@ def read_later_rules(lines: Lines, steps: int, lanes: int) -> None:
         if at != b"at" or len(step_and_rule) < 2:
             lines.fail(Cause.UNEXPECTED_LINE)
         rule = rule_words(lines, step_and_rule[1:])
-        step = lines.value(step_and_rule[0], 0, GREATEST_STEP)
+        step = lines.number_in(step_and_rule[0], 0, GREATEST_STEP)
         check_probabilities(lines, rule)
         count += 1
         if count > MAX_LATER_RULES:
@@ -232,33 +239,38 @@ def read_later_rules(lines: Lines, steps: int, lanes: int) -> None:
 
 
 def read_lanes(lines: Lines, limit: int) -> list[bytes]:
-    """Reads one or two lanes, and judges them together."""
+    """Read one or two lanes, and judge them together."""
     lanes: list[bytes] = []
     numbers: list[int] = []
-    while not lanes or len(lanes) < MAX_LANES and lines.head() == b"lane":
-        lanes.append(lines.named(b"lane"))
+    while not lanes or len(lanes) < MAX_LANES and lines.first_word() == b"lane":
+        lanes.append(lines.word_after(b"lane"))
         numbers.append(lines.number)
-        lines.skip()
+        lines.advance()
     if len({len(lane) for lane in lanes}) > 1 or len(lanes[0]) > MAX_CELLS:
         raise Fault(numbers[-1], Cause.LANE_LENGTH)
     for number, lane in zip(numbers, lanes):
-        for cell in lane:
-            if cell != EMPTY and cell not in SPEEDS:
-                raise Fault(number, Cause.LANE_CHARACTER)
-            if cell != EMPTY and SPEEDS.index(cell) > limit:
-                raise Fault(number, Cause.CAR_TOO_FAST)
+        check_cells(lane, number, limit)
     return lanes
+
+
+def check_cells(lane: bytes, number: int, limit: int) -> None:
+    """Judge the cells of a lane on the line with this number."""
+    for cell in lane:
+        if cell != EMPTY and cell not in SPEEDS:
+            raise Fault(number, Cause.LANE_CHARACTER)
+        if cell != EMPTY and SPEEDS.index(cell) > limit:
+            raise Fault(number, Cause.CAR_TOO_FAST)
 
 
 def read_job(text: bytes, verdict: Judge) -> Job:
     """The job of an input."""
     lines = Lines(text, verdict)
-    lines.exactly(b"road 1")
-    lines.key()
-    limit = lines.number_line(b"limit", 1, GREATEST_LIMIT)
+    lines.read_exactly(b"road 1")
+    lines.read_key()
+    limit = lines.read_number(b"limit", 1, GREATEST_LIMIT)
     lanes = read_lanes(lines, limit)
     read_first_rule(lines, len(lanes))
-    steps = lines.number_line(b"steps", 0, MAX_STEPS)
+    steps = lines.read_number(b"steps", 0, MAX_STEPS)
     read_later_rules(lines, steps, len(lanes))
     return Job(lanes, limit, steps)
 
@@ -266,48 +278,45 @@ def read_job(text: bytes, verdict: Judge) -> Job:
 def read_sweep(text: bytes, verdict: Judge) -> Sweep:
     """The sweep of an input."""
     lines = Lines(text, verdict)
-    lines.exactly(b"sweep 1")
-    lines.key()
-    lines.number_line(b"limit", 1, GREATEST_LIMIT)
-    length = lines.number_line(b"length", 1, MAX_CELLS)
-    lanes = lines.number_line(b"lanes", 1, MAX_LANES)
+    lines.read_exactly(b"sweep 1")
+    lines.read_key()
+    lines.read_number(b"limit", 1, GREATEST_LIMIT)
+    length = lines.read_number(b"length", 1, MAX_CELLS)
+    lanes = lines.read_number(b"lanes", 1, MAX_LANES)
     read_first_rule(lines, lanes)
-    warm = lines.number_line(b"warm", 0, MAX_STEPS)
-    measure = lines.number_line(b"measure", 1, MAX_STEPS)
+    warm = lines.read_number(b"warm", 0, MAX_STEPS)
+    measure = lines.read_number(b"measure", 1, MAX_STEPS)
     cars = read_points(lines, lanes * length, warm + measure)
     return Sweep(lanes * length, warm + measure, measure, cars)
 
 
 def read_points(lines: Lines, cells: int, steps: int) -> list[int]:
-    """The number of cars of each point, up to the end of the input."""
+    """Read the number of cars of each point, up to the end of the input."""
     cars: list[int] = []
     while not cars or not lines.is_end():
-        cars.append(lines.value(lines.named(b"cars"), 0, MAX_LANES * MAX_CELLS))
+        cars.append(lines.number_in(lines.word_after(b"cars"), 0, MAX_LANES * MAX_CELLS))
         if len(cars) > MAX_POINTS:
             lines.fail(Cause.TOO_MANY_LINES)
         if cars[-1] > cells:
             lines.fail(Cause.TOO_MANY_CARS)
         if len(cars) * steps > MAX_STEPS:
             lines.fail(Cause.TOO_MUCH_WORK)
-        lines.skip()
+        lines.advance()
     return cars
 
 
 def read_check(text: bytes) -> Check:
     """The check of an input. Its program is not judged."""
-    lines = Lines(text, is_never_rejected)
-    if lines.is_end():
-        lines.fail(Cause.UNEXPECTED_LINE)
-    line = lines.lines[0]
-    notes = line.startswith(b"notes ")
-    line = line.removeprefix(b"notes ")
-    if line in (b"motion", b"change"):
-        return Check(line.decode(), assemble(lines.lines[1:], 1), notes)
-    words = line.split(b" ")
+    lines = Lines(text, accept_all)
+    notes = lines.current().startswith(b"notes ")
+    heading = lines.current().removeprefix(b"notes ")
+    if heading in (b"motion", b"change"):
+        return Check(heading.decode(), assemble(lines.lines[1:], 1), notes)
+    words = heading.split(b" ")
     if len(words) != 2 or words[0] != b"code" or words[1] == b"":
         lines.fail(Cause.UNEXPECTED_LINE)
-    kind, program = decode(lines.hexadecimal(words[1]), 1)
-    lines.skip()
+    kind, program = decode(lines.bytes_in(words[1]), 1)
+    lines.advance()
     if not lines.is_end():
         lines.fail(Cause.UNEXPECTED_LINE)
     return Check(kind, program, notes)

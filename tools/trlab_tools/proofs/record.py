@@ -1,9 +1,9 @@
 """The verdicts on a crate's wrong bodies, recorded in its file wrong.verdicts, so that ./test does not have to ask for all of
 them again each time.
 
-A record is current if nothing has changed on which its verdicts depend: the crate's sources, definitions and proofs, the sources
-and definitions of the crates below, and the toolchain's logic; and a row is, if its body has the same edits. All others are tried
-again, and so is a sample of the bodies, which changes with the sources of the program."""
+A record is current if nothing has changed on which its verdicts depend: the crate's sources, definitions and proofs, the
+sources and definitions of the crates below, and the toolchain's logic; and a row is current if its body has the same edits.
+All other bodies are tried again, and so is a sample of the bodies, which changes with the sources of the program."""
 import functools
 import hashlib
 import os
@@ -13,12 +13,17 @@ from collections.abc import Iterable
 
 from .. import TOP
 from . import trials
-from .bodies import OF_CLAUSE, Body, Crate, Verdict
+from .bodies import Body
+from .crates import Crate
+from .judging import OF_CLAUSE, Verdict
 from .kinds import KINDS, Refusal
 
 # The mean number of rounds of which one is tried again although its verdicts are recorded.
 ONE_OF = 16
-HEAD = "# Written by `tools/mutants --write`: each wrong body, the sum of its edits, and the kind and the words of a function's refusal.\n"
+HEAD = (
+    "# Written by `tools/mutants --write`: each wrong body, the sum of its edits, and the kind and the words of a function's "
+    "refusal.\n"
+)
 # The logic in the output of `rt --version`.
 LOGIC = re.compile(r"\blogic (\w+)")
 MAX_CHARACTERS = 150
@@ -42,7 +47,8 @@ def sum_of(crate: Crate) -> str:
     crates = os.path.dirname(crate.folder)
     parts_of_crate = [os.path.join(crate.folder, part) for part in ("src", "specs", "proofs")]
     lower = [os.path.join(crates, name, part) for name in crate.lower for part in ("src", "specs")]
-    return hashlib.sha256(f"{logic()} {trials.sum_of([*parts_of_crate, *lower], os.path.dirname(crates))}".encode()).hexdigest()
+    sum_of_files = trials.sum_of([*parts_of_crate, *lower], os.path.dirname(crates))
+    return hashlib.sha256(f"{logic()} {sum_of_files}".encode()).hexdigest()
 
 
 def sum_of_body(body: Body) -> str:
@@ -84,9 +90,10 @@ def read(crate: Crate) -> Recorded:
     return recorded
 
 
-def known_of(crate: Crate, number: int, round_: Iterable[Body], recorded: Recorded) -> list[Body]:
-    """The bodies of a round whose verdicts are those of the record: all that it has, unless the sample has drawn this round."""
-    return [] if is_in_sample(crate, number) else [body for body in round_ if body.name in recorded]
+def known_of(crate: Crate, number: int, together: Iterable[Body], recorded: Recorded) -> list[Body]:
+    """The bodies of the round with this number whose verdicts are those of the record: all that it has, unless the sample has
+    drawn this round."""
+    return [] if is_in_sample(crate, number) else [body for body in together if body.name in recorded]
 
 
 def verdict_on(crate: Crate, body: Body, recorded: Recorded) -> Verdict:

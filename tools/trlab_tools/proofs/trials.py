@@ -8,7 +8,7 @@ import json
 import os
 import tempfile
 import time
-from collections.abc import Iterable, Iterator
+from collections.abc import Iterable, Iterator, Sequence
 from typing import NamedTuple, Optional, Union
 
 FOLDER = os.path.join(os.environ.get("XDG_CACHE_HOME") or os.path.expanduser("~/.cache"), "trlab", "trials")
@@ -44,7 +44,7 @@ def sum_of(places: Iterable[str], top: Union[str, os.PathLike[str]]) -> str:
     return total.hexdigest()
 
 
-def path_of(sums: list[object]) -> str:
+def path_of(sums: Sequence[object]) -> str:
     """The path at which a trial with these checksums is kept."""
     return os.path.join(FOLDER, f"{hashlib.sha256(repr(sums).encode()).hexdigest()}.json")
 
