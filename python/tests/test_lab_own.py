@@ -171,6 +171,15 @@ class OwnPrograms(OnPage):
             self.has(["g", f"brake as {60 * 'x'} does (line 15)"], lambda: [slider[0] for slider in self.sliders()])
             self.assertEqual(self.cut_labels(), [], width)
 
+    def test_headings_have_room(self):
+        """Above each heading of an editor there is room, so that it does not seem to belong to the editor above."""
+        self.page.set("model", "rickert")
+        self.page.set("model", "own")
+        self.hold(lambda: all("Accepted" in self.page.text(f"{kind}verdict") for kind in ("motion", "change")))
+        room = self.page.js("""const parts = [...document.querySelectorAll('.own :is(h2, .editor, .verdict, .facts, .parameters)')].filter(it => it.checkVisibility());
+            return parts.flatMap((it, k) => k && it.tagName === 'H2' ? [it.getBoundingClientRect().top - parts[k - 1].getBoundingClientRect().bottom] : [])""")
+        self.assertEqual([distance >= 16 for distance in room], [True, True], room)
+
     def cut_labels(self):
         """The labels of fields that do not show all of their words: whose words are wider than the label, or run into the number."""
         return self.page.js("""return [...document.querySelectorAll('.field label')].filter(it => it.checkVisibility()).filter(it => {
