@@ -79,7 +79,7 @@ def draw(study, short, found):
     _, axes = plt.subplots()
     axes.plot(short.density, short.flow, ".", markersize=3, label="100 steps each")
     trlab.plot_means(found, ax=axes, linestyle="none", label="means ± standard error, random initial states")
-    axes.errorbar(**PUBLISHED, fmt="s", label="published maximum flow ± its error")
+    axes.errorbar(**PUBLISHED, fmt="s", label="maximum flow as quoted ± its error")
     axes.set(xlim=(0, 0.92), ylim=(0, 0.36))
     axes.legend()
     top = axes.inset_axes([0.2, 0.09, 0.36, 0.36])

@@ -54,12 +54,12 @@ def life(job):
 
 
 def free(density):
-    """The published line of free flow."""
+    """The line of free flow, as commonly quoted from the paper."""
     return density * (LIMIT - BRAKE)
 
 
 def with_a_jam(density):
-    """The published line of a road with a jam."""
+    """The line of a road with a jam, as commonly quoted from the paper."""
     return (1 - STOPPED_BRAKE) * (1 - density)
 
 
@@ -114,8 +114,8 @@ def draw(study, runs):
     """A point for each run, because some have left the upper branch and some have not; no error bars, therefore."""
     meet = (1 - STOPPED_BRAKE) / (LIMIT - BRAKE + 1 - STOPPED_BRAKE)
     _, axes = plt.subplots()
-    axes.plot([0, 0.17], [free(0), free(0.17)], "-", label="published, free flow")
-    axes.plot([meet, 0.31], [with_a_jam(meet), with_a_jam(0.31)], "-", label="published, with a jam")
+    axes.plot([0, 0.17], [free(0), free(0.17)], "-", label="as quoted, free flow")
+    axes.plot([meet, 0.31], [with_a_jam(meet), with_a_jam(0.31)], "-", label="as quoted, with a jam")
     for name, marker in ("jam", "o"), ("moving", "^"):
         its = runs[runs.start == name]
         axes.plot(its.density, its.flow, marker, fillstyle="none", label=f"each run, initial state: {name}")

@@ -26,7 +26,7 @@ peaks = pandas.DataFrame(peaks.values(), index=pandas.Index(peaks, name="length"
 axes = trlab.plot_means(trlab.means(runs, over="seed"), hue="length", linestyle="none")
 for number, its in enumerate(peaks.itertuples()):
     axes.errorbar(its.x, its.y, xerr=its.x_sem, yerr=its.y_sem, fmt="x", markersize=8, color=f"C{number}")
-axes.errorbar(0.086, 0.318, xerr=0.002, yerr=0.0005, fmt="s", color="black", label="published (10,000 cells)")
+axes.errorbar(0.086, 0.318, xerr=0.002, yerr=0.0005, fmt="s", color="black", label="as quoted (10,000 cells)")
 axes.set(title="means ± standard error, 16 runs; crosses: peaks")
 axes.legend(title="length (cells)")
 plt.savefig(HERE / "ring_size.svg", metadata={"Date": None, "Creator": None})
