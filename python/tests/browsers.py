@@ -16,9 +16,9 @@ if TYPE_CHECKING or IS_INSTALLED:
 else:
     Keys = None
 
-# The end of a script that acts. A user sees what an action has changed before the next one: the page writes its job file again
-# soon after a change, and draws once per frame. A page that is hidden draws nothing. If the page never stops writing, the
-# script fails after the limit for a call that hangs.
+# The end of a script that acts. A user sees what an action has changed before the next one: the page writes its job file
+# again soon after a change, and draws once per frame. A page that is hidden draws nothing. If the page never stops
+# writing, the script fails after the limit for a call that hangs.
 DRAWN = """for (let k = 0; !document.hidden && (k < 2 || globalThis.lab?.isWriting); k++)
     await new Promise(go => requestAnimationFrame(go));"""
 

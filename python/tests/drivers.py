@@ -1,6 +1,7 @@
-"""The drivers of selenium for Chromium and Firefox without a window. Chromium has a driver of its own. The one of Firefox,
-geckodriver, is not packaged by Debian, and selenium can only fetch it from the network. So the commands of selenium that the
-tests need are sent to Firefox in its own protocol, Marionette, as geckodriver would do."""
+"""The drivers of selenium for Chromium and Firefox without a window. Chromium has a driver of its own. The one of
+Firefox, geckodriver, is not packaged by Debian, and selenium can only fetch it from the network. So the commands of
+selenium that the tests need are sent to Firefox in its own protocol, Marionette, as geckodriver would do."""
+import contextlib
 import json
 import shutil
 import socket
@@ -24,30 +25,45 @@ FIREFOX = shutil.which("firefox-esr") or shutil.which("firefox") or ""
 SETTINGS = {"marionette.port": 0}  # of Firefox, which chooses a port
 # The names of the commands in Marionette.
 COMMANDS = {
-    Command.GET: "WebDriver:Navigate", Command.GET_CURRENT_URL: "WebDriver:GetCurrentURL", Command.REFRESH: "WebDriver:Refresh",
-    Command.W3C_EXECUTE_SCRIPT: "WebDriver:ExecuteScript", Command.FIND_ELEMENT: "WebDriver:FindElement",
-    Command.GET_ELEMENT_ARIA_LABEL: "WebDriver:GetComputedLabel", Command.GET_ELEMENT_ARIA_ROLE: "WebDriver:GetComputedRole",
-    Command.SEND_KEYS_TO_ELEMENT: "WebDriver:ElementSendKeys", Command.W3C_ACTIONS: "WebDriver:PerformActions",
-    Command.W3C_GET_CURRENT_WINDOW_HANDLE: "WebDriver:GetWindowHandle", Command.NEW_WINDOW: "WebDriver:NewWindow",
-    Command.SWITCH_TO_WINDOW: "WebDriver:SwitchToWindow", Command.CLOSE: "WebDriver:CloseWindow",
-    Command.SET_WINDOW_RECT: "WebDriver:SetWindowRect", Command.SCREENSHOT: "WebDriver:TakeScreenshot",
-    Command.NEW_SESSION: "WebDriver:NewSession", Command.SET_TIMEOUTS: "WebDriver:SetTimeouts", Command.QUIT: "Marionette:Quit",
+    Command.NEW_SESSION: "WebDriver:NewSession",
+    Command.SET_TIMEOUTS: "WebDriver:SetTimeouts",
+    Command.QUIT: "Marionette:Quit",
+    Command.GET: "WebDriver:Navigate",
+    Command.GET_CURRENT_URL: "WebDriver:GetCurrentURL",
+    Command.REFRESH: "WebDriver:Refresh",
+    Command.SCREENSHOT: "WebDriver:TakeScreenshot",
+    Command.W3C_EXECUTE_SCRIPT: "WebDriver:ExecuteScript",
+    Command.W3C_ACTIONS: "WebDriver:PerformActions",
+    Command.FIND_ELEMENT: "WebDriver:FindElement",
+    Command.GET_ELEMENT_ARIA_LABEL: "WebDriver:GetComputedLabel",
+    Command.GET_ELEMENT_ARIA_ROLE: "WebDriver:GetComputedRole",
+    Command.SEND_KEYS_TO_ELEMENT: "WebDriver:ElementSendKeys",
+    Command.W3C_GET_CURRENT_WINDOW_HANDLE: "WebDriver:GetWindowHandle",
+    Command.NEW_WINDOW: "WebDriver:NewWindow",
+    Command.SWITCH_TO_WINDOW: "WebDriver:SwitchToWindow",
+    Command.CLOSE: "WebDriver:CloseWindow",
+    Command.SET_WINDOW_RECT: "WebDriver:SetWindowRect",
 }
+# A script of Firefox itself: the errors of pages in its console.
+ERRORS = """
+const isError = it => it instanceof Ci.nsIScriptError && !(it.flags & Ci.nsIScriptError.warningFlag);
+return Services.console.getMessageArray()
+    .filter(it => isError(it) && /^(http|file):/.test(it.sourceName))
+    .map(it => `${it.errorMessage} ${it.sourceName}:${it.lineNumber}`)"""
+STARTS = 3  # how often a browser is started, if it does not answer in time
 
 
 Driver = Union["Chromium", "Firefox"]
 
 
 def started(browser: str, calm: bool, dark: bool) -> Driver:
-    """A driver whose browser has started. On a busy machine this may take longer than the minute that chromedriver waits."""
+    """A driver whose browser has started. On a busy machine this may take longer than the minute that chromedriver
+    waits."""
     kinds: dict[str, Callable[[bool, bool], Driver]] = {"chromium": Chromium, "firefox": Firefox}
-    kind = kinds[browser]
-    for _ in range(2):
-        try:
-            return kind(calm, dark)
-        except WebDriverException:
-            pass
-    return kind(calm, dark)
+    for _ in range(STARTS - 1):
+        with contextlib.suppress(WebDriverException):
+            return kinds[browser](calm, dark)
+    return kinds[browser](calm, dark)
 
 
 class Chromium(Chrome):
@@ -80,17 +96,23 @@ class Marionette:
 
     def __init__(self, calm: bool, dark: bool) -> None:
         self.folder = tempfile.TemporaryDirectory()
-        settings = {**SETTINGS, "ui.prefersReducedMotion": int(calm), "layout.css.prefers-color-scheme.content-override": int(not dark)}
+        settings = {
+            **SETTINGS,
+            "ui.prefersReducedMotion": int(calm),
+            "layout.css.prefers-color-scheme.content-override": int(not dark),
+        }
         lines = [f"user_pref({json.dumps(name)}, {json.dumps(value)});\n" for name, value in settings.items()]
         (Path(self.folder.name) / "user.js").write_text("".join(lines))
-        words = ["--headless", "--marionette", "--remote-allow-system-access", "--no-remote", "--profile", self.folder.name]
-        self.firefox = subprocess.Popen([FIREFOX, *words, "about:blank"], stdout=subprocess.DEVNULL, stderr=subprocess.DEVNULL)
+        options = ["--headless", "--marionette", "--remote-allow-system-access", "--no-remote"]
+        command = [FIREFOX, *options, "--profile", self.folder.name, "about:blank"]
+        self.firefox = subprocess.Popen(command, stdout=subprocess.DEVNULL, stderr=subprocess.DEVNULL)
         self.socket = first_of(self.connected)
         self.stream = self.socket.makefile("rwb")
         self.number = 0
         self.read()
 
     def connected(self) -> Optional[socket.socket]:
+        """A connection to Firefox; None as long as it does not listen yet."""
         try:
             port = int((Path(self.folder.name) / "MarionetteActivePort").read_text())
             return socket.create_connection(("127.0.0.1", port), timeout=LIMIT)
@@ -98,17 +120,20 @@ class Marionette:
             return None
 
     def read(self) -> Any:
+        """The next message: JSON after its length in bytes and a colon."""
         size = b""
-        while (byte := self.stream.read(1)) != b":":
-            if not byte:
+        while (digit := self.stream.read(1)) != b":":
+            if not digit:
                 raise WebDriverException("Firefox has ended")
-            size += byte
+            size += digit
         return json.loads(self.stream.read(int(size)))
 
     def execute(self, command: str, words: Optional[dict[str, Any]]) -> dict[str, Any]:
         """The result of a command of selenium, or of one of Marionette."""
         self.number += 1
-        words = {name: value for name, value in (words or {}).items() if name != "sessionId" and command != Command.NEW_SESSION}
+        # Marionette has one session, which takes no arguments.
+        words = {} if command == Command.NEW_SESSION else dict(words or {})
+        words.pop("sessionId", None)
         if command == Command.W3C_EXECUTE_SCRIPT:
             words["sandbox"] = None  # so that a script sees the variables of the page
         message = json.dumps([0, self.number, COMMANDS.get(command, command), words]).encode()
@@ -117,7 +142,8 @@ class Marionette:
         _, _, error, result = self.read()
         if error:
             raise WebDriverException(error["message"])
-        return {"value": result["value"] if isinstance(result, dict) and set(result) == {"value"} else result}
+        has_only_value = isinstance(result, dict) and set(result) == {"value"}
+        return {"value": result["value"] if has_only_value else result}
 
 
 class Firefox(Remote):
@@ -137,14 +163,13 @@ class Firefox(Remote):
     def errors(self) -> list[str]:
         """The errors in the console since the last call."""
         self.execute("Marionette:SetContext", {"value": "chrome"})
-        messages = self.execute_script("""return Services.console.getMessageArray().filter(it => it instanceof Ci.nsIScriptError
-            && !(it.flags & Ci.nsIScriptError.warningFlag) && /^(http|file):/.test(it.sourceName))
-            .map(it => `${it.errorMessage} ${it.sourceName}:${it.lineNumber}`)""")
+        messages = self.execute_script(ERRORS)
         self.execute("Marionette:SetContext", {"value": "content"})
         new, self.seen = messages[self.seen:], len(messages)
         return new
 
     def quit(self) -> None:
+        """End Firefox, and wait until it has ended."""
         self.execute(Command.QUIT, {"flags": ["eForceQuit"]})
         self.marionette.stream.close()
         self.marionette.socket.close()

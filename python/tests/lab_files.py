@@ -1,7 +1,7 @@
 """The page of trlab-lab as one file, for its tests.
 
-The program is that of the file that the environment variable TRLAB_WASM names, or of release/trlab-lab.html. The page around it is
-always that of the sources here."""
+The program is that of the file that the environment variable TRLAB_WASM names, or of release/trlab-lab.html. The page
+around it is always that of the sources here."""
 import base64
 import gzip
 import os
@@ -30,7 +30,10 @@ def module() -> Optional[bytes]:
 
 
 MODULE = module()
-WITHOUT = "" if MODULE else "there is no program in WebAssembly: release/trlab-lab.html, or the file that TRLAB_WASM names"
+WITHOUT = ""
+"""The reason why there is no page with a program, or nothing."""
+if not MODULE:
+    WITHOUT = "there is no program in WebAssembly: release/trlab-lab.html, or the file that TRLAB_WASM names"
 
 
 def lacking(browser: str) -> str:

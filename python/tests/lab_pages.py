@@ -19,6 +19,12 @@ SHOTS = """const {film} = lab.player;
 return film.snapshots.map(it => [it.step, String.fromCharCode(...it.cells), it.flow, it.speed, it.stopped])"""
 
 
+# Whether the page shows the snapshots of its first job; and whether it shows the step at which it was paused.
+HAS_BEGUN = "return window.lab !== undefined && lab.player.film !== null && lab.player.step >= 0"
+IS_PAUSED = """const it = lab.player;
+return it.scene?.step === it.step && it.phase === 1 && !it.moving && !it.stale"""
+
+
 # The classes of tests are made of this class and of TestCase, whose calls it uses.
 if TYPE_CHECKING:
     Base = unittest.TestCase
@@ -33,7 +39,10 @@ def snapshots(text: str) -> Snapshots:
 
 def job_of(**changes: Any) -> str:
     """The job file of the page's first job, with changes."""
-    parameters: dict[str, Any] = {"limit": 5, "length": 1000, "cars": 150, "start": trlab.random_cells(1), "rule": trlab.Nasch(0.25), "steps": 5000, "key": 1}
+    parameters: dict[str, Any] = {
+        "limit": 5, "length": 1000, "cars": 150, "start": trlab.random_cells(1), "rule": trlab.Nasch(0.25), "steps": 5000,
+        "key": 1,
+    }
     return trlab.Job(**{**parameters, **changes}).text()
 
 
@@ -74,7 +83,7 @@ class OnPage(Base):
     def setUp(self) -> None:
         self.page.get("about:blank")
         self.page.get(self.lab.address)
-        self.hold(lambda: self.page.js("return window.lab !== undefined && lab.player.film !== null && lab.player.step >= 0"))
+        self.hold(lambda: self.page.js(HAS_BEGUN))
         self.page.errors()
 
     def examples(self) -> dict[str, str]:
@@ -106,8 +115,10 @@ class OnPage(Base):
         self.hold(lambda: self.page.js("return lab.marks.some(it => it.points.length === arguments[0])", count))
 
     def turn(self, words: str) -> None:
-        """Click on the button that plays and pauses, if it has this text: in one script, because a run may end between two."""
-        self.page.js("const it = document.getElementById('play'); if (it.textContent === arguments[0]) it.click()", words)
+        """Click on the button that plays and pauses, if it has this text: in one script, because a run may end between
+        two."""
+        self.page.js("""const it = document.getElementById('play');
+            if (it.textContent === arguments[0]) it.click()""", words)
 
     def runs(self) -> list[Child]:
         """The processes that run jobs for pages, without those that explain files."""
@@ -119,13 +130,15 @@ class OnPage(Base):
         return runs[0] if len(runs) == 1 else None
 
     def follows_none(self) -> None:
+        """Press Escape, after which the view follows no car."""
         self.page.keys(Keys.ESCAPE)
         self.hold(lambda: self.page.js("return lab.player.car") is None)
 
     def pause(self) -> None:
+        """Pause, and wait until the page shows the step at which it has paused."""
         self.hold(lambda: not self.page.js("return window.lab.isWriting"))
         self.turn("Pause")
-        self.hold(lambda: self.page.js("const it = lab.player; return it.scene?.step === it.step && it.phase === 1 && !it.moving && !it.stale"))
+        self.hold(lambda: self.page.js(IS_PAUSED))
 
     def run_to(self, step: int) -> None:
         """Play fast to a step at least, and pause."""
@@ -135,7 +148,10 @@ class OnPage(Base):
             rate.value = 100;
             rate.dispatchEvent(new Event('input', {bubbles: true}));
             if (!it.playing) document.getElementById('play').click();
-            await new Promise(go => { const look = () => it.step >= words[0] ? go() : requestAnimationFrame(look); look(); });
+            await new Promise(go => {
+                const look = () => it.step >= words[0] ? go() : requestAnimationFrame(look);
+                look();
+            });
             if (it.playing) it.setPlaying(false)""", step)
         self.pause()
 
@@ -148,4 +164,5 @@ class OnPage(Base):
         return shots
 
     def open(self, text: str, name: str = "a.job") -> None:
+        """Open a file with this text, as if a user had chosen it."""
         self.page.js("lab.open(arguments[0], arguments[1])", name, text)

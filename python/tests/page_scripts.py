@@ -19,11 +19,13 @@ class Thrown(Exception):
 
 
 def answers(calls: Sequence[Sequence[object]], edit: Callable[[str], str] = lambda script: script) -> list[Any]:
-    """The values of calls, each (module, function, argument, ..), or `Thrown` errors. `edit` changes the scripts first."""
+    """The values of calls, each (module, function, argument, ..), or `Thrown` errors. `edit` changes the scripts
+    first."""
+    questions = json.dumps([[module, function, arguments] for module, function, *arguments in calls])
     with tempfile.TemporaryDirectory() as folder:
         path = Path(folder) / "scripts.mjs"
         path.write_text(edit(joined("reading", "jobs", "exact")) + CALLER)
-        ended = subprocess.run([NODE, path], input=json.dumps([[call[0], call[1], call[2:]] for call in calls]), capture_output=True, text=True)
+        ended = subprocess.run([NODE, path], input=questions, capture_output=True, text=True)
     if ended.returncode != 0:
         raise AssertionError(ended.stderr)
     return [Thrown(call["error"]) if "error" in call else call["value"] for call in json.loads(ended.stdout)]

@@ -14,8 +14,8 @@ def needs(package: str) -> Callable[[Test], Test]:
 
 
 def fault_of_pools() -> str:
-    """The reason why pools of processes do not work here, or nothing. Python needs /dev/shm for the locks that they share, which
-    may be missing in a container or a chroot."""
+    """The reason why pools of processes do not work here, or nothing. Python needs /dev/shm for the locks that they
+    share, which may be missing in a container or a chroot."""
     try:
         multiprocessing.Lock()
     except (ImportError, OSError) as error:

@@ -119,7 +119,8 @@ class Durations(unittest.TestCase):
             self.assertEqual(list(Path(folder).iterdir()), [])
             self.assertEqual(durations, {0: JOB.time_until(stopped), 1: LONG.time_until(stopped)})
         # The long run was stopped with its event.
-        self.assertIn(-signal.SIGKILL, [process.returncode for process in started if process.args[1] == "series"])  # type: ignore[index]
+        series = [process for process in started if isinstance(process.args, list) and process.args[1] == "series"]
+        self.assertIn(-signal.SIGKILL, [process.returncode for process in series])
 
     def test_a_cut_output_is_an_error(self) -> None:
         heading = ",".join(trlab.Window._fields).replace("flow_millionths", "flow")

@@ -277,7 +277,12 @@ class MinimumPrinciple(unittest.TestCase):
         """Distances and positions with those that follow from the snapshots of the run, car by car."""
         roads = [snapshot.speeds() for snapshot in job.run()]
         length = len(roads[0][0])
-        cars = [(lane, cell) for lane, cells in enumerate(roads[0]) for cell, speed in enumerate(cells) if speed is not None]
+        cars = [
+            (lane, cell)
+            for lane, speeds in enumerate(roads[0])
+            for cell, speed in enumerate(speeds)
+            if speed is not None
+        ]
         distances = [0] * len(cars)
         for step, speeds in enumerate(roads):
             if step:

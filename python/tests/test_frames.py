@@ -343,7 +343,8 @@ class Misreadings(unittest.TestCase):
             mixed = frame.assign(flow=flows).drop(columns=["distance"])
             self.assertRaisesRegex(FrameError, "differ too much for one mean: 0.2.*mixed=True", trlab.means, mixed, "seed")
             self.assertAlmostEqual(trlab.means(mixed, "seed", of="flow", mixed=True).flow.iloc[0], sum(flows) / 10)
-        for flows in 10 * [0.0], 10 * [0.2], [0.5, *9 * [0.45]], [0.3, 0.31, 0.32, 0.33, 0.34, 0.35, 0.36, 0.37, 0.38, 0.39]:
+        rising = [0.3, 0.31, 0.32, 0.33, 0.34, 0.35, 0.36, 0.37, 0.38, 0.39]
+        for flows in 10 * [0.0], 10 * [0.2], [0.5, *9 * [0.45]], rising:
             one = frame.assign(flow=flows).drop(columns=["distance"])
             self.assertAlmostEqual(trlab.means(one, "seed", of="flow").flow.iloc[0], sum(flows) / 10)
 

@@ -45,7 +45,8 @@ REWRITTEN = {
     "  %wide.1 = ptrtoint ptr @static.1 to i64\n  store i64 %wide.1, ptr %r0, align 8",
     "  %r1 = alloca ptr, align 8": "  %r1 = alloca i64, align 8",
     "  %r1 = ptrtoaddr ptr %r0 to i64": "  %r1 = ptrtoint ptr %r0 to i64",
-    '  %r1 = call { ptr, i64 } @"f<ptr>"(ptr noundef %r0, i64 3)': '  %r1 = call { i64, i64 } @"f<ptr>"(ptr noundef %r0, i64 3)',
+    '  %r1 = call { ptr, i64 } @"f<ptr>"(ptr noundef %r0, i64 3)':
+        '  %r1 = call { i64, i64 } @"f<ptr>"(ptr noundef %r0, i64 3)',
     "  %r2 = extractvalue { i64, ptr } %r1, 0": "  %r2 = extractvalue { i64, i64 } %r1, 0",
     "  %r2 = extractvalue { i8, ptr } %r1, 1":
     "  %wide.1 = extractvalue { i8, i64 } %r1, 1\n  %r2 = inttoptr i64 %wide.1 to ptr",

@@ -73,7 +73,8 @@ class PublishedRules(unittest.TestCase):
             for seed in range(20):
                 rule = Own(RULES["benjamin"](ps=1))
                 job = Job(limit=limit, length=60, cars=25, start=random_cells(seed), rule=rule, steps=60)
-                cells_by_step = [[cell for cell, sign in enumerate(snapshot.lanes[0]) if sign != "."] for snapshot in job.run()]
+                lanes = [snapshot.lanes[0] for snapshot in job.run()]
+                cells_by_step = [[cell for cell, sign in enumerate(lane) if sign != "."] for lane in lanes]
                 self.assertEqual(cells_by_step, late_starts(limit, job.run()[0].lanes[0], 60))
         self.assert_alike(Own(RULES["benjamin"](ps=0, p=0.5)), Own(RULES["takayasu"](ps=0, p=0.5)))
 

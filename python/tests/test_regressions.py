@@ -18,8 +18,10 @@ import sys
 import tempfile
 import unittest
 import warnings
+from collections.abc import Callable, Iterable, Sequence
 from dataclasses import replace
 from pathlib import Path
+from typing import Any, NamedTuple, Optional
 
 import trlab
 from tests.waiting import LIMIT, first_of, holds
@@ -34,19 +36,30 @@ except ModuleNotFoundError as missing:
 
 matplotlib.use("Agg")
 IS_NEW = hasattr(trlab, "TrlabError")
-ERRORS = trlab.TrlabError if IS_NEW else (ValueError, TypeError, trlab.Refused, trlab.Failed)
+if IS_NEW:
+    ERRORS: tuple[type[Exception], ...] = (trlab.TrlabError,)
+    random_cells, write_inputs = trlab.random_cells, trlab.write_inputs
+else:
+    ERRORS = (ValueError, TypeError, trlab.Refused, trlab.Failed)
+    random_cells, write_inputs = trlab.random, trlab.write_texts
 SEM = "sem" if IS_NEW else "error"
-random_cells = trlab.random_cells if IS_NEW else trlab.random
-write_inputs = trlab.write_inputs if IS_NEW else trlab.write_texts
 PACKAGE = Path(trlab.__file__).parents[1]
 FAILED_WRITE = 4
 
 
-def means(frame, axis):
+class Drawn(NamedTuple):
+    """The exit status and the output of a script that draws a figure."""
+
+    status: int
+    figure: str
+
+
+# Frames, snapshots and results have other types in the older package.
+def means(frame: Any, axis: str) -> Any:
     return trlab.means(frame, axis) if IS_NEW else frame.means(axis)
 
 
-def column(frame, name):
+def column(frame: Any, name: str) -> Any:
     """The values of a column, or None if the frame has no such column."""
     if not IS_NEW:
         return [getattr(row, name) for row in frame] if name in frame.columns else None
@@ -54,11 +67,11 @@ def column(frame, name):
     return list(columns[name]) if name in columns else None
 
 
-def speeds(snapshots):
+def speeds(snapshots: Any) -> Any:
     return snapshots.speeds() if IS_NEW else snapshots.to_numpy()
 
 
-def is_error(call, *arguments, **named):
+def is_error(call: Callable[..., object], *arguments: object, **named: object) -> bool:
     """Whether a call ends with an error of the package."""
     try:
         call(*arguments, **named)
@@ -67,32 +80,41 @@ def is_error(call, *arguments, **named):
     return False
 
 
-def job(density=0.2, seed=0, key=0, **changes):
-    shape = dict(limit=5, length=50, density=density, rule=Nasch(0.25), start=random_cells(key), steps=40, key=key)
-    return Job(**{**shape, **changes})
+def job(density: float = 0.2, seed: int = 0, key: int = 0, **changes: Any) -> Job:
+    """A job of 40 steps, with changes. A grid of jobs may have `seed` as a parameter, which changes only the key."""
+    parameters: dict[str, Any] = {
+        "limit": 5, "length": 50, "density": density, "rule": Nasch(0.25), "start": random_cells(key), "steps": 40, "key": key,
+    }
+    return Job(**{**parameters, **changes})
 
 
-def frame(call=lambda job: job.series(every=40), make=job, seed=range(4), **options):
-    return Grid(make, seed=seed).run(call=call, **options)
+def windows(every: int, first: int = 0) -> Callable[[Job], Any]:
+    """The measurement of a job in windows of this number of steps."""
+    return lambda job: job.series(every=every, first=first)
 
 
-def python(script, *arguments, before=(), **environment):
+def frame(call: Callable[[Job], Any] = windows(40), make: Callable[..., Job] = job, seed: Iterable[int] = range(4)) -> Any:
+    """The results of jobs that differ in their seed."""
+    return Grid(make, seed=seed).run(call=call)
+
+
+def python(script: str, *arguments: str, before: Sequence[str] = (), **environment: str) -> str:
     """The output of a script that uses the package under test."""
     command = [*before, sys.executable, "-c", script, *arguments]
     environment_of_script = {**os.environ, "PYTHONPATH": str(PACKAGE), "TRLAB": trlab.find_program(), **environment}
     return subprocess.run(command, env=environment_of_script, cwd="/", capture_output=True, text=True).stdout
 
 
-def figure(script, text):
-    """The exit status and the output of a script of docs/ for this text."""
+def drawn(script: str, text: str) -> Drawn:
+    """The result of a script of docs/ for this text."""
     command = ["timeout", str(LIMIT), "awk", "-f", str(PACKAGE.parent / "docs" / script)]
-    drawn = subprocess.run(command, input=text, capture_output=True, text=True)
-    return drawn.returncode, drawn.stdout
+    process = subprocess.run(command, input=text, capture_output=True, text=True)
+    return Drawn(process.returncode, process.stdout)
 
 
 class Frames(unittest.TestCase):
     def test_means_of_means(self) -> None:
-        of_windows = frame(lambda job: job.series(every=10))
+        of_windows = frame(windows(10))
         if is_error(lambda: means(means(of_windows, "step"), "seed")):
             return
         result = means(means(of_windows, "step"), "seed")
@@ -109,14 +131,14 @@ class Frames(unittest.TestCase):
         self.assertTrue(is_error(means, measured, "seed") or column(means(measured, "seed"), f"x_{SEM}") != [0.001])
 
     def test_a_parameter_does_not_replace_a_result(self) -> None:
-        def run():
+        def run() -> Any:
             return Grid(job, density=[0.1, 0.2], seed=[0]).run(call=lambda job: {"density": 0.9999})
 
         self.assertTrue(is_error(run) or column(run(), "density") == [0.9999, 0.9999])
 
     def test_requested_densities_of_one_car(self) -> None:
-        def run():
-            return Grid(job, density=[0.011, 0.02, 0.029], seed=[0]).run(call=lambda job: job.series(every=40))
+        def run() -> Any:
+            return Grid(job, density=[0.011, 0.02, 0.029], seed=[0]).run(call=windows(40))
 
         self.assertTrue(is_error(run) or column(run(), "density") == 3 * [0.02])
 
@@ -129,22 +151,22 @@ class Frames(unittest.TestCase):
         self.assertTrue(is_error(means, measured, "seed") or column(means(measured, "seed"), "x") is not None)
 
     def test_a_choice_without_rows_does_not_vanish(self) -> None:
-        def run():
+        def run() -> Any:
             return frame(lambda job: job.series(every=10)[:0 if job.key % 2 else 4], seed=range(9))
 
         self.assertTrue(is_error(run) or len(set(column(run(), "seed"))) == 9)
 
     def test_a_forgotten_key(self) -> None:
-        def run():
+        def run() -> Any:
             return frame(make=lambda seed, key: job(start=random_cells(1)), seed=range(5))
 
         self.assertTrue(is_error(run) or is_error(means, run(), "seed"))
 
     def test_windows_of_one_run_are_not_independent(self) -> None:
-        def long(seed, key):
+        def long(seed: int, key: int) -> Job:
             return job(key=key, length=100, density=0.12, steps=9000)
 
-        of_windows = frame(lambda job: job.series(every=5, first=1000), make=long, seed=range(12))
+        of_windows = frame(windows(5, first=1000), make=long, seed=range(12))
         if is_error(means, of_windows, "step"):
             return
         runs = means(of_windows, "step")
@@ -152,7 +174,7 @@ class Frames(unittest.TestCase):
         self.assertGreater(statistics.fmean(column(runs, f"flow_{SEM}")), 0.75 * spread)
 
     def test_a_row_and_its_fields_have_one_flow(self) -> None:
-        def run():
+        def run() -> Any:
             return frame(lambda job: job.series(every=40)[0]._asdict())
 
         self.assertTrue(is_error(run) or max(column(run(), "flow")) < 1)
@@ -170,7 +192,7 @@ class Values(unittest.TestCase):
     def test_flow_has_one_unit(self) -> None:
         table = job().series(every=40)
         flows = [table.to_pandas().flow[0], table[0].flow]
-        with contextlib.suppress(ERRORS, AttributeError):
+        with contextlib.suppress(*ERRORS, AttributeError):
             flows.append(table[0].passing)
         self.assertEqual(len(set(flows)), 1)
 
@@ -180,7 +202,7 @@ class Values(unittest.TestCase):
             self.assertAlmostEqual(numpy.mean(cars.headways()), 10)
 
     def test_an_occupancy_is_not_a_road(self) -> None:
-        def run():
+        def run() -> Any:
             return Job(limit=5, start=numpy.array([0, 1, 0, 0]), rule=Nasch(0), steps=1).road()
 
         self.assertTrue(is_error(run) or sum(cell is not None for lane in run() for cell in lane) == 1)
@@ -188,7 +210,7 @@ class Values(unittest.TestCase):
     def test_snapshots_that_do_not_make_a_film(self) -> None:
         taken = job(steps=99).run()
 
-        def draw():
+        def draw() -> object:
             both = taken[:50] + taken[90:]
             return trlab.plot_space_time(both) if IS_NEW else both.space_time()
 
@@ -214,10 +236,8 @@ class Inputs(unittest.TestCase):
 
     def test_products_of_small_integers(self) -> None:
         warnings.simplefilter("ignore")
-        sweep = Sweep(
-            limit=5, rule=Nasch(0), length=10, cars=[5], warm=numpy.uint16(60000), measure=numpy.uint16(10000),
-            start=random_cells(1),
-        )
+        steps: dict[str, Any] = {"warm": numpy.uint16(60000), "measure": numpy.uint16(10000)}
+        sweep = Sweep(limit=5, rule=Nasch(0), length=10, cars=[5], start=random_cells(1), **steps)
         self.assertEqual([job.steps for job in sweep.jobs()], [70000])
 
     def test_a_boolean_is_not_a_number(self) -> None:
@@ -247,7 +267,7 @@ class Runs(unittest.TestCase):
         self.addCleanup(place.cleanup)
         self.place = Path(place.name)
 
-    def program(self, script):
+    def program(self, script: str) -> str:
         """A program that replaces trlab, which is `$real`."""
         path = self.place / "program"
         path.write_text(f'#!/bin/sh\nreal="{trlab.find_program()}"\n{script}\n')
@@ -258,7 +278,8 @@ class Runs(unittest.TestCase):
         """For a program whose exit status is lost, because a parent process ignores SIGCHLD, or is 0."""
         script = "import trlab\nprint(len(trlab.Job(limit=5, length=9, cars=1, rule=trlab.Nasch(0), steps=9).series()))"
         cut = self.program('[ "$1" = series ] || exec "$real" "$@"\n"$real" "$@" | head -n 5\nkill -9 $$')
-        for before in [], ["env", "--ignore-signal=CHLD"]:
+        ways_to_start: list[list[str]] = [[], ["env", "--ignore-signal=CHLD"]]
+        for before in ways_to_start:
             self.assertEqual(python(script, before=before, TRLAB=cut), "")
         cut = self.program('[ "$1" = series ] || exec "$real" "$@"\n"$real" "$@" | head -n 5')
         self.assertEqual(python(script, TRLAB=cut), "")
@@ -296,8 +317,13 @@ class Runs(unittest.TestCase):
         )
         place = {**os.environ, "PYTHONPATH": str(PACKAGE), "TRLAB": program}
         study = subprocess.Popen([sys.executable, "-c", script], env=place, stdout=subprocess.PIPE, text=True)
+        assert study.stdout is not None
         self.addCleanup(study.stdout.close)
-        number = first_of(lambda: (self.place / mark).exists() and (self.place / mark).read_text().strip() or None)
+
+        def number_of_program() -> Optional[str]:
+            return (self.place / mark).read_text().strip() or None if (self.place / mark).exists() else None
+
+        number = first_of(number_of_program)
         study.send_signal(signal.SIGTERM)
         study.wait()
         try:
@@ -341,7 +367,7 @@ class Runs(unittest.TestCase):
 
     def test_a_figure_of_a_run(self) -> None:
         """diagram.awk rejects a text that is not a table."""
-        self.assertEqual(figure("diagram.awk", job().run().text()), (1, ""))
+        self.assertEqual(drawn("diagram.awk", job().run().text()), (1, ""))
 
     def test_a_figure_of_tables_that_end_early(self) -> None:
         """diagram.awk rejects a table that ends in a row, or before the other tables of its curve. A table that ends after
@@ -350,19 +376,19 @@ class Runs(unittest.TestCase):
         table = sweep.sweep().text()
         shorter = "".join(table.splitlines(True)[:-1])
         self.assertEqual(shorter, replace(sweep, cars=[5, 10]).sweep().text())
-        self.assertEqual(figure("diagram.awk", table + table)[0], 0)
+        self.assertEqual(drawn("diagram.awk", table + table).status, 0)
         for tables in table[:-3], table + shorter, shorter + table, table + table.splitlines(True)[0]:
-            self.assertEqual(figure("diagram.awk", tables), (1, ""))
+            self.assertEqual(drawn("diagram.awk", tables), (1, ""))
 
     def test_a_figure_of_a_run_that_ends_early(self) -> None:
         """spacetime.awk rejects an output that ends within a snapshot."""
         for road in ["0.0......"], ["0.0......", ".0......."]:
             snapshots = Job(limit=2, start=road, rule=Nasch(1 / 4), steps=10).run().text()
-            self.assertEqual(figure("spacetime.awk", snapshots)[0], 0)
+            self.assertEqual(drawn("spacetime.awk", snapshots).status, 0)
             before, step, lanes = snapshots.rpartition("step 10\n")
             for end in "st", step, step + lanes[:5], step + lanes + "0":
-                self.assertEqual(figure("spacetime.awk", before + end), (1, ""))
-        self.assertEqual(figure("spacetime.awk", before + step + lanes.splitlines(True)[0]), (1, ""))
+                self.assertEqual(drawn("spacetime.awk", before + end), (1, ""))
+        self.assertEqual(drawn("spacetime.awk", before + step + lanes.splitlines(True)[0]), (1, ""))
 
     def test_a_repeated_sweep_that_ends_early(self) -> None:
         """repeat.sh prints no table if one of its sweeps fails."""

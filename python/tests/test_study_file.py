@@ -176,7 +176,8 @@ class OtherFiles(Folder):
         self.assertRegex(str(caught.exception), message)
 
     def rewritten(
-        self, change: Callable[[Any], object] = lambda about: None, members: Callable[[dict[str, bytes]], object] = lambda texts: None,
+        self, change: Callable[[Any], object] = lambda about: None,
+        members: Callable[[dict[str, bytes]], object] = lambda texts: None,
         compression: int = zipfile.ZIP_STORED,
     ) -> bytes:
         """The bytes of a study whose study.json or members were changed."""

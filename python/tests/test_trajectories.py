@@ -297,7 +297,8 @@ class Paths(unittest.TestCase):
             )
         self.assertEqual(paths.speed_correlation(), 1)
         # The speeds of the initial state are not a result.
-        with_other_start = Snapshots([Snapshot(0, (ONE_LANE[0].run()[0].lanes[0].replace("0", "5"),)), *ONE_LANE[0].run()[1:]])
+        start, *others = ONE_LANE[0].run()
+        with_other_start = Snapshots([Snapshot(0, (start.lanes[0].replace("0", "5"),)), *others])
         self.assertEqual(with_other_start.trajectories().speed_correlation(1, 1), paths.speed_correlation(1, 1))
         self.assertTrue(math.isnan(ONE_LANE[0].run()[:1].trajectories().speed_correlation()))
         self.assertTrue(math.isnan(ONE_LANE[6].run().trajectories().speed_correlation()))

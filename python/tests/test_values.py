@@ -112,7 +112,9 @@ class Construction(unittest.TestCase):
             self.assertRaisesRegex(ParameterError, f"brake is .*, which is {nearest} in multiples", Nasch, number)
         self.assertEqual(Nasch(2**-31).lines(), ["rule nasch 1"])
 
-    def rejects(self, error: type[Exception], name: str, call: Callable[..., object], *others: object, **values: object) -> None:
+    def rejects(
+        self, error: type[Exception], name: str, call: Callable[..., object], *others: object, **values: object
+    ) -> None:
         with self.assertRaisesRegex(error, name):
             call(*others, **values)
 

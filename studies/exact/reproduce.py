@@ -62,7 +62,8 @@ def run_long_rings(study, asked, prefix=""):
     found = {}
     for state, frame in points.items():
         sweep = frame.input if state == "even" else frame.input.map(sweep_of)
-        found[state] = means(frame.assign(sweep=sweep), "sweep", "density", drawn=True).reset_index("density").loc[list(asked)]
+        of_sweeps = means(frame.assign(sweep=sweep), "sweep", "density", drawn=True)
+        found[state] = of_sweeps.reset_index("density").loc[list(asked)]
     return found
 
 
@@ -152,7 +153,8 @@ def draw_long_rings(study, found, length):
     states."""
     _, axes = plt.subplots()
     densities, counts = numpy.linspace(0, 1, 201), numpy.linspace(0, length, 201, dtype=int)
-    axes.plot(densities, [float(trlab.exact.triangle(1, density)) for density in densities], "-", color="0.6", label="exact, p = 0")
+    triangle = [float(trlab.exact.triangle(1, density)) for density in densities]
+    axes.plot(densities, triangle, "-", color="0.6", label="exact, p = 0")
     for number, (name, p) in enumerate(CHANCES.items()):
         flows = [trlab.exact.flow_as_float(length, cars, p) for cars in counts]
         axes.plot(counts / length, flows, "-", color=f"C{number}", label=f"exact, p = {p}")

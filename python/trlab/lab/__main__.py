@@ -50,8 +50,8 @@ def main(words: Optional[list[str]] = None) -> None:
 
 
 def fragment(job: str) -> str:
-    """The part of the page's address that holds a job: that of a link, or made from a job file. Raises `ValueError` if the link is
-    damaged or the file too long."""
+    """The part of the page's address that holds a job: that of a link, or made from a job file. Raises `ValueError` if
+    the link is damaged or the file too long."""
     if "#job=" in job:
         part = job[job.index("#job=") :]
         if not re.fullmatch("#job=[A-Za-z0-9_-]+", part):
@@ -61,10 +61,12 @@ def fragment(job: str) -> str:
         text = file.read(MAX_BYTES + 1)
     if len(text) > MAX_BYTES:
         raise ValueError(f"{job} is too long: at most {MAX_BYTES} bytes are allowed")
-    packer = zlib.compressobj(9, zlib.DEFLATED, -15)
-    part = "#job=" + base64.urlsafe_b64encode(packer.compress(text) + packer.flush()).rstrip(b"=").decode()
+    packer = zlib.compressobj(9, zlib.DEFLATED, -15)  # without a header, as the page reads it
+    packed = packer.compress(text) + packer.flush()
+    part = "#job=" + base64.urlsafe_b64encode(packed).rstrip(b"=").decode()
     if len(part) > MAX_ADDRESS:
-        raise ValueError(f"{job} is too long for an address: run trlab-lab without it, and click *Open a file* in the page")
+        advice = "run trlab-lab without it, and click *Open a file* in the page"
+        raise ValueError(f"{job} is too long for an address: {advice}")
     return part
 
 
@@ -80,6 +82,7 @@ def _show(port: int, job: str, no_browser: bool) -> None:
 
 
 def _serve(port: int, job: str, no_browser: bool) -> None:
+    """Serve the page until a signal ends the server."""
     for ending in signal.SIGTERM, signal.SIGHUP, signal.SIGQUIT:
         signal.signal(ending, lambda *_: sys.exit())
     try:

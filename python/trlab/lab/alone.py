@@ -23,8 +23,8 @@ class Page(NamedTuple):
 
 
 def page_needed() -> Optional[Page]:
-    """The page, or None if there is a native program. Raises `ProgramNotFoundError` if there is neither, or if the environment
-    variable TRLAB names another file."""
+    """The page, or None if there is a native program. Raises `ProgramNotFoundError` if there is neither, or if the
+    environment variable TRLAB names another file."""
     reason = "no native program of trlab fits this machine"
     try:
         # A script runs the program in WebAssembly, as the page does.
@@ -43,7 +43,8 @@ def page_needed() -> Optional[Page]:
 def open_page(page: Page, job: str, no_browser: bool) -> None:
     """Print the address of the page with a job, which is a part of an address, and open it."""
     address = page.path.as_uri() + job
-    print(f"trlab-lab: {page.reason}, so the page computes by itself: it needs no server, and this command ends", file=sys.stderr)
+    remark = "so the page computes by itself: it needs no server, and this command ends"
+    print(f"trlab-lab: {page.reason}, {remark}", file=sys.stderr)
     print(address, flush=True)
     if not no_browser and not webbrowser.open(address):
         print("trlab-lab: no browser could be opened. Open this address in one.", file=sys.stderr)

@@ -1,5 +1,5 @@
-"""Opening the page in a browser. Every user of the machine can read the arguments of a process, and an argument has at most 128 KiB:
-so the browser is given a file that only its owner can read, and the file leads to the address."""
+"""Opening the page in a browser. Every user of the machine can read the arguments of a process, and an argument has at
+most 128 KiB: so the browser is given a file that only its owner can read, and the file leads to the address."""
 from __future__ import annotations
 
 import contextlib
@@ -25,8 +25,8 @@ _REDIRECT = """<!doctype html>
 
 @contextlib.contextmanager
 def opened_in_browser(address: str) -> Iterator[None]:
-    """Open an address in the browser of this user, by way of a file that is removed at the end. If no browser can be opened, a
-    message on standard error says so."""
+    """Open an address in the browser of this user, by way of a file that is removed at the end. If no browser can be
+    opened, a message on standard error says so."""
     number, name = tempfile.mkstemp(prefix="trlab-lab-", suffix=".html")  # of mode 600
     try:
         with open(number, "w", encoding="utf-8") as file:
@@ -40,9 +40,11 @@ def opened_in_browser(address: str) -> Iterator[None]:
 
 
 def _open(path: Path, address: str) -> None:
+    """Open the file that leads to an address, or print the address."""
     try:
         is_open = webbrowser.open(path.as_uri())
     except (OSError, webbrowser.Error):
         is_open = False
     if not is_open:
-        print(f"trlab-lab: no browser could be opened. Open this address in one: {address}", file=sys.stderr, flush=True)
+        message = f"trlab-lab: no browser could be opened. Open this address in one: {address}"
+        print(message, file=sys.stderr, flush=True)

@@ -1,5 +1,5 @@
-"""The rules of the page's Python editor: their programs and their parameters, for which the page has sliders. The text is read
-and never run, so a page can only make programs, which the verifier judges."""
+"""The rules of the page's Python editor: their programs and their parameters, for which the page has sliders. The text
+is read and never run, so a page can only make programs, which the verifier judges."""
 from __future__ import annotations
 
 import json
@@ -21,8 +21,8 @@ def answer(text: bytes) -> bytes:
 
 
 def translated(request: Answer) -> Answer:
-    """The programs of the rules that are `chosen` by their kind, or else the first ones, of a Python `text`, with the `values` of
-    parameters by rule. At an error only its `line` (0 if it has none) and its `message`."""
+    """The programs of the rules that are `chosen` by their kind, or else the first ones, of a Python `text`, with the
+    `values` of parameters by rule. At an error only its `line` (0 if it has none) and its `message`."""
     answer: Answer = {"names": {}, "parameters": [], "budgets": {}}
     try:
         rules = rules_in(request["text"], "your rules")
@@ -36,7 +36,8 @@ def translated(request: Answer) -> Answer:
                 program = rules[name](**values)
                 answer[kind], answer["budgets"][name] = program, program.budget
                 shown = {**rules[name].parameters, **values}
-                answer["parameters"] += [slider for slider in (_slider(rules[name], *pair) for pair in shown.items()) if slider]
+                sliders = [_slider(rules[name], parameter, value) for parameter, value in shown.items()]
+                answer["parameters"] += filter(None, sliders)
     except RuleError as error:
         return {"line": error.line, "message": error.message}
     except ParameterError as error:
@@ -50,12 +51,13 @@ def _known(values: Answer, rule: PythonRule) -> Answer:
 
 
 def _slider(rule: PythonRule, name: str, value: object) -> Optional[Answer]:
-    """The slider of a parameter: 0 to 1 if its default is a fraction, and otherwise whole numbers. None if it is not a number."""
+    """The slider of a parameter: from 0 to 1 if its default is a fraction, and otherwise whole numbers. None if it is
+    not a number."""
     default = rule.parameters[name]
     try:
         number = float(Fraction(str(value)))
     except (ValueError, ZeroDivisionError):
         return None
     is_whole = isinstance(default, int) and not isinstance(default, bool)
-    most = max(10, 3 * default) if is_whole else 1
-    return {"rule": rule.name, "kind": rule.kind, "name": name, "value": number, "most": most, "step": 1 if is_whole else 0.01}
+    most, step = (max(10, 3 * default), 1) if is_whole else (1, 0.01)
+    return {"rule": rule.name, "kind": rule.kind, "name": name, "value": number, "most": most, "step": step}

@@ -12,8 +12,8 @@ _EXPORT = re.compile(r"^export ((?:async )?(?:function|class|const) ([\w$]+))", 
 
 
 def joined(*names: str) -> str:
-    """The scripts of these names with all scripts that they import, each once, and in a scope of its own. Raises `ValueError` if
-    a script imports a name that the other one does not export at the beginning of a line."""
+    """The scripts of these names with all scripts that they import, each once, and in a scope of its own. Raises
+    `ValueError` if a script imports a name that the other one does not export at the beginning of a line."""
     exported: dict[str, list[str]] = {}
     return "const modules = {};\n" + "".join(text for name in names for text in _scopes(name, exported))
 
@@ -36,8 +36,9 @@ def _scopes(name: str, exported: dict[str, list[str]]) -> list[str]:
         if missing:
             raise ValueError(f"{name}.js imports {min(missing)}, which {other}.js does not export")
     exported[name] = [exported_name for _, exported_name in _EXPORT.findall(text)]
-    text = _EXPORT.sub(r"\1", _IMPORT.sub(r"const { \1 } = modules.\2;\n", text))
-    return [*scopes, "modules.%s = (() => {\n%sreturn { %s };\n})();\n" % (name, text, ", ".join(exported[name]))]
+    with_constants = _IMPORT.sub(r"const { \1 } = modules.\2;\n", text)
+    body, returned = _EXPORT.sub(r"\1", with_constants), ", ".join(exported[name])
+    return [*scopes, f"modules.{name} = (() => {{\n{body}return {{ {returned} }};\n}})();\n"]
 
 
 def script_element(text: str, attributes: str) -> str:

@@ -1,7 +1,7 @@
 """The server of trlab-lab: serve one page to this machine, and run trlab for it.
 
-Each request that has an input starts one process of trlab, and its output is streamed to the page. If the page goes away,
-the process ends. Nothing is kept, and the server writes nothing to disk."""
+Each request that has an input starts one process of trlab, and its output is streamed to the page. If the page goes
+away, the process ends. Nothing is kept, and the server writes nothing to disk."""
 from __future__ import annotations
 
 import errno
@@ -32,8 +32,8 @@ CHUNK_BYTES = 65536
 SLOT_TIMEOUT = 2.0
 """How long a run waits for a free processor, in seconds."""
 FIRST_REQUEST_TIMEOUT, REQUEST_TIMEOUT = 10.0, 30.0
-"""How long a request may pause while it is read, in seconds: the first one of a connection, and the later ones. A stream has no
-limit, because a page may pause."""
+"""How long a request may pause while it is read, in seconds: the first one of a connection, and the later ones. A
+stream has no limit, because a page may pause."""
 RETRY_PAUSE = 0.1
 """How long the server rests, in seconds, if it has no descriptors for another connection."""
 
@@ -99,8 +99,8 @@ class Lab(ThreadingHTTPServer):
         return f"http://127.0.0.1:{self.server_port}/{self.token}/"
 
     def get_request(self) -> tuple[socket.socket, Any]:
-        """The next connection. If there are no descriptors for it, a connection without the token has to go, and the server does not
-        try in a loop."""
+        """The next connection. If there are no descriptors for it, a connection without the token has to go, and the
+        server does not try in a loop."""
         try:
             return super().get_request()
         except OSError as error:
@@ -199,7 +199,8 @@ class PageHandler(BaseHTTPRequestHandler):
     def body(self) -> Optional[bytes]:
         """The input of the request; None if the request is refused, because it has no length, is too long or is cut."""
         lengths: list[str] = self.headers.get_all("Content-Length", [])
-        if len(lengths) != 1 or not re.fullmatch("[0-9]{1,18}", lengths[0], re.ASCII) or "Transfer-Encoding" in self.headers:
+        has_length = len(lengths) == 1 and re.fullmatch("[0-9]{1,18}", lengths[0], re.ASCII)
+        if not has_length or "Transfer-Encoding" in self.headers:
             self.refuse(411, "The request needs one Content-Length, and no Transfer-Encoding.")
             return None
         length = int(lengths[0])

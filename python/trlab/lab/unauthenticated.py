@@ -1,4 +1,5 @@
-"""Connections that have not shown the token yet: a bounded number at a time, so that idle ones cannot shut the owner out."""
+"""Connections that have not shown the token yet: a bounded number at a time, so that idle ones cannot shut the owner
+out."""
 from __future__ import annotations
 
 import contextlib
@@ -10,11 +11,14 @@ MAX_CONNECTIONS = 64
 
 
 class UnauthenticatedConnections:
-    """The connections without a valid request, the oldest first: at most 64, or a quarter of the descriptors of this process."""
+    """The connections without a valid request, the oldest first: at most 64, or a quarter of the descriptors of this
+    process."""
 
     def __init__(self) -> None:
         descriptors, _ = resource.getrlimit(resource.RLIMIT_NOFILE)
-        self.maximum = MAX_CONNECTIONS if descriptors == resource.RLIM_INFINITY else min(MAX_CONNECTIONS, max(1, descriptors // 4))
+        self.maximum = MAX_CONNECTIONS
+        if descriptors != resource.RLIM_INFINITY:
+            self.maximum = min(MAX_CONNECTIONS, max(1, descriptors // 4))
         self.lock = threading.Lock()
         self.waiting: dict[socket.socket, None] = {}
 

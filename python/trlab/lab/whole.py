@@ -1,4 +1,5 @@
-"""The page of trlab-lab as one file that contains the program, compiled to WebAssembly. It needs neither a server nor Python.
+"""The page of trlab-lab as one file that contains the program, compiled to WebAssembly. It needs neither a server nor
+Python.
 
     python3 -m trlab.lab.whole trlab.wasm > trlab-lab.html"""
 from __future__ import annotations
@@ -21,7 +22,8 @@ _POLICY = (
 
 
 def whole_page(module: bytes, inputs: Mapping[str, str]) -> str:
-    """The page with a module and example inputs, by file name. Rules in Python are left out, because they need the server."""
+    """The page with a module and example inputs, by file name. Rules in Python are left out, because they need the
+    server."""
     script, style = joined("page"), (HERE / "page.css").read_text("utf-8")
     examples = {name: text for name, text in inputs.items() if not name.endswith(".py")}
     policy = _POLICY.format(script=policy_hash(script), style=policy_hash(style))
@@ -33,10 +35,11 @@ def whole_page(module: bytes, inputs: Mapping[str, str]) -> str:
         script_element(script, 'type="module"'),
     ]
     page = (HERE / "page.html").read_text("utf-8")
+    encoding = '<meta charset="utf-8">\n'
     for place, content in (
         ('<link rel="stylesheet" href="page.css">\n', f"<style>{style}</style>\n"),
         ('<script type="module" src="page.js"></script>\n', ""),
-        ('<meta charset="utf-8">\n', f'<meta charset="utf-8">\n<meta http-equiv="Content-Security-Policy" content="{policy}">\n'),
+        (encoding, f'{encoding}<meta http-equiv="Content-Security-Policy" content="{policy}">\n'),
         ("</body>", "".join(parts) + "</body>"),
     ):
         if page.count(place) != 1:

@@ -25,12 +25,15 @@ def texts_of(rule: str, lanes: int, folder: str) -> list[str]:
 def one_window(programs: Programs, rule: str, lanes: int, times: int, folder: str) -> Row:
     """The row of a series with one window, compared with a run, which writes snapshots, and a sweep, which does not."""
     job, empty_job, sweep, short_sweep = texts_of(rule, lanes, folder)
-    trlab, cars = programs.trlab, lanes * CARS
-    commands = {"series": [trlab, "series", "--every", str(STEPS)], "a run": [trlab, "run"], "a sweep": [trlab, "sweep"]}
-    texts, short_texts = (dict(zip(commands, paths)) for paths in ((job, job, sweep), (empty_job, empty_job, short_sweep)))
-    runs = measuring.best_of({name: (command, texts[name]) for name, command in commands.items()}, times)
-    starts = measuring.best_of({name: (command, short_texts[name]) for name, command in commands.items()}, times)
-    moves = {name: time_per_move(runs[name], starts[name], cars * STEPS) for name in commands}
+    series, a_run, a_sweep = ["series", "--every", str(STEPS)], ["run"], ["sweep"]
+    inputs = {"series": (series, job, empty_job), "a run": (a_run, job, empty_job), "a sweep": (a_sweep, sweep, short_sweep)}
+    runs, starts = {}, {}
+    for name, (words, text, short_text) in inputs.items():
+        runs[name] = measuring.Run([programs.trlab, *words], text)
+        starts[name] = measuring.Run([programs.trlab, *words], short_text)
+    times_of_runs, times_of_starts = measuring.best_of(runs, times), measuring.best_of(starts, times)
+    cars = lanes * CARS
+    moves = {name: time_per_move(times_of_runs[name], times_of_starts[name], cars * STEPS) for name in inputs}
     ratios = {name: moves["series"].cpu / moves[name].cpu for name in ("a run", "a sweep")}
     beside = ", ".join(f"{name} {moves[name].cpu:.1f} ({ratio:.2f})" for name, ratio in ratios.items())
     wanted = (wanted_text("a sweep at most 1.02", ratios["a sweep"] <= 1.02),)
@@ -40,8 +43,8 @@ def one_window(programs: Programs, rule: str, lanes: int, times: int, folder: st
 def many_windows(programs: Programs, times: int, folder: str) -> Row:
     """The row of a series whose windows are single steps of one car, compared with its run."""
     path = measuring.write(os.path.join(folder, "windows"), measuring.job(["0" + 9 * "."], measuring.BRAKING, WINDOWS))
-    runs = {word: ([programs.trlab, word], path) for word in ("series", "run")}
-    moves = {word: time_per_move(time, (0, 0), WINDOWS) for word, time in measuring.best_of(runs, times).items()}
+    runs = {word: measuring.Run([programs.trlab, word], path) for word in ("series", "run")}
+    moves = {word: time_per_move(time, measuring.NO_TIME, WINDOWS) for word, time in measuring.best_of(runs, times).items()}
     ratio = moves["series"].cpu / moves["run"].cpu
     beside, wanted = f"a run {moves['run'].cpu:.1f} ({ratio:.2f})", (wanted_text("a run at most 3", ratio <= 3),)
     return Row(f"series of {WINDOWS} windows, `{measuring.BRAKING}`", 1, 10, 1, {"trlab": moves["series"]}, beside, wanted)

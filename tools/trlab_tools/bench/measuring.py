@@ -8,8 +8,8 @@ import re
 import subprocess
 import sys
 import time
-from collections.abc import Hashable, Iterable, Mapping, Sequence
-from typing import Any, NamedTuple, Optional, TypeVar
+from collections.abc import Callable, Hashable, Iterable, Mapping, Sequence
+from typing import NamedTuple, Optional, TypeVar
 
 from .. import TOP
 from ..processes import peak_of
@@ -25,6 +25,8 @@ SLOW_TO_START, CHANGING = "vdr 33554432 1610612736", "rickert 536870912 10737418
 LANES_OF_RULE = {DETERMINISTIC: 1, BRAKING: 1, SLOW_TO_START: 1, CHANGING: 2}
 MAX_EXTENSION = 2  # the maximum number of turns, as a multiple of the planned number
 REPEATS = 5  # turns of a run that measures its own time
+# Two times agree if they differ by at most this share, or by this number of seconds.
+AGREEING_SHARE, AGREEING_SECONDS = 0.02, 0.0005
 SETTLED: list[bool] = []  # for each best time whether it was found twice
 
 
@@ -33,6 +35,9 @@ class Time(NamedTuple):
 
     clock: float
     cpu: float
+
+
+NO_TIME = Time(0, 0)
 
 
 def level(program: str) -> str:
@@ -125,14 +130,20 @@ def own_time(command: Sequence[str], path: str) -> Time:
     return Time(*map(float, process.stderr.split()))
 
 
-def turns(runs: Mapping[Name, tuple[Any, ...]], times: int) -> dict[Name, list[Time]]:
-    """The times of runs, by their names. The runs alternate, `times` times each. A run is a command, the path of its input,
-    and the function that measures it, if that is not `timed`."""
+class Run(NamedTuple):
+    """A run to be measured: a command, the path of its input, and the function that measures it."""
+
+    command: Sequence[str]
+    path: str
+    measure: Callable[[Sequence[str], str], Time] = timed
+
+
+def turns(runs: Mapping[Name, Run], count: int) -> dict[Name, list[Time]]:
+    """The times of runs, by their names. The runs alternate, `count` times each."""
     times_by_name: dict[Name, list[Time]] = {name: [] for name in runs}
-    for _ in range(times):
-        for name, (command, path, *measures) in runs.items():
-            measure = measures[0] if measures else timed
-            times_by_name[name].append(measure(command, path))
+    for _ in range(count):
+        for name, run in runs.items():
+            times_by_name[name].append(run.measure(run.command, run.path))
     return times_by_name
 
 
@@ -143,12 +154,12 @@ def best(times: Iterable[Time]) -> Time:
 
 
 def is_settled(times: Iterable[Time]) -> bool:
-    """Whether the two smallest CPU times of a run agree to 2 percent or half a millisecond."""
+    """Whether the two smallest CPU times of a run agree."""
     least, second = sorted(time.cpu for time in times)[:2]
-    return second - least <= max(0.02 * least, 0.0005)
+    return second - least <= max(AGREEING_SHARE * least, AGREEING_SECONDS)
 
 
-def best_of(runs: Mapping[Name, tuple[Any, ...]], count: int) -> dict[Name, Time]:
+def best_of(runs: Mapping[Name, Run], count: int) -> dict[Name, Time]:
     """The best times of runs, by their names. The runs alternate `count` times, and those whose two smallest times differ up
     to `MAX_EXTENSION` times as often, because on a shared machine even the best of a few runs may be disturbed."""
     times_by_name = turns(runs, count)
@@ -162,7 +173,8 @@ def best_of(runs: Mapping[Name, tuple[Any, ...]], count: int) -> dict[Name, Time
 
 def agreement() -> str:
     """The number of best times so far that were found twice."""
-    return f"Of {len(SETTLED)} best times, {sum(SETTLED)} were confirmed by another run, to 2 percent or 0.5 ms"
+    bounds = f"{100 * AGREEING_SHARE:.0f} percent or {1000 * AGREEING_SECONDS} ms"
+    return f"Of {len(SETTLED)} best times, {sum(SETTLED)} were confirmed by another run, to {bounds}"
 
 
 def memory(command: Sequence[str], path: str, output: str = os.devnull) -> int:
@@ -180,7 +192,7 @@ def memory(command: Sequence[str], path: str, output: str = os.devnull) -> int:
 
 def compare(commands: Sequence[Sequence[str]], path: str, folder: str) -> None:
     """Runs each command on an input once, and ends if two outputs differ."""
-    outputs = [os.path.join(folder, f"output{k}") for k in range(len(commands))]
+    outputs = [os.path.join(folder, f"output{number}") for number in range(len(commands))]
     for command, output in zip(commands, outputs):
         with open(path, "rb") as text, open(output, "wb") as file:
             process = subprocess.run(command, stdin=text, stdout=file, stderr=subprocess.PIPE)

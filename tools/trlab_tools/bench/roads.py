@@ -2,10 +2,10 @@
 import itertools
 import os
 from collections.abc import Callable, Iterator
-from typing import Any, NamedTuple, Optional
+from typing import NamedTuple, Optional
 
 from . import measuring
-from .measuring import BRAKING, CHANGING, DETERMINISTIC, LANES_OF_RULE, SLOW_TO_START
+from .measuring import BRAKING, CHANGING, DETERMINISTIC, LANES_OF_RULE, NO_TIME, SLOW_TO_START, Run
 from .rows import Programs, Row, time_per_move, wanted_text
 
 SECONDS = 0.05  # of a run; short runs are less often disturbed on a shared machine
@@ -104,9 +104,10 @@ def fitting_steps(road: Road, path: str, seconds_of: Callable[[str], float]) -> 
     return MAX_STEPS
 
 
-def by_numba(command: list[str], path: str) -> dict[str, tuple[Any, ...]]:
+def by_numba(command: list[str], path: str) -> dict[str, Run]:
     """The runs in numba, which measure their own times."""
-    return {"numba": (command, path, measuring.own_time), TUNED + "numba": ([*command, "tuned"], path, measuring.own_time)}
+    tuned = [*command, "tuned"]
+    return {"numba": Run(command, path, measuring.own_time), TUNED + "numba": Run(tuned, path, measuring.own_time)}
 
 
 def by_numpy(programs: Programs, road: Road, folder: str, times: int) -> measuring.Time:
@@ -116,8 +117,8 @@ def by_numpy(programs: Programs, road: Road, folder: str, times: int) -> measuri
     road.write(path, steps)
     if not road.is_random:
         measuring.compare([[programs.trlab, "run"], command], path, folder)
-    best = measuring.best_of({"NumPy": (command, path, measuring.own_time)}, times // measuring.REPEATS)["NumPy"]
-    return time_per_move(best, (0, 0), road.cars() * steps)
+    best = measuring.best_of({"NumPy": Run(command, path, measuring.own_time)}, times // measuring.REPEATS)["NumPy"]
+    return time_per_move(best, NO_TIME, road.cars() * steps)
 
 
 def commands_of(programs: Programs, road: Road) -> dict[str, list[str]]:
@@ -131,7 +132,7 @@ def commands_of(programs: Programs, road: Road) -> dict[str, list[str]]:
     return commands
 
 
-def measure(programs: Programs, road: Road, times: int, folder: str) -> Row:
+def measured(programs: Programs, road: Road, times: int, folder: str) -> Row:
     """The row of a road, after the outputs of all programs have been compared."""
     path, path_of_start = os.path.join(folder, "job"), os.path.join(folder, "no steps")
     commands = commands_of(programs, road)
@@ -143,11 +144,11 @@ def measure(programs: Programs, road: Road, times: int, folder: str) -> Row:
         commands["floor"] = [programs.wide_plain, "floor"]
     road.write(path_of_start, 0)
     road.write(path, steps)
-    starts = measuring.best_of({name: (command, path_of_start) for name, command in commands.items()}, times)
-    runs = measuring.best_of({name: (command, path) for name, command in commands.items()}, times)
+    starts = measuring.best_of({name: Run(command, path_of_start) for name, command in commands.items()}, times)
+    runs = measuring.best_of({name: Run(command, path) for name, command in commands.items()}, times)
     if programs.numba and road.rule.startswith("nasch"):
         runs |= measuring.best_of(by_numba(programs.numba, path), times // measuring.REPEATS)
-        starts |= {"numba": measuring.Time(0, 0), TUNED + "numba": measuring.Time(0, 0)}
+        starts |= {"numba": NO_TIME, TUNED + "numba": NO_TIME}
     times_per_move = {name: time_per_move(runs[name], starts[name], road.cars() * steps) for name in runs}
     if programs.numpy and road.rule.startswith("nasch"):
         times_per_move["NumPy"] = by_numpy(programs, road, folder, times)
@@ -165,8 +166,9 @@ def row_of(road: Road, times: dict[str, measuring.Time]) -> Row:
     title = f"`{road.rule}`" if road.density is not None else f"heap, `{road.rule}`"
     row = Row(title, road.lanes, road.cells, road.cars(), times)
     further = []
-    if wide := ", ".join(f"{name} {row.cell(WIDE + name)}" for name in ("plain", "interpreter") if WIDE + name in times):
-        further.append(f"with eight words at once {wide}")
+    wide = [f"{name} {row.cell(WIDE + name)}" for name in ("plain", "interpreter") if WIDE + name in times]
+    if wide:
+        further.append(f"with eight words at once {', '.join(wide)}")
     if TUNED + "numba" in times and road.max_ratios:
         further.append(f"numba tuned {row.cell(TUNED + 'numba')}")
     wanted = [wanted_ratio(row, name, bound) for name, bound in road.max_ratios.items()]
@@ -182,7 +184,7 @@ def growth(programs: Programs, times: int, folder: str) -> Row:
     steps = fitting_steps(large, os.path.join(folder, "job"), lambda text: measuring.timed(command, text).cpu)
     runs = {}
     for road, count in itertools.product((large, small), (steps, 0)):
-        runs[road, count] = command, road.write(os.path.join(folder, f"{road.cells} {count}"), count)
+        runs[road, count] = Run(command, road.write(os.path.join(folder, f"{road.cells} {count}"), count))
     best = measuring.best_of(runs, times)
     step, step_of_small = (time_per_move(best[road, steps], best[road, 0], steps) for road in (large, small))
     ratio = step.cpu / step_of_small.cpu
@@ -204,6 +206,6 @@ def rows(programs: Programs, is_quick: bool, folder: str) -> Iterator[Row]:
     """All rows of one road."""
     times = 10 if is_quick else 20
     for road in roads(is_quick):
-        yield measure(programs, road, times, folder)
+        yield measured(programs, road, times, folder)
     yield growth(programs, times, folder)
     yield memory(programs, times, folder)

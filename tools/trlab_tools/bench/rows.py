@@ -73,9 +73,9 @@ def wanted_text(text: str, is_met: bool) -> str:
     return text if is_met else f"{text} (missed)"
 
 
-def time_per_move(run: tuple[float, float], start: tuple[float, float], moves: int) -> measuring.Time:
+def time_per_move(run: measuring.Time, start: measuring.Time, moves: int) -> measuring.Time:
     """The nanoseconds per car and step: the time of a run less that of a run of 0 steps, over its cars times its steps."""
-    return measuring.Time(*((whole - less) * 1e9 / moves for whole, less in zip(run, start)))
+    return measuring.Time((run.clock - start.clock) * 1e9 / moves, (run.cpu - start.cpu) * 1e9 / moves)
 
 
 def heading(columns: Collection[str]) -> list[str]:

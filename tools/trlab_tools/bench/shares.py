@@ -8,17 +8,27 @@ from collections.abc import Iterator, Sequence
 from typing import NamedTuple, Optional
 
 from . import measuring
-from .measuring import BRAKING, CHANGING
+from .measuring import BRAKING, CHANGING, NO_TIME, Run
 from .rows import Programs, Row, time_per_move, wanted_text
 
 SECONDS = 0.4
 MOVES = 6_000_000  # cars times steps of a sweep of one point
 TRIED_MOVES = 1_000_000  # cars times steps of a run whose time is not known yet
 NOBODY = 65534  # the number of the user who may start no threads
-# The points of sweeps, the cells of their roads, the steps, and how many times as fast four runners should be.
-SWEEPS: list[tuple[int, int, int, Optional[float]]] = [(16, 200, 10000, 3), (7, 1000, 10000, 3), (16, 10000, 200, None)]
 # Four runs of a program at once, with one worker each, on the input in a file.
 AT_ONCE = 'for k in 1 2 3 4; do "$0" run <"$1" >"$2" & done; wait'
+
+
+class SharedSweep(NamedTuple):
+    """The points of a sweep, the cells of their roads, the steps, and how many times as fast four runners should be."""
+
+    points: int
+    cells: int
+    steps: int
+    bound: Optional[float]
+
+
+SWEEPS = [SharedSweep(16, 200, 10000, 3), SharedSweep(7, 1000, 10000, 3), SharedSweep(16, 10000, 200, None)]
 
 
 class Shared(NamedTuple):
@@ -43,12 +53,12 @@ class Shared(NamedTuple):
 
     def time_per_move(self, times: Sequence[measuring.Time], runs: int = 1) -> measuring.Time:
         """The nanoseconds per car and step in the best turn, with `runs` runs at once."""
-        return time_per_move(measuring.best(times), (0, 0), self.cars * self.steps * runs)
+        return time_per_move(measuring.best(times), NO_TIME, self.cars * self.steps * runs)
 
 
 def a_sweep(points: int, cells: int, steps: int) -> Shared:
     """A sweep of points with evenly spaced densities, without the empty and the full road."""
-    cars = [cells * k // (points + 1) for k in range(1, points + 1)]
+    cars = [cells * number // (points + 1) for number in range(1, points + 1)]
     text = measuring.sweep(BRAKING, cells, cars, steps)
     return Shared(f"sweep of {points} points, `{BRAKING}`", "sweep", "runner", 1, cells, sum(cars), steps, text)
 
@@ -68,14 +78,14 @@ def fitting_run(program: str, rule: str, lanes: int, cells: int, folder: str) ->
 
 
 def without_threads() -> None:
-    """Keeps the system from starting further threads for this process."""
+    """Keep the system from starting further threads for this process."""
     if os.getuid() == 0:
         os.setuid(NOBODY)
     resource.setrlimit(resource.RLIMIT_NPROC, (0, 0))
 
 
 def compare_without_threads(shared: Shared, program: str, path: str, folder: str) -> None:
-    """Stops if the output with 16 workers or runners is different when no thread can be started."""
+    """End if the output with 16 workers or runners is different when no thread can be started."""
     outputs = [os.path.join(folder, name) for name in ("threads", "none")]
     for output, limit in zip(outputs, (None, without_threads)):
         with open(path, "rb") as text, open(output, "wb") as out:
@@ -96,12 +106,12 @@ def rows_of(
     programs: Programs, shared: Shared, counts: Sequence[int], bound: Optional[float], times: int, folder: str
 ) -> Iterator[Row]:
     """The rows for these counts of workers or runners. The first count is 1, and 4 should be at least `bound` times as fast."""
-    plain = [programs.plain] + ["sweep"] * (shared.command == "sweep")
+    plain = [programs.plain, *(["sweep"] if shared.command == "sweep" else [])]
     path = compared(shared, programs.trlab, plain, counts, folder)
-    runs = {shared.name(count): (shared.words(programs.trlab, count), path) for count in counts}
-    runs["plain"] = plain, path
+    runs = {shared.name(count): Run(shared.words(programs.trlab, count), path) for count in counts}
+    runs["plain"] = Run(plain, path)
     if shared.command == "run":
-        runs["four runs at once"] = ["sh", "-c", AT_ONCE, programs.trlab, path, os.devnull], path
+        runs["four runs at once"] = Run(["sh", "-c", AT_ONCE, programs.trlab, path, os.devnull], path)
     times_by_name = measuring.turns(runs, times)
     plain_time = shared.time_per_move(times_by_name.pop("plain"))
     for name, times_of_run in times_by_name.items():
@@ -131,11 +141,12 @@ def sweep_over_run(programs: Programs, cells: int, cars: int, bound: float, time
     texts.update({("sweep", count): measuring.sweep(BRAKING, cells, [cars], count) for count in (steps + 1, 1)})
     for (command, count), text in texts.items():
         path = measuring.write(os.path.join(folder, f"{command} {count}"), text)
-        runs[command, count] = [programs.trlab, command], path
-        plain = [programs.plain] + ["sweep"] * (command == "sweep")
+        runs[command, count] = Run([programs.trlab, command], path)
+        plain = [programs.plain, *(["sweep"] if command == "sweep" else [])]
         measuring.compare([plain, [programs.trlab, command]], path, folder)
     run_time, run_start, sweep_time, sweep_start = measuring.best_of(runs, times).values()
-    of_sweep, of_run = time_per_move(sweep_time, sweep_start, cars * steps), time_per_move(run_time, run_start, cars * steps)
+    of_sweep = time_per_move(sweep_time, sweep_start, cars * steps)
+    of_run = time_per_move(run_time, run_start, cars * steps)
     ratio = of_sweep.cpu / of_run.cpu
     beside, wanted = f"a run {of_run.cpu:.1f} ({ratio:.2f})", (wanted_text(f"a run at most {bound}", ratio <= bound),)
     return Row(f"sweep of one point, `{BRAKING}`", 1, cells, cars, {"trlab": of_sweep}, beside, wanted)
@@ -146,9 +157,10 @@ def rows(programs: Programs, is_quick: bool, folder: str) -> Iterator[Row]:
     times, counts = (3, [1, 4]) if is_quick else (7, [1, 2, 4])
     for cells, cars, bound_of_run in (100, 30, 1.1), (1000, 300, 1.03):
         yield sweep_over_run(programs, cells, cars, bound_of_run, times, folder)
-    for points, cells, steps, bound in SWEEPS:
-        if bound or not is_quick:
-            yield from rows_of(programs, a_sweep(points, cells, steps), counts, bound, times, folder)
+    for sweep in SWEEPS:
+        if sweep.bound or not is_quick:
+            shared = a_sweep(sweep.points, sweep.cells, sweep.steps)
+            yield from rows_of(programs, shared, counts, sweep.bound, times, folder)
     for rule, lanes in (BRAKING, 1), (CHANGING, 2):
         for cells, bound in (100000, 2.9), (1000, None):
             if bound or not is_quick:
