@@ -8,7 +8,7 @@ ghost use Rattle.trlab_sequential_book.specs.declared.fault.BookFault.TheVariant
 ghost use Rattle.trlab_sequential_book.specs.declared.event.Reply.TheVariants.{Refused};
 ghost use Rattle.trlab_sequential_book.specs.Histories.{is_event};
 ghost use Rattle.trlab_book.specs.Desks.{AddsRunnerCalls, EndsAt, EndsTurn, Goes, HasEnded, RunsSteps, clock_of, part_count};
-ghost use Rattle.trlab_book.specs.Turns.{Free, Finished};
+ghost use Rattle.trlab_book.specs.HeldLeases.{Idle, Over};
 ghost use Rattle.trlab_book.specs.declared.running.RunFault.TheVariants as run;
 
 use crate::desk::{Desk, SharedBook};
@@ -176,8 +176,8 @@ impl<'a, L: Ledger, R: Threads + Wait + Sync, G: Gate + Sync> Runner<'a, L, R, G
     /// Leases a free job for one turn. Returns the result of the runner if it ends, because no job is free or after a
     /// fault; otherwise `None`.
     fn take_free(&self, desk: &mut Desk<L>) -> Option<Result<(), RunFault>>
-        ensures { MatchOption result (Goes Free Free desk.old desk.new)
-            (λ ended. EndsAt Free Finished 1 ended desk.old desk.new) }
+        ensures { MatchOption result (Goes Idle Idle desk.old desk.new)
+            (λ ended. EndsAt Idle Over 1 ended desk.old desk.new) }
     {
         match self.book.lease(self.rt, self.alloc, desk) {
             Ok(Some(lease)) => match self.take_turn(desk, lease) {
