@@ -1,10 +1,10 @@
--- What calls do to each job of a book.
-use Rattle.std.proofs.Common.{◌≡◌, ℕ, ◌+◌, ◌<◌, ◌≤◌, ◌==◌, ◌&&◌, ◌||◌, not, ltb, max, Bool, true, false, List, []}
-use Rattle.std.proofs.Common.{◌∷◌, ◌++◌, Option, Some, None, length, map, refl, sym, ◌∙◌, ap, subst, inl, inr, ◌⊎◌}
+-- The effect of calls on each job of a book.
+use Rattle.std.proofs.Common.{◌≡◌, ℕ, ◌+◌, ◌<◌, ◌≤◌, ◌==◌, ◌&&◌, ◌||◌, not, ltb, Bool, true, false, List, []}
+use Rattle.std.proofs.Common.{◌∷◌, ◌++◌, Option, Some, None, length, map, refl, sym, ◌∙◌, ap, subst, inl, inr}
 use Rattle.std.proofs.Common.{arith, slice_get, slice_set, is_some, if◌then◌else◌, position, MatchOption, All}
-use Rattle.std.proofs.{Common.{eq-eqb, eqb-true, true≢false}, lemmas.List.Elements.{All-head, All-tail, All-nil}}
-use Rattle.std.proofs.lemmas.{List.Elements.All-cons, Bool.{cases_eq, cond-false, cond_both, ltb-false, and_parts}}
-use Rattle.std.proofs.lemmas.Option.{none-some, same_Some}
+use Rattle.std.proofs.{Common.{eq-eqb}, lemmas.List.Elements.{All-head, All-tail, All-nil}}
+use Rattle.std.proofs.lemmas.{List.Elements.All-cons, Bool.{cases_eq, cond-false}}
+use Rattle.std.proofs.lemmas.Option.{same_Some}
 use Rattle.trlab_rules.specs.Rules.{Programs}
 use Rattle.trlab_step.specs.Run.{suits}
 use Rattle.trlab_sequential_book.specs.declared.{book.TheConstants.MAX_JOBS, sheet.TheConstants.MAX_ENTRIES}
@@ -16,9 +16,9 @@ use Rattle.trlab_sequential_book.specs.Machine.{after, cancel_outcome, give_back
 use Rattle.trlab_sequential_book.specs.Machine.{is_free, is_out, lease_outcome, new_job, next_after, on_free}
 use Rattle.trlab_sequential_book.specs.Machine.{on_job, order_outcome, outcome_of_call, read_outcome, refusal}
 use Rattle.trlab_sequential_book.specs.Machine.{reply_of, replace_outcome, revoke_outcome}
-use Rattle.trlab_sequential_book.proofs.Booking.{on_found, own_parts}
+use Rattle.trlab_sequential_book.proofs.Booking.{on_found}
 use Rattle.trlab_sequential_book.proofs.LeaseTracking.{apart, book_if, by_if, made_on, next_grows, push_was}
-use Rattle.trlab_sequential_book.proofs.LeaseTracking.{set_here, set_there, same_number}
+use Rattle.trlab_sequential_book.proofs.LeaseTracking.{set_here, set_there}
 use Rattle.trlab_sequential_book.specs.declared.event.Call.TheVariants as call
 use Rattle.trlab_sequential_book.specs.declared.event.Reply.TheVariants as reply
 use Rattle.trlab_sequential_book.specs.declared.fault.BookFault.TheVariants as fault
@@ -128,8 +128,8 @@ abbrev pub IsNotOutFor : ℕ → ℕ → ℕ → JobState → Type 0
 IsNotOutFor number lease index job = index ≡ number → is_out lease job.out ≡ false
 
 second_false : (a b : Bool) → (a && b) ≡ false → a ≡ true → b ≡ false
-second_false true b is yes = is
-second_false false b is yes = absurd (cc yes)
+second_false true b is holds = is
+second_false false b is holds = absurd (cc holds)
 
 and_false : (a b : Bool) → b ≡ false → (a && b) ≡ false
 and_false true b is = is

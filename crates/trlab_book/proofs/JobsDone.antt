@@ -1,8 +1,8 @@
 -- When the runners of a history have ended, all its jobs are over.
-use Rattle.std.proofs.Common.{◌≡◌, ◌↔◌, ℕ, zero, suc, ◌+◌, ◌<◌, ◌≤◌, ◌==◌, ◌&&◌, ltb, Bool, true, false, List, []}
+use Rattle.std.proofs.Common.{◌≡◌, ℕ, zero, suc, ◌+◌, ◌<◌, ◌≤◌, ◌==◌, ◌&&◌, ltb, Bool, true, false, List, []}
 use Rattle.std.proofs.Common.{◌∷◌, ◌++◌, Option, Some, None, length, map, refl, sym, ◌∙◌, ap, subst, inl, inr, ◌⊎◌}
 use Rattle.std.proofs.Common.{arith, slice_get, position, All, append_assoc, append-nil, length-append, cond, eqb}
-use Rattle.std.proofs.Common.{true≢false, eqb-true, eq-eqb, lt-ltb, if◌then◌else◌, slice_set}
+use Rattle.std.proofs.Common.{true≢false, eqb-true, lt-ltb, if◌then◌else◌, slice_set}
 use Rattle.std.proofs.lemmas.List.{Elements.{All-append, All-cons, All-head, All-nil, All-tail, All-weaker}}
 use Rattle.std.proofs.lemmas.{List.Elements.All-get_or, Bool.{and_parts, cases_lt}}
 use Rattle.std.proofs.lemmas.Option.{none-some, slice_get_within}
@@ -10,17 +10,16 @@ use Rattle.std.proofs.lemmas.Option.{get_or_from_slice_get}
 use Rattle.std.proofs.lemmas.List.Sums.{sum_by-cons}
 use Rattle.trlab_sequential_book.specs.declared.event.{Call.Call, Event.Event, Offered.Offered, Reply.Reply}
 use Rattle.trlab_sequential_book.specs.{declared.fault.BookFault.BookFault, Histories.{Replays, book_after}}
-use Rattle.trlab_sequential_book.specs.Histories.{call_of, event, replies_from, reply_of_event, state_from}
+use Rattle.trlab_sequential_book.specs.Histories.{call_of, event, reply_of_event, state_from}
 use Rattle.trlab_sequential_book.specs.Machine.{BookState, JobState, JobsOutcome, after, empty_book, is_free, reply_of}
-use Rattle.trlab_sequential_book.specs.Machine.{has_full_history, lease_outcome, on_free, outcome_of_call}
-use Rattle.trlab_sequential_book.proofs.LeaseTracking.{book_if, made_on, same_number}
+use Rattle.trlab_sequential_book.specs.Machine.{has_full_history, is_out, lease_outcome, on_free, outcome_of_call}
+use Rattle.trlab_sequential_book.proofs.LeaseTracking.{made_on, same_number}
 use Rattle.trlab_sequential_book.proofs.OrderedSteps.{ordered_after, none_at_first}
 use Rattle.trlab_sequential_book.specs.declared.event.Call.TheVariants as call
 use Rattle.trlab_sequential_book.specs.declared.event.Reply.TheVariants as reply
 use Rattle.trlab_sequential_book.specs.declared.fault.BookFault.TheVariants as fault
 use Rattle.trlab_strands.specs.declared.knowledge.Noted.{Noted}
 use Rattle.trlab_strands.specs.Knowledge.{AreInList, IsInList, IsLinearization, count_with_number, event_number}
-use Rattle.trlab_strands.{specs.Knowledge.once_below, proofs.Seats.times_append}
 use Rattle.trlab_book.specs.HeldLeases.{Idle, Over, RunsLeases}
 use Rattle.trlab_book.specs.Turns.{AreInOrderFrom, AreLogs, AreOtherCalls, Astray, Finished, Free, InTurn}
 use Rattle.trlab_book.specs.Turns.{IsEndedIn, IsLog, IsOver, JobsAreOver, Stage, Turn, after_giving_back}
@@ -78,19 +77,21 @@ among_two (a ∷ xs) ys (b ∷ before) later x is = elim (among_two xs ys before
 
 -- the event with a number
 module _ (k : ℕ) where
-  found_in : (own : List (Noted Event)) → 0 < count_with_number k own → (made : Noted Event) × IsAmong own made × (event_number made ≡ k)
-  found_in [] some = absurd (omega (arith, some))
-  found_in (made ∷ own) some = by (eqb (event_number made) k) refl
-    where
-      count : count_with_number k (made ∷ own) ≡ cond (eqb (event_number made) k) 1 0 + count_with_number k own
-      count = sum_by-cons (λ (m : Noted Event). cond (eqb (event_number m) k) 1 0) made own
+  abbrev HasFound : List (Noted Event) → Type 0
+  HasFound own = (made : Noted Event) × IsAmong own made × (event_number made ≡ k)
 
-      by : (here : Bool) → eqb (event_number made) k ≡ here → (found : Noted Event) × IsAmong (made ∷ own) found × (event_number found ≡ k)
-      by true is = (made, record { before = []; later = own; all_is = refl }, eqb-true (event_number made) k is)
-      by false is =
-          let none : cond (eqb (event_number made) k) 1 0 ≡ 0 = ap (λ (b : Bool). cond b 1 0) is in
-          let rest = found_in own (omega (arith, some, count, none)) in
-          (rest.0, among_more made rest.0 own rest.1, rest.2)
+  found_by : (made : Noted Event) (own : List (Noted Event)) (here : Bool) → eqb (event_number made) k ≡ here → 0 < count_with_number k (made ∷ own)
+      → (0 < count_with_number k own → HasFound own) → HasFound (made ∷ own)
+  found_by made own true is some rest = (made, record { before = []; later = own; all_is = refl }, eqb-true (event_number made) k is)
+  found_by made own false is some rest =
+      let none : count_with_number k (made ∷ own) ≡ cond false 1 0 + count_with_number k own =
+      subst (λ (b : Bool). count_with_number k (made ∷ own) ≡ cond b 1 0 + count_with_number k own) is (sum_by-cons (λ (m : Noted Event). cond (eqb (event_number m) k) 1 0) made own) in
+      let found = rest (omega (arith, some, none)) in
+      (found.0, among_more made found.0 own found.1, found.2)
+
+  found_in : (own : List (Noted Event)) → 0 < count_with_number k own → HasFound own
+  found_in [] some = absurd (omega (arith, some))
+  found_in (made ∷ own) some = found_by made own (eqb (event_number made) k) refl some (λ more. found_in own more)
 
 -- the last call of a log, and of several logs
 
@@ -167,13 +168,15 @@ last_of s from first [] rise is = (
 last_of s from first (second ∷ log) rise is =
     let rest = last_of (stage_after s first.event) (event_number first + 1) second log rise.1 is in
     let end = rest.0 in
-    let low : event_number first ≤ event_number end.last = omega (arith, rise.1.0, rest.1) in
-    (record {
-      last = end.last;
-      among = among_more first end.last (second ∷ log) end.among;
-      none = end.none;
-      all = All-cons (λ (m : Noted Event). event_number m ≤ event_number end.last) first (second ∷ log) low end.all;
-    }, low)
+    let low : event_number first ≤ event_number end.last = omega (arith, rise.1.0, rest.1) in (
+      record {
+        last = end.last;
+        among = among_more first end.last (second ∷ log) end.among;
+        none = end.none;
+        all = All-cons (λ (m : Noted Event). event_number m ≤ event_number end.last) first (second ∷ log) low end.all;
+      },
+      low,
+    )
 
 log_last : (log : List (Noted Event)) → IsLog log → LastCall log
 log_last [] is = absurd (cc is.stage)
@@ -453,23 +456,30 @@ module _ (history : List Event) (book : BookState) (replays : Replays history bo
   of_calls : AreInList history calls
   of_calls = all_left (IsInList history) calls later (all_right (IsInList history) before (calls ++ later) lin.in_list)
 
+  kind_of : (m : Noted Event) → IsAmong (before ++ (calls ++ later)) m → IsAmong calls m ⊎ Other m
+  kind_of m is = elim (among_two before (calls ++ later) is.before is.later m is.all_is) [
+    | inl first ↦ inr (all_among Other before m first others_before)
+    | inr more ↦ elim (among_two calls later more.before more.later m more.all_is) [
+      | inl call ↦ inl call
+      | inr last ↦ inr (all_among Other later m last others_later)
+    ]
+  ]
+
+  event_is : (m : Noted Event) (p q : List Event) (made : Event) → IsInList history m → event_number m ≡ length p → history ≡ p ++ made ∷ q → m.event ≡ made
+  event_is m p q made is size split = (same_place m.before p is.0 q m.event made (sym is.1 ∙ split) size).1
+
   -- each event of the history is a call of a runner or another call
   someone : (p q : List Event) (made : Event) → history ≡ p ++ made ∷ q → (m : Noted Event) × (IsAmong calls m ⊎ Other m) × (m.event ≡ made) × (event_number m ≡ length p)
   someone p q made split =
       let size : length history ≡ length p + length (made ∷ q) = ap length split ∙ length-append p (made ∷ q) in
       let once : count_with_number (length p) (before ++ (calls ++ later)) ≡ 1 =
       lin.once (length p) ∙ ap (λ (b : Bool). cond b 1 0) (lt-ltb (length p) (length history) (omega (arith, size))) in
-      let found = found_in (length p) (before ++ (calls ++ later)) (omega (arith, once)) in
-      let is = all_among (IsInList history) (before ++ (calls ++ later)) found.0 found.1 lin.in_list in
-      let same = same_place found.0.before p is.0 q found.0.event made (sym is.1 ∙ split) found.2 in
-      let kind : IsAmong calls found.0 ⊎ Other found.0 = elim (among_two before (calls ++ later) found.1.before found.1.later found.0 found.1.all_is) [
-        | inl first ↦ inr (all_among Other before found.0 first others_before)
-        | inr more ↦ elim (among_two calls later more.before more.later found.0 more.all_is) [
-          | inl call ↦ inl call
-          | inr last ↦ inr (all_among Other later found.0 last others_later)
-        ]
-      ] in
-      (found.0, kind, same.1, found.2)
+      let found = found_in (length p) (before ++ (calls ++ later)) (omega (arith, once)) in (
+        found.0,
+        kind_of found.0 found.1,
+        event_is found.0 p q made (all_among (IsInList history) (before ++ (calls ++ later)) found.0 found.1 lin.in_list) found.2 split,
+        found.2,
+      )
 
   end : LastCall calls
   end = some_latest runners calls some logs

@@ -1,7 +1,7 @@
 -- Jobs whose steps are all done, and jobs that were cancelled, stay so.
 use Rattle.std.proofs.Common.{◌≡◌, ℕ, ◌+◌, ◌≤◌, ◌==◌, ◌&&◌, ◌||◌, not, ltb, max, Bool, true, false, List, [], ◌∷◌}
-use Rattle.std.proofs.Common.{◌++◌, Option, Some, None, length, map, refl, sym, ◌∙◌, ap, subst, inl, inr, ◌⊎◌, arith}
-use Rattle.std.proofs.Common.{slice_get, is_some, if◌then◌else◌, position, All, eq-eqb, true≢false}
+use Rattle.std.proofs.Common.{Option, Some, None, length, map, refl, sym, ◌∙◌, ap, inl, inr, ◌⊎◌, arith}
+use Rattle.std.proofs.Common.{slice_get, is_some, if◌then◌else◌, All, eq-eqb, true≢false}
 use Rattle.std.proofs.Math.Nat.{eq-or-lt_of_le}
 use Rattle.std.proofs.lemmas.{List.Elements.{All-head, All-tail}, Bool.{cond_both, ltb-false}, Option.none-some}
 use Rattle.trlab_step.specs.Run.{suits}
@@ -9,8 +9,8 @@ use Rattle.trlab_sequential_book.specs.declared.{sheet.TheConstants.MAX_ENTRIES,
 use Rattle.trlab_sequential_book.specs.{declared.event.Offered.Offered, Sheets.{begin_in_force, with_rule_from}}
 use Rattle.trlab_sequential_book.specs.Histories.{call_of, state_from}
 use Rattle.trlab_sequential_book.specs.Machine.{JobState, JobOutcome, BookState, accepts_lease, is_out}
-use Rattle.trlab_sequential_book.specs.Machine.{after, empty_book, is_free, lease_outcome, order_outcome, refusal}
-use Rattle.trlab_sequential_book.{specs.Machine.replace_outcome, proofs.{Booking.own_parts, LeaseTracking.by_if}}
+use Rattle.trlab_sequential_book.specs.Machine.{after, empty_book, is_free, order_outcome, refusal}
+use Rattle.trlab_sequential_book.{proofs.{Booking.own_parts, LeaseTracking.by_if}}
 use Rattle.trlab_sequential_book.specs.declared.event.Call.TheVariants as call
 use Rattle.trlab_sequential_book.specs.declared.event.Reply.TheVariants as reply
 use Rattle.trlab_sequential_book.specs.declared.fault.BookFault.TheVariants as fault

@@ -1,12 +1,12 @@
 -- A lease that the book refuses to a runner is not out.
 use Rattle.std.proofs.Common.{◌≡◌, ◌↔◌, ℕ, ◌+◌, ◌≤◌, false, List, [], ◌∷◌, ◌++◌, Option, Some, None, length, map}
-use Rattle.std.proofs.Common.{refl, sym, ◌∙◌, ap, subst, arith, inl, inr, ◌⊎◌, MatchOption, slice_get, IsTrue, Ok}
-use Rattle.std.proofs.Common.{append_assoc, length-append, All}
+use Rattle.std.proofs.Common.{refl, sym, ◌∙◌, ap, subst, arith, inl, inr, MatchOption, slice_get, IsTrue}
+use Rattle.std.proofs.Common.{Bool, append_assoc, length-append}
 use Rattle.std.proofs.{Math.Logic.∥∥₁_elim, Props.props, lemmas.List.Elements.{All-head, All-tail}}
-use Rattle.trlab_sequential_book.specs.declared.event.{Call.Call, Event.Event, Offered.Offered, Reply.Reply}
+use Rattle.trlab_sequential_book.specs.declared.event.{Event.Event, Offered.Offered}
 use Rattle.trlab_sequential_book.specs.declared.fault.BookFault.{BookFault}
 use Rattle.trlab_sequential_book.specs.Comparison.{RunsRoadOfItsJob, offered}
-use Rattle.trlab_sequential_book.specs.Histories.{GoesThrough, IsNotOut, RanStep, Replays, WentOut, book_after}
+use Rattle.trlab_sequential_book.specs.Histories.{GoesThrough, IsNotOut, Replays, WentOut, book_after}
 use Rattle.trlab_sequential_book.specs.Histories.{Offers, call_of, event, is_event, state_from}
 use Rattle.trlab_sequential_book.specs.{Leases.LeaseState, Machine.{BookState, JobState, after, empty_book, is_out}}
 use Rattle.trlab_sequential_book.proofs.Refusals.{refused_leases_are_not_out}
@@ -73,7 +73,7 @@ goes_on past more old new gone through = record {
       (subst (λ (b : BookState). GoesThrough b more old new) (book_of past old gone) through);
 }
 
--- what is known of a runner's lease after these events
+-- after these events a runner's lease, if it has one, has run only steps that the book ordered
 abbrev Has : RunnerState → List Event → Type 0
 Has (Running lease) past = HasGone past lease
 Has Idle past = Unit {0}
@@ -138,7 +138,7 @@ is_prop lease None = hlevel props
 is_prop lease (Some job) = hlevel props
 
 module _ (history : List Event) (book : BookState) (replays : Replays history book) where
-  -- what is known of a runner's lease before its next call
+  -- the same before a runner's next call
   comes_to : (runner : RunnerState) (past rest : List Event) (from : ℕ) (made : Noted Event) → history ≡ past ++ rest → Has runner past → length past ≤ from → from ≤ event_number made
       → IsInList history made → Has runner made.before
   comes_to runner past rest from made split has low least is =

@@ -6,7 +6,7 @@ use Rattle.trlab_sequential_book.specs.{Leases.LeaseState, Machine.BookState, Co
 use Rattle.trlab_sequential_book.specs.Histories.{Offers, RanStep, Replays, WentOut, event, is_event}
 use Rattle.trlab_strands.specs.declared.knowledge.Noted.{Noted}
 
--- what a runner has after its calls so far: no lease, but it goes on (`Idle`); this lease (`Running`); or no
+-- the state of a runner after its calls so far: no lease, but it goes on (`Idle`); this lease (`Running`); or no
 -- lease, and it has ended (`Over`)
 pub data RunnerState : Type 0 where
   Idle : RunnerState

@@ -167,7 +167,7 @@ LeasesEnd =
     → log ≡ before ++ made ∷ after → made.event.reply ≡ reply.Leased job number step steps
     → IsEndedIn job number after
 
--- What the log of a runner says of a lease that the book refuses.
+-- Leases that the book refuses to a runner.
 
 -- the lease that a call offers to the book; `None` if it offers none
 abbrev pub lease_offered_by : Call → Option Offered
@@ -190,7 +190,7 @@ LeasesRefusedToRunnersAreNotOut =
     → lease_offered_by made.event.call ≡ Some lease → made.event.reply ≡ reply.Refused fault
     → LeaseIsNotOut (book_after made.before) lease.job lease.number
 
--- What follows for the jobs of the book.
+-- The jobs of a book after its runners have ended.
 
 -- is this the call `lease`?
 abbrev pub is_lease : Call → Bool

@@ -1,4 +1,4 @@
-//! Laws of a book with its history, of runners' leases, of free jobs, and of the joined results of two runners.
+//! Laws of a book with its history, of runners' leases, of jobs, and of the joined results of two runners.
 
 ghost use Rattle.trlab_book.specs.Turns.{JobsAreOver, LeasesEnd, LeasesRefusedToRunnersAreNotOut, NoJobIsFree};
 
