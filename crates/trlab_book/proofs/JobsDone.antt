@@ -22,7 +22,7 @@ use Rattle.trlab_strands.specs.declared.knowledge.Noted.{Noted}
 use Rattle.trlab_strands.specs.Knowledge.{AreInList, IsInList, IsLinearization, count_with_number, event_number}
 use Rattle.trlab_book.specs.HeldLeases.{Idle, Over, RunsLeases}
 use Rattle.trlab_book.specs.Turns.{AreInOrderFrom, AreLogs, AreOtherCalls, Astray, Finished, Free, InTurn}
-use Rattle.trlab_book.specs.Turns.{IsEndedIn, IsLog, IsOver, JobsAreOver, Stage, Turn, after_giving_back}
+use Rattle.trlab_book.specs.Turns.{IsEndedIn, IsLog, AllStepsAreDone, IsOver, JobsAreOver, Stage, Turn, after_giving_back}
 use Rattle.trlab_book.specs.Turns.{after_ordering, ends_lease, is_lease, is_lease_of, is_of_turn, is_submit}
 use Rattle.trlab_book.specs.Turns.{LeaseIsNotOut, last_stage, lease_offered_by, stage_after}
 use Rattle.trlab_book.proofs.{FreeJobs.no_job_is_free, LeasesEnd.leases_end}
@@ -30,7 +30,7 @@ use Rattle.trlab_book.proofs.RefusedLeases.{begins_with, leases_refused_to_runne
 use Rattle.trlab_book.proofs.BookJobs.{AllHave, IsNotOutFor, Told, back_not_out, first_told, leased_next, lends}
 use Rattle.trlab_book.proofs.BookJobs.{never_lent, next_after_events, not_out_all, rest_told, stays_not_out}
 use Rattle.trlab_book.proofs.BookJobs.{told_after}
-use Rattle.trlab_book.proofs.JobsOver.{over_from, over_if, within_after}
+use Rattle.trlab_book.proofs.JobsOver.{never_cancelled, over_from, over_if, within_after}
 
 -- lists
 
@@ -591,5 +591,13 @@ module _ (history : List Event) (book : BookState) (replays : Replays history bo
       (ap (λ (b : BookState). slice_get b.jobs number) (sym now) ∙ at)
 
 pub jobs_are_over : JobsAreOver
-jobs_are_over history book before calls later runners count number job replays lin some logs late others_before others_later at =
-    over_at history book replays before calls later runners count lin some logs late others_before others_later number job at
+jobs_are_over history book runners count before calls later number job replays ended at =
+    over_at history book replays before calls later runners count ended.whole ended.some ended.logs ended.first ended.others_before ended.others_later number job at
+
+pub all_steps_are_done : AllStepsAreDone
+all_steps_are_done history book runners count before calls later number job replays ended none at =
+    let going = never_cancelled history replays.replies none number job (ap (λ (b : BookState). slice_get b.jobs number) (sym replays.state_is) ∙ at) in
+    elim (jobs_are_over history book runners count before calls later number job replays ended at).over [
+      | inl cancelled ↦ absurd (true≢false (sym cancelled ∙ going))
+      | inr done ↦ done
+    ]

@@ -14,7 +14,7 @@ use Rattle.trlab_sequential_book.{proofs.{Booking.own_parts, LeaseTracking.by_if
 use Rattle.trlab_sequential_book.specs.declared.event.Call.TheVariants as call
 use Rattle.trlab_sequential_book.specs.declared.event.Reply.TheVariants as reply
 use Rattle.trlab_sequential_book.specs.declared.fault.BookFault.TheVariants as fault
-use Rattle.trlab_book.specs.Turns.{IsOver, is_lease, is_submit}
+use Rattle.trlab_book.specs.Turns.{IsOver, is_cancel, is_lease, is_submit}
 use Rattle.trlab_book.proofs.BookJobs.{AllHave, KeepsCall, Told, first_told, kept_after, rest_told}
 
 -- at most all steps of a job were ordered
@@ -110,3 +110,33 @@ over_from book (made ∷ events) told none are =
     let here = All-head (λ (e : Event). (is_lease e.call ≡ false) × (is_submit e.call ≡ false)) made events none in
     over_from (after book made.call) events (rest_told book made events told) (All-tail (λ (e : Event). (is_lease e.call ≡ false) × (is_submit e.call ≡ false)) made events none)
     (kept_after IsOverAt book made (first_told book made events told) are (λ is. over_kept book made.call here.0 here.1))
+
+-- without a call of `cancel` no job is cancelled
+
+abbrev IsGoing : ℕ → JobState → Type 0
+IsGoing index job = job.cancelled ≡ false
+
+going_kept : (book : BookState) (made : Call) → is_cancel made ≡ false → KeepsCall IsGoing book made
+going_kept book (call.Submit seed rule steps) none = λ index. refl
+going_kept book (call.Replace index rule) none = λ job going.
+    let P : JobOutcome → Type 0 = λ (o : JobOutcome). o.job.cancelled ≡ false in
+    by_if P (job.cancelled || (job.high == job.steps)) _ _ going (by_if P (not (suits rule job.seed.road)) _ _ going (by_if P (ltb MAX_ENTRIES (length (with_rule_from job.sheet job.high rule))) _ _ going going))
+going_kept book call.Lease none = λ index job first at going. going
+going_kept book (call.Order offer) none = λ job going.
+    let P : JobOutcome → Type 0 = λ (o : JobOutcome). o.job.cancelled ≡ false in
+    by_if P (job.cancelled || (offer.step == job.steps)) _ _ going (by_if P (accepts_lease offer job) _ _ going going)
+going_kept book (call.GiveBack offer) none = λ job going. by_if (λ (o : JobOutcome). o.job.cancelled ≡ false) (accepts_lease offer job) _ _ going going
+going_kept book (call.Revoke index) none = λ job going. by_if (λ (o : JobOutcome). o.job.cancelled ≡ false) (is_some job.out) _ _ going going
+going_kept book (call.Cancel index) none = absurd (cc none)
+going_kept book (call.Read index) none = tt
+
+going_from : (book : BookState) (events : List Event) → Told book events → All (λ (e : Event). is_cancel e.call ≡ false) events → AllHave IsGoing book.jobs → AllHave IsGoing (state_from book (map call_of events)).jobs
+going_from book [] told none are = are
+going_from book (made ∷ events) told none are =
+    let here = All-head (λ (e : Event). is_cancel e.call ≡ false) made events none in
+    going_from (after book made.call) events (rest_told book made events told) (All-tail (λ (e : Event). is_cancel e.call ≡ false) made events none)
+    (kept_after IsGoing book made (first_told book made events told) are (λ is. going_kept book made.call here))
+
+pub never_cancelled : (events : List Event) → Told empty_book events → All (λ (e : Event). is_cancel e.call ≡ false) events
+    → (number : ℕ) (job : JobState) → slice_get (state_from empty_book (map call_of events)).jobs number ≡ Some job → job.cancelled ≡ false
+never_cancelled events told none = going_from empty_book events told none (λ index job at. absurd (none-some job at))

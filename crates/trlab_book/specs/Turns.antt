@@ -214,13 +214,35 @@ AreOtherCalls count events =
     All (λ made. (is_lease made.event.call ≡ false)
     × (is_submit made.event.call ≡ true → event_number made < count)) events
 
--- a history that replays consists of the logs of one or more runners and of other calls, in any order. If no
--- other call is `lease`, and each `submit` comes before all calls of the runners, then all jobs are over
+-- the history consists of the calls of one or more runners, which have all ended, and of other calls: none of
+-- these is `lease`, and each `submit` is one of the first `count` events. No runner called before
+pub record HaveEnded (history : List Event) (runners count : ℕ) (before calls later : List (Noted Event))
+    : Type 0 where
+  pub whole : IsLinearization history (before ++ (calls ++ later))
+  pub some : 0 < runners
+  pub logs : AreLogs runners calls
+  pub first : All (λ made. count ≤ event_number made) calls
+  pub others_before : AreOtherCalls count before
+  pub others_later : AreOtherCalls count later
+
+-- if a history replays to a book and its runners have ended, all jobs of the book are over
 abbrev pub JobsAreOver : Type 0
 JobsAreOver =
-    (history : List Event) (book : BookState) (before calls later : List (Noted Event))
-    (runners count number : ℕ) (job : JobState) → Replays history book
-    → IsLinearization history (before ++ (calls ++ later)) → 0 < runners → AreLogs runners calls
-    → All (λ made. count ≤ event_number made) calls
-    → AreOtherCalls count before → AreOtherCalls count later
+    (history : List Event) (book : BookState) (runners count : ℕ) (before calls later : List (Noted Event))
+    (number : ℕ) (job : JobState) → Replays history book
+    → HaveEnded history runners count before calls later
     → slice_get book.jobs number ≡ Some job → IsOver job
+
+-- is this a call of `cancel`?
+abbrev pub is_cancel : Call → Bool
+is_cancel (call.Cancel job) = true
+is_cancel _ = false
+
+-- if nobody has called `cancel` either, all steps of each job are done
+abbrev pub AllStepsAreDone : Type 0
+AllStepsAreDone =
+    (history : List Event) (book : BookState) (runners count : ℕ) (before calls later : List (Noted Event))
+    (number : ℕ) (job : JobState) → Replays history book
+    → HaveEnded history runners count before calls later
+    → All (λ made. is_cancel made.call ≡ false) history
+    → slice_get book.jobs number ≡ Some job → job.done ≡ job.steps

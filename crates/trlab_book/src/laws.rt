@@ -1,6 +1,7 @@
 //! Laws of a book with its history, of runners' leases, of jobs, and of the joined results of two runners.
 
-ghost use Rattle.trlab_book.specs.Turns.{JobsAreOver, LeasesEnd, LeasesRefusedToRunnersAreNotOut, NoJobIsFree};
+ghost use Rattle.trlab_book.specs.Turns.{AllStepsAreDone, JobsAreOver, LeasesEnd, LeasesRefusedToRunnersAreNotOut};
+ghost use Rattle.trlab_book.specs.Turns.{NoJobIsFree};
 
 pub use crate::kept::Kept;
 pub use crate::running::first_fault;
@@ -22,8 +23,9 @@ pub fn leases_refused_to_runners_are_not_out()
     ensures { LeasesRefusedToRunnersAreNotOut }
 {}
 
-/// When the runners of a book have ended, all its jobs are over: each was cancelled, or all its steps are done. No other
-/// call may lease, and no job may be submitted after the first call of a runner.
+/// When the runners of a history have ended, all jobs of the book are over: each was cancelled, or all its steps are
+/// done. Nobody else may lease, and no job may be submitted after the first call of a runner.
 pub fn jobs_are_over()
-    ensures { JobsAreOver }
+    ensures over { JobsAreOver }
+    ensures done { AllStepsAreDone }
 {}
