@@ -32,12 +32,13 @@ class Study(NamedTuple):
 
     @classmethod
     def by_words(cls, script: str, about: str) -> Study:
-        words = argparse.ArgumentParser(description=about.split("\n")[0])
-        words.add_argument("--full", action="store_true", help="the long run, which writes into its folder full/")
-        words.add_argument("--draw", action="store_true", help="runs nothing, takes the tables that are there")
-        asked = words.parse_args()
+        """The study of a script, with the options of its command line."""
+        parser = argparse.ArgumentParser(description=about.split("\n")[0])
+        parser.add_argument("--full", action="store_true", help="the long run, which writes into its folder full/")
+        parser.add_argument("--draw", action="store_true", help="runs nothing, takes the tables that are there")
+        options = parser.parse_args()
         here = Path(script).resolve().parent
-        return cls(here / "full" if asked.full else here, asked.full, asked.draw)
+        return cls(here / "full" if options.full else here, options.full, options.draw)
 
     def frame(
         self, file: str, kind: type[Row], inputs: Mapping[str, Input], call: Callable[[Input], Iterable[Row]]
@@ -62,6 +63,7 @@ class Study(NamedTuple):
 
     @property
     def parts(self) -> Path:
+        """The folder that keeps the outputs of the program as long as the study is not complete."""
         return self.folder / "outputs.parts"
 
     def write_inputs(self, inputs: Mapping[str, Union[Job, Sweep]]) -> None:
@@ -69,12 +71,13 @@ class Study(NamedTuple):
         in their key only those of key 1."""
         place = self.folder / "texts"
         place.mkdir(parents=True, exist_ok=True)
-        for name, asked in inputs.items():
-            if isinstance(asked, Sweep):
-                for number, part in enumerate(asked.parts()):
-                    (place / (f"{name}_{number}.sweep" if number else f"{name}.sweep")).write_text(part.text())
-            elif asked.key == 1:
-                (place / f"{name}.job").write_text(asked.text())
+        for name, input in inputs.items():
+            if isinstance(input, Sweep):
+                for number, part in enumerate(input.parts()):
+                    file = f"{name}_{number}.sweep" if number else f"{name}.sweep"
+                    (place / file).write_text(part.text())
+            elif input.key == 1:
+                (place / f"{name}.job").write_text(input.text())
 
     def write_means(self, heading: str, rows: Iterable[Sequence[object]], name: str = "means.csv") -> None:
         """Writes a table of means for readers. The page of the study shows some of its rows."""
