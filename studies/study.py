@@ -48,10 +48,7 @@ class Study(NamedTuple):
         A run that was stopped or killed continues from its last result when it is started again."""
         if not self.is_drawn_only:
             self.write_inputs(inputs)
-            tables = self.results(inputs, call)
-            rows = [[name, *row] for name in inputs for row in tables[name]]
-            # Files have flows in millionths of a car per step, and call the column flow.
-            write_rows(self.folder / file, ["text", *(name.replace("_millionths", "") for name in kind._fields)], rows)
+            write_rows(self.folder / file, heading_of(kind), named_rows(self.results(inputs, call), inputs))
         return frame_of(inputs, read_tables(self.folder / file, kind))
 
     def results(self, inputs: Mapping[str, Input], call: Callable[[Input], Result]) -> dict[str, Result]:
@@ -92,6 +89,16 @@ class Study(NamedTuple):
         shutil.rmtree(self.parts, ignore_errors=True)
 
 
+def heading_of(kind: Any) -> list[str]:
+    """The columns of a table of such rows in its file, which has flows in millionths and calls their column flow."""
+    return ["text", *(name.replace("_millionths", "") for name in kind._fields)]
+
+
+def named_rows(tables: Mapping[str, Iterable[Iterable[object]]], names: Iterable[str]) -> list[list[object]]:
+    """The rows of all tables, each after the name of its table."""
+    return [[name, *row] for name in names for row in tables[name]]
+
+
 def digest_of_tables(folder: Path) -> str:
     """The SHA-256 of all tables of a study, by rising names, without the means that follow from them."""
     tables = [file for file in sorted(folder.glob("*.csv")) if not file.name.endswith("means.csv")]
@@ -125,7 +132,12 @@ def read_tables(file: Path, kind: type[Row]) -> dict[str, Table[Row]]:
 
 def frame_of(inputs: Mapping[str, Input], tables: Mapping[str, Table[Any]]) -> pandas.DataFrame:
     """The frame of `Grid.run` for such inputs and their tables: a row for each road, with the name of its `input`."""
-    grid = Grid(lambda input, key: input, input=inputs)
+
+    def made(input: Union[Job, Sweep], key: int) -> Union[Job, Sweep]:
+        """The input of a choice, which has its own key."""
+        return input
+
+    grid = Grid(made, input=inputs)
     return grid.frame(dict(zip(grid.named_inputs(), (tables[name] for name in inputs)))).reset_index()
 
 
