@@ -32,12 +32,13 @@ class Study(NamedTuple):
 
     @classmethod
     def by_words(cls, script: str, about: str) -> Study:
-        words = argparse.ArgumentParser(description=about.split("\n")[0])
-        words.add_argument("--full", action="store_true", help="the long run, which writes into its folder full/")
-        words.add_argument("--draw", action="store_true", help="runs nothing, takes the tables that are there")
-        asked = words.parse_args()
+        """The study of a script, with the options of its command line."""
+        parser = argparse.ArgumentParser(description=about.split("\n")[0])
+        parser.add_argument("--full", action="store_true", help="the long run, which writes into its folder full/")
+        parser.add_argument("--draw", action="store_true", help="runs nothing, takes the tables that are there")
+        options = parser.parse_args()
         here = Path(script).resolve().parent
-        return cls(here / "full" if asked.full else here, asked.full, asked.draw)
+        return cls(here / "full" if options.full else here, options.full, options.draw)
 
     def frame(
         self, file: str, kind: type[Row], inputs: Mapping[str, Input], call: Callable[[Input], Iterable[Row]]
@@ -47,10 +48,7 @@ class Study(NamedTuple):
         A run that was stopped or killed continues from its last result when it is started again."""
         if not self.is_drawn_only:
             self.write_inputs(inputs)
-            tables = self.results(inputs, call)
-            rows = [[name, *row] for name in inputs for row in tables[name]]
-            # Files have flows in millionths of a car per step, and call the column flow.
-            write_rows(self.folder / file, ["text", *(name.replace("_millionths", "") for name in kind._fields)], rows)
+            write_rows(self.folder / file, heading_of(kind), named_rows(self.results(inputs, call), inputs))
         return frame_of(inputs, read_tables(self.folder / file, kind))
 
     def results(self, inputs: Mapping[str, Input], call: Callable[[Input], Result]) -> dict[str, Result]:
@@ -62,6 +60,7 @@ class Study(NamedTuple):
 
     @property
     def parts(self) -> Path:
+        """The folder that keeps the outputs of the program as long as the study is not complete."""
         return self.folder / "outputs.parts"
 
     def write_inputs(self, inputs: Mapping[str, Union[Job, Sweep]]) -> None:
@@ -69,12 +68,13 @@ class Study(NamedTuple):
         in their key only those of key 1."""
         place = self.folder / "texts"
         place.mkdir(parents=True, exist_ok=True)
-        for name, asked in inputs.items():
-            if isinstance(asked, Sweep):
-                for number, part in enumerate(asked.parts()):
-                    (place / (f"{name}_{number}.sweep" if number else f"{name}.sweep")).write_text(part.text())
-            elif asked.key == 1:
-                (place / f"{name}.job").write_text(asked.text())
+        for name, input in inputs.items():
+            if isinstance(input, Sweep):
+                for number, part in enumerate(input.parts()):
+                    file = f"{name}_{number}.sweep" if number else f"{name}.sweep"
+                    (place / file).write_text(part.text())
+            elif input.key == 1:
+                (place / f"{name}.job").write_text(input.text())
 
     def write_means(self, heading: str, rows: Iterable[Sequence[object]], name: str = "means.csv") -> None:
         """Writes a table of means for readers. The page of the study shows some of its rows."""
@@ -87,6 +87,16 @@ class Study(NamedTuple):
         axes.figure.savefig(self.folder / name, metadata=about)
         plt.close(axes.figure)
         shutil.rmtree(self.parts, ignore_errors=True)
+
+
+def heading_of(kind: Any) -> list[str]:
+    """The columns of a table of such rows in its file, which has flows in millionths and calls their column flow."""
+    return ["text", *(name.replace("_millionths", "") for name in kind._fields)]
+
+
+def named_rows(tables: Mapping[str, Iterable[Iterable[object]]], names: Iterable[str]) -> list[list[object]]:
+    """The rows of all tables, each after the name of its table."""
+    return [[name, *row] for name in names for row in tables[name]]
 
 
 def digest_of_tables(folder: Path) -> str:
@@ -122,7 +132,12 @@ def read_tables(file: Path, kind: type[Row]) -> dict[str, Table[Row]]:
 
 def frame_of(inputs: Mapping[str, Input], tables: Mapping[str, Table[Any]]) -> pandas.DataFrame:
     """The frame of `Grid.run` for such inputs and their tables: a row for each road, with the name of its `input`."""
-    grid = Grid(lambda input, key: input, input=inputs)
+
+    def made(input: Union[Job, Sweep], key: int) -> Union[Job, Sweep]:
+        """The input of a choice, which has its own key."""
+        return input
+
+    grid = Grid(made, input=inputs)
     return grid.frame(dict(zip(grid.named_inputs(), (tables[name] for name in inputs)))).reset_index()
 
 

@@ -7,12 +7,14 @@ import subprocess
 import sys
 import unittest
 import warnings
+from collections.abc import Callable, Mapping, Sequence
 from contextlib import ExitStack
 from dataclasses import replace
 from decimal import Decimal
 from fractions import Fraction
 from functools import partial
 from pathlib import Path
+from typing import Any, Union
 from unittest import mock
 
 from trlab import (
@@ -25,6 +27,10 @@ try:
     from hypothesis import given, settings, strategies as st
 except ImportError:
     raise unittest.SkipTest("numpy or hypothesis is not installed") from None
+
+# Calls with arguments of any type.
+job_of_any: Callable[..., Any] = Job
+sweep_of_any: Callable[..., Any] = Sweep
 
 JOB = Job(limit=5, length=40, cars=12, rule=Nasch(0.25), steps=30, key=7)
 ROADS = Job(limit=5, start="0..1..5...", rule=Nasch(0.25), steps=30)
@@ -44,20 +50,23 @@ class Kind(str, enum.Enum):
 class Odd(int):
     """A whole number that writes another one."""
 
-    def __format__(self, how):
+    def __format__(self, how: str) -> str:
         return "4"
 
-    __str__ = __repr__ = lambda self: "4"
+    def __repr__(self) -> str:
+        return "4"
+
+    __str__ = __repr__
 
 
 class Indexed:
     """A number of another library."""
 
-    def __index__(self):
+    def __index__(self) -> int:
         return 5
 
 
-WHOLE = {
+WHOLE: dict[str, Callable[[Any], Any]] = {
     "limit": lambda value: replace(JOB, limit=value),
     "length": lambda value: replace(JOB, length=value),
     "lanes": lambda value: replace(JOB, lanes=value),
@@ -80,7 +89,7 @@ WHOLE = {
     "key of a continued job": lambda value: JOB.continued(Snapshot(0, ("0..",)), key=value),
     "step of a snapshot": lambda value: JOB.continued(Snapshot(value, ("0..",))),
 }
-SHARES = {
+SHARES: dict[str, Callable[[Any], Any]] = {
     "brake": lambda value: replace(JOB, rule=Nasch(value)),
     "brake ": lambda value: replace(JOB, rule=SlowToStart(value, 0)),
     "stopped": lambda value: replace(JOB, rule=SlowToStart(0, value)),
@@ -93,13 +102,18 @@ SIZES = [getattr(numpy, f"{sign}int{bits}") for sign in ("", "u") for bits in (8
 FLOATS = [numpy.float16, numpy.float32, numpy.float64, numpy.longdouble]
 
 
-def of_size(size):
+def of_size(size: Any) -> Any:
+    """A strategy for the numbers of a type of numpy."""
     span = numpy.iinfo(size)
     return st.integers(max(-3, span.min), min(70000, span.max)).map(size)
 
 
+def number_of_type(kind: Any, number: float) -> Any:
+    return kind(number)
+
+
 WHOLE_NUMBERS = st.one_of(st.integers(-3, 70000), st.integers(0, 2**257), st.one_of(*map(of_size, SIZES)))
-OF_NUMPY = st.builds(lambda kind, it: kind(it), st.sampled_from(FLOATS), st.floats(0, 1, width=16))
+OF_NUMPY = st.builds(number_of_type, st.sampled_from(FLOATS), st.floats(0, 1, width=16))
 REALS = st.one_of(st.floats(), st.floats(0, 1), OF_NUMPY)
 WRITTEN = {"1/4": 0.25, "0.25": 0.25, "1e-3": Fraction(1, 1000), " .5 ": 0.5, "-1/4": -0.25, "5/4": 1.25}
 EXACT = st.one_of(
@@ -116,12 +130,12 @@ OTHERS = st.sampled_from([
 ANY = st.one_of(WHOLE_NUMBERS, REALS, EXACT, OTHERS)
 
 
-def is_single(value, kinds):
+def is_single(value: Any, kinds: str) -> bool:
     """Whether this is an array of a single number, without a dimension."""
     return isinstance(value, numpy.ndarray) and value.shape == () and value.dtype.kind in kinds
 
 
-def plain_whole(value):
+def plain_whole(value: Any) -> Any:
     """The whole number as Python's own, or None if it is not one."""
     if isinstance(value, (bool, numpy.bool_, enum.Enum, numpy.timedelta64, str)):
         return None
@@ -132,7 +146,7 @@ def plain_whole(value):
     return 5 if isinstance(value, Indexed) else None
 
 
-def plain_share(value):
+def plain_share(value: Any) -> Any:
     """The number as Python's own, or None if it is not one."""
     if isinstance(value, str) and not isinstance(value, enum.Enum):
         return WRITTEN.get(str(value))
@@ -143,7 +157,7 @@ def plain_share(value):
     return None if isinstance(value, Indexed) else plain_whole(value)
 
 
-def outcome(make, value):
+def outcome(make: Callable[[Any], Any], value: Any) -> Any:
     """The file of an input with this value, and whether its copies are equal to it; or the kind of the error."""
     try:
         input = make(value)
@@ -154,7 +168,8 @@ def outcome(make, value):
 
 
 class Parameters(unittest.TestCase):
-    def same(self, makers, plain, value):
+    def same(self, makers: Mapping[str, Callable[[Any], Any]], plain: Callable[[Any], Any], value: Any) -> None:
+        """Each input has the file that it has with Python's own number, or there is an error if the value is none."""
         number = plain(value)
         for name, make in makers.items():
             expected = ParameterError if number is None else outcome(make, number)
@@ -162,7 +177,7 @@ class Parameters(unittest.TestCase):
 
     @SETTINGS
     @given(ANY)
-    def test_whole_numbers(self, value):
+    def test_whole_numbers(self, value: Any) -> None:
         # These may be None, and the speeds of a road may be floats: see `test_roads_of_arrays`.
         left = ("speed", "speed ", "speed of a car", "key of a continued job", "steps of a continued job")
         makers = {name: make for name, make in WHOLE.items() if value is not None or name not in left}
@@ -176,20 +191,21 @@ class Parameters(unittest.TestCase):
 
     @SETTINGS
     @given(ANY)
-    def test_probabilities_and_densities(self, value):
+    def test_probabilities_and_densities(self, value: Any) -> None:
         self.same(SHARES, plain_share, value)
 
     @SETTINGS
     @given(ANY)
-    def test_options_of_runs(self, value):
-        number, calls = plain_whole(value), []
-        options = [
+    def test_options_of_runs(self, value: Any) -> None:
+        number = plain_whole(value)
+        calls: list[Any] = []
+        options: list[tuple[Callable[..., object], str]] = [
             *itertools.product((ROADS.run, ROADS.snapshots, ROADS.series), ("every", "first", "workers")),
             *itertools.product([partial(ROADS.time_until, bool)], ("every", "first")),
             *itertools.product((SWEEP.sweep, replace(SWEEP, start=jammed).sweep), ("runners", "workers")),
         ]
 
-        def arguments(call, name, option_value):
+        def arguments(call: Callable[..., object], name: str, option_value: Any) -> Union[list[Any], type[Exception]]:
             """The arguments of the program for an option with this value, or the error."""
             calls.clear()
             try:
@@ -201,11 +217,11 @@ class Parameters(unittest.TestCase):
                 pass
             return [*calls]
 
-        def ask(arguments, text):
+        def ask(arguments: Sequence[str], text: str) -> None:
             calls.append(arguments)
             raise InterruptedError
 
-        def run_all(jobs, call, at_once):
+        def run_all(jobs: Sequence[Job], call: Callable[[Job], object], at_once: int) -> list[object]:
             calls.append(at_once)
             return [call(job) for job in jobs]
 
@@ -222,7 +238,7 @@ class Parameters(unittest.TestCase):
         st.lists(st.one_of(st.none(), st.integers(0, 5)), min_size=1, max_size=9),
         st.sampled_from(SIZES + FLOATS + [object]),
     )
-    def test_roads_of_arrays(self, cells, kind):
+    def test_roads_of_arrays(self, cells: list[Any], kind: Any) -> None:
         empty = numpy.nan if kind in FLOATS else None if kind is object else -1
         if kind in SIZES and numpy.iinfo(kind).min == 0 and None in cells:
             return
@@ -238,8 +254,9 @@ class Parameters(unittest.TestCase):
             self.assertEqual(hash(job_of_array), hash(job))
             self.assertEqual(job_of_array.text(), job.text())
             self.assertEqual(job_of_array.road(), [cells])
-        for roads in array[None, :], [array, array], array[None, None, :]:
-            sweep = Sweep(limit=5, length=len(cells), rule=Nasch(0), warm=1, measure=1, start=roads)
+        several: list[Any] = [array[None, :], [array, array], array[None, None, :]]
+        for roads in several:
+            sweep = sweep_of_any(limit=5, length=len(cells), rule=Nasch(0), warm=1, measure=1, start=roads)
             self.assertEqual(sweep, replace(sweep, start=[cells] * len(roads)))
             self.assertEqual({job.text().split("\n")[3] for job in sweep.jobs()}, {job.text().split("\n")[3]})
 
@@ -258,15 +275,16 @@ class WeakPromotion(unittest.TestCase):
 class KnownPitfalls(unittest.TestCase):
     def test_small_integers_of_numpy(self) -> None:
         warnings.simplefilter("ignore", TrlabWarning)
-        shape = dict(limit=5, rule=Nasch(0.1), steps=100)
-        for length, cars in (
-            (numpy.int32(100000), 60000), (numpy.int8(100), 50), (numpy.uint16(40000), numpy.uint16(30000)),
-        ):
-            job, plain = Job(length=length, cars=cars, **shape), Job(length=int(length), cars=int(cars), **shape)
+        plain = Job(limit=5, rule=Nasch(0.1), steps=100, length=100000, cars=60000)
+        sizes: list[tuple[Any, Any]] = [
+            (numpy.int32(100000), 60000), (numpy.int8(100), 50), (numpy.uint16(40000), numpy.uint16(30000))
+        ]
+        for length, cars in sizes:
+            job, plain = replace(plain, length=length, cars=cars), replace(plain, length=int(length), cars=int(cars))
             self.assertEqual(job, plain)
             self.assertEqual(job.text(), plain.text())
             self.assertEqual(job.cells(), int(length))
-        sweep = Sweep(
+        sweep = sweep_of_any(
             limit=5, rule=Nasch(0), length=numpy.uint16(40000), lanes=2, densities=[0.5001], warm=0, measure=1
         )
         self.assertEqual(sweep.counts(), [40008])
@@ -274,21 +292,22 @@ class KnownPitfalls(unittest.TestCase):
         self.assertEqual([job.steps for job in sweep.jobs()], [70000])
 
     def test_stored_values_are_those_of_python(self) -> None:
-        job = Job(
-            limit=numpy.int8(5), length=numpy.uint8(9), density=numpy.float32(0.5), steps=numpy.int64(5),
-            lanes=numpy.int8(2),
+        small: Any = numpy.int8
+        job = job_of_any(
+            limit=small(5), length=numpy.uint8(9), density=numpy.float32(0.5), steps=numpy.int64(5), lanes=small(2),
             rule=Rickert(numpy.float16(0.5), Decimal("0.1")), key=numpy.uint64(2**63),
-            start=random_cells(numpy.int8(1), numpy.int8(2)), at={numpy.int8(3): Nasch(numpy.int8(1))},
+            start=random_cells(small(1), small(2)), at={small(3): Nasch(small(1))},
         )
         numbers = [job.limit, job.length, job.steps, job.lanes, job.key, job.start.speed, job.start.seed]
         self.assertEqual({type(number) for number in [*numbers, *job.at, job.at[3].brake]}, {int})
         self.assertIs(type(job.density), float)
         self.assertIs(type(job.rule.brake), float)
         self.assertEqual(job.rule.change, Fraction(1, 10))
-        sweep = replace(SWEEP, cars=None, densities=numpy.linspace(0, 1, 3, dtype="f"), warm=numpy.int8(3))
+        sweep: Any = replace(SWEEP, cars=None, densities=numpy.linspace(0, 1, 3, dtype="f"), warm=small(3))
         self.assertEqual({type(number) for number in sweep.densities}, {float})
         self.assertIs(type(sweep.warm), int)
-        self.assertEqual({type(number) for number in replace(SWEEP, cars=numpy.array([3, 4])).cars}, {int})
+        of_array: Any = replace(SWEEP, cars=numpy.array([3, 4]))
+        self.assertEqual({type(number) for number in of_array.cars}, {int})
 
     def test_an_occupancy_is_not_a_road(self) -> None:
         lists = [0, 1, 0, 1], [0, 0, 0], [1, 1], [[0, 1], [1, 0]], (0, 1.0), [True, False], [None, True]
@@ -329,9 +348,10 @@ class KnownPitfalls(unittest.TestCase):
         self.assertRaisesRegex(ParameterError, message, replace, sweep, densities=[0, 1e-9])
 
     def test_a_wrong_option_runs_nothing(self) -> None:
-        for options in (
+        wrong_options: list[dict[str, Any]] = [
             {"every": -1}, {"workers": 17}, {"every": None}, {"first": 31}, {"every": 500001}, {"workers": True},
-        ):
+        ]
+        for options in wrong_options:
             with mock.patch("trlab._runs.processes.Child", side_effect=AssertionError):
                 self.assertRaisesRegex(ParameterError, "(every|first|workers) must be", JOB.run, **options)
                 self.assertRaisesRegex(ParameterError, "(every|first|workers) must be", JOB.snapshots, **options)
@@ -343,7 +363,8 @@ class KnownPitfalls(unittest.TestCase):
         self.assertEqual(job.length, 3)
         self.assertEqual(job.cells(), 6)
         self.assertEqual(replace(job, steps=7).lanes, 2)
-        for parameters in {"lanes": 2}, {"length": 4}, {"cars": 2}, {"density": 0.5}:
+        contradictions: list[dict[str, Any]] = [{"lanes": 2}, {"length": 4}, {"cars": 2}, {"density": 0.5}]
+        for parameters in contradictions:
             self.assertRaisesRegex(
                 ParameterError, "leave", Job, limit=5, start="0..", rule=Nasch(0), steps=1, **parameters
             )

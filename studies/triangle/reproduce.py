@@ -74,10 +74,15 @@ def report_distances(study, from_even, at_random):
         even_means, random_means = from_even[chance], at_random[chance]
         z = difference(even_means, random_means).z
         for density in even_means.index:
-            cells = [[below(density, its.flow[density]), f"{its.flow_sem[density]:.6f}"] for its in (even_means, random_means)]
-            rows.append([chance, f"{density:.4f}", *cells[0], *cells[1], signed(z[density])])
-        shown = [(density, its) for density, its in random_means.iterrows() if min(abs(density - it) for it in SHOWN) < 1e-9]
-        print(page_row([chance, *(f"{below(density, its.flow)}({round(its.flow_sem * 100000)})" for density, its in shown)]))
+            cells = []
+            for means_of_state in even_means, random_means:
+                cells += [below(density, means_of_state.flow[density]), f"{means_of_state.flow_sem[density]:.6f}"]
+            rows.append([chance, f"{density:.4f}", *cells, signed(z[density])])
+        distances = []
+        for density, point in random_means.iterrows():
+            if min(abs(density - shown) for shown in SHOWN) < 1e-9:
+                distances.append(f"{below(density, point.flow)}({round(point.flow_sem * 100000)})")
+        print(page_row([chance, *distances]))
     study.write_means("p density even_below even_sem random_below random_sem z", rows)
 
 
@@ -87,9 +92,9 @@ def print_settling(frame):
     for name in settling():
         if name.endswith("_even"):
             _, top, bottom, _, warm, _ = name.split("_")
-            both = [found.loc[name], found.loc[f"{name[:-5]}_random"]]
-            flows = [with_error(its.flow, its.flow_sem, 7) for its in both]
-            print(page_row([f"{top}/{bottom}", f"{both[0].density:.4f}", warm, *flows]))
+            from_even, from_random = found.loc[name], found.loc[f"{name.removesuffix('_even')}_random"]
+            flows = [with_error(point.flow, point.flow_sem, 7) for point in (from_even, from_random)]
+            print(page_row([f"{top}/{bottom}", f"{from_even.density:.4f}", warm, *flows]))
 
 
 def means_by_chance(frame, name_of_sweep=str):
@@ -104,13 +109,18 @@ def draw(study, found):
     figure, (axes, distances) = plt.subplots(1, 2, figsize=(10, 4.4))
     corners = [0, 1 / (LIMIT + 1), 1]
     axes.plot(corners, [triangle(density) for density in corners], "-", color="0.6", linewidth=1, label="p = 0, proved")
-    for number, (p, its) in enumerate(found.items()):
+    for number, (p, curve) in enumerate(found.items()):
         colour = "black" if number == 6 else f"C{number}"
-        trlab.plot_means(its, ax=axes, linestyle="none", capsize=0, color=colour, label=f"p = {p}")
+        trlab.plot_means(curve, ax=axes, linestyle="none", capsize=0, color=colour, label=f"p = {p}")
     axes.set(xlim=(0, 1), ylim=(0, 0.9), title="means ± standard error, random initial states")
     axes.legend()
     draw_distances(distances, found)
     study.save(axes)
+
+
+def nearest_point(curve, density):
+    """The mean of a curve at the density that is nearest to this one."""
+    return curve.loc[min(curve.index, key=lambda measured: abs(measured - density))]
 
 
 def draw_distances(axes, found):
@@ -118,11 +128,9 @@ def draw_distances(axes, found):
     p = [float(Fraction(chance)) for chance in CHANCES[1:]]
     for shown in DISTANT:
         density = float(Fraction(shown))
-        its = [curve.loc[min(curve.index, key=lambda it: abs(it - density))] for curve in map(found.get, CHANCES[1:])]
-        axes.errorbar(
-            p, [triangle(density) - it.flow for it in its], yerr=[it.flow_sem for it in its], marker="o",
-            label=f"density {shown}",
-        )
+        points = [nearest_point(found[chance], density) for chance in CHANCES[1:]]
+        distances, errors = [triangle(density) - point.flow for point in points], [point.flow_sem for point in points]
+        axes.errorbar(p, distances, yerr=errors, marker="o", label=f"density {shown}")
     axes.set(xscale="log", yscale="log", xlabel="p", ylabel="distance below the triangle (cars per step)")
     axes.set(xticks=p, xticklabels=CHANCES[1:])
     axes.minorticks_off()

@@ -1,4 +1,4 @@
-"""Small inputs that together use every part of the program, some with their outputs; and the examples."""
+"""Small inputs that together use every part of the program, and the examples."""
 from collections.abc import Iterator
 
 from . import TOP
@@ -7,9 +7,6 @@ KEY = "key " + 64 * "0" + "\n"
 
 # Two cars on a ring of ten cells; the second goes round the ring's end in the last step.
 TWO_CARS = ("road 1\n" + KEY + "limit 5\nlane 0.0.......\nrule nasch 0\nsteps 4\n").encode()
-TWO_CARS_OUT = (
-    b"step 0\n0.0.......\nstep 1\n.1.1......\nstep 2\n..1..2....\nstep 3\n....2...3.\nstep 4\n..4....3..\n"
-)
 
 # A car changes to the empty lane, and then both drive on.
 TWO_LANES = (
@@ -39,11 +36,8 @@ FOUR_POINTS = (
     "sweep 1\n" + KEY + "limit 5\nlength 10\nlanes 1\nrule nasch 0\nwarm 10\nmeasure 10\n"
     "cars 0\ncars 1\ncars 2\ncars 10\n"
 ).encode()
-FOUR_POINTS_OUT = (
-    b"cars,cells,steps,distance,stopped,changes,flow\n"
-    b"0,10,10,0,0,0,0\n1,10,10,50,0,0,500000\n2,10,10,80,0,0,800000\n10,10,10,0,100,0,0\n"
-)
 
+# The small inputs by their names, each with the command that reads it.
 TEXTS = {
     "two cars": ("run", TWO_CARS),
     "two lanes": ("run", TWO_LANES),
@@ -55,7 +49,6 @@ TEXTS = {
     "a rash change": ("check", RASH_CHANGE),
     "four points": ("sweep", FOUR_POINTS),
 }
-
 
 # The command that reads an example, by the ending of its file.
 COMMANDS = {".job": "run", ".rule": "check", ".sweep": "sweep"}
