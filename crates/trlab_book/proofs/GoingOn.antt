@@ -11,11 +11,13 @@ use Rattle.trlab_sequential_book.specs.declared.{order.Order.Order, fault.BookFa
 use Rattle.trlab_sequential_book.specs.declared.book.TheConstants.{MAX_EVENTS}
 use Rattle.trlab_sequential_book.specs.Histories.{is_event, is_history_full, lease_reply, order_reply, event}
 use Rattle.trlab_sequential_book.specs.Comparison.{IsFresh, LeaseCall, OrderCall, offered}
-use Rattle.trlab_sequential_book.specs.{Leases.{LeaseState, HasRun}, Machine.{BookState, JobState}}
+use Rattle.trlab_sequential_book.specs.{Leases.{LeaseState, HasRun, IsLease}, Machine.{BookState, JobState}}
 use Rattle.trlab_book.specs.declared.{running.RunFault.RunFault, desk.Desk.Desk}
-use Rattle.trlab_book.specs.Turns.{Stage, Free, InTurn, Finished, turn_of, AreInOrderFrom, is_of_turn}
-use Rattle.trlab_book.specs.Turns.{stage_after, last_stage, AreLogs}
+use Rattle.trlab_book.specs.HeldLeases.{RunnerState, Idle, Running, Over, CallsAs, RunsLeases}
+use Rattle.trlab_book.specs.Turns.{Stage, Free, InTurn, turn_of, AreInOrderFrom, is_of_turn}
+use Rattle.trlab_book.specs.Turns.{stage_of, stage_after, last_stage, AreLogs}
 use Rattle.trlab_book.specs.Desks.{AreRunnerCalls, AddsRunnerCalls, EndsAt, Goes, HasEnded, LeaseIsFresh}
+use Rattle.trlab_book.specs.Desks.{IsCorrectVerdict, OrderHasRuleInForce}
 use Rattle.trlab_book.specs.Desks.{HasSeen, MakesNoEvent, MakesEvent, MakesCallOn, subhistory_of}
 use Rattle.trlab_book.specs.Desks.{is_runner_call, finds_no_job, clock_of, no_job_count, part_count}
 use Rattle.trlab_book.specs.declared.running.RunFault.TheVariants as run
@@ -46,9 +48,14 @@ logs_append zero n xs ys first second =
     subst (λ (k : ℕ). AreLogs k (xs ++ ys)) all (subst (λ (l : List (Noted Event)). AreLogs n (l ++ ys)) (sym first) second)
 logs_append (suc m) n xs ys first second =
     let more : AreLogs (suc (m + n)) (xs ++ ys) =
-    (first.0, first.1 ++ ys, ap (λ (l : List (Noted Event)). l ++ ys) first.2 ∙ append_assoc first.0 first.1 ys, first.3, logs_append m n first.1 ys first.4 second) in
+    (first.0, first.1 ++ ys, ap (λ (l : List (Noted Event)). l ++ ys) first.2 ∙ append_assoc first.0 first.1 ys, first.3, first.4, logs_append m n first.1 ys first.5 second) in
     let all : suc (m + n) ≡ suc m + n = omega arith in
     subst (λ (k : ℕ). AreLogs k (xs ++ ys)) all more
+
+-- calls of a runner, and its calls after them
+runs_append : (s t u : RunnerState) (xs ys : List (Noted Event)) → RunsLeases s xs t → RunsLeases t ys u → RunsLeases s (xs ++ ys) u
+runs_append s t u [] ys first second = subst (λ (r : RunnerState). RunsLeases r ys u) first second
+runs_append s t u (x ∷ xs) ys first second = (first.0, first.1, first.2, first.3, runs_append first.0 t u xs ys first.4 second)
 
 same_number : (n : ℕ) → (n == n) ≡ true
 same_number n = eq-eqb n n refl
@@ -169,108 +176,128 @@ module _ {L : Type 0} {ledger : Ghosts L} where
   }
 
   -- it leads to the next stage
-  goes_one : (from to : Stage) (a b : Desk L ledger) (call : Call) (told : Reply) (book : BookState) → part_count b ≡ part_count a → MakesEvent a call told b book
-      → is_runner_call call ≡ true → stage_after from (event call told) ≡ to → Goes from to a b
-  goes_one from to a b call told book same made of_runner next = record { on = one_more a b call told book same made of_runner; stage = record { rise = (made.noted.1, tt); stage = next } }
+  goes_one : (from to : RunnerState) (a b : Desk L ledger) (call : Call) (told : Reply) (book : BookState) → part_count b ≡ part_count a → MakesEvent a call told b book
+      → is_runner_call call ≡ true → stage_after (stage_of from) (event call told) ≡ stage_of to → CallsAs from book (event call told) to → Goes from to a b
+  goes_one from to a b call told book same made of_runner next calls = record {
+    on = one_more a b call told book same made of_runner;
+    stage = record { rise = (made.noted.1, tt); stage = next };
+    leases = (to, book, made.replays, calls, refl);
+  }
 
   -- calls are followed by others
-  pub goes_both : (s t u : Stage) (a b c : Desk L ledger) → Goes s t a b → Goes t u b c → Goes s u a c
+  pub goes_both : (s t u : RunnerState) (a b c : Desk L ledger) → Goes s t a b → Goes t u b c → Goes s u a c
   goes_both s t u a b c first second = record {
     on = goes_on a b c first.on second.on;
     stage = record {
       rise = rise_append (clock_of a) (clock_of b) first.on.more second.on.more first.on.least
           (All-weaker (λ (x : Noted Event). (clock_of a ≤ event_number x) × (event_number x < clock_of b) × (is_runner_call x.event.call ≡ true)) (λ (x : Noted Event). event_number x < clock_of b) (λ x is. is.1) first.on.more first.on.runners) first.stage.rise second.stage.rise;
-      stage = fold-append (λ (stage : Stage) (made : Noted Event). stage_after stage made.event) s first.on.more second.on.more
+      stage = fold-append (λ (stage : Stage) (made : Noted Event). stage_after stage made.event) (stage_of s) first.on.more second.on.more
           ∙ (ap (λ (stage : Stage). last_stage stage second.on.more) first.stage.stage ∙ second.stage.stage);
     };
+    leases = runs_append s t u first.on.more second.on.more first.leases second.leases;
   }
 
   -- a runner that makes no calls stays at its stage
-  pub rests : (s : Stage) (a : Desk L ledger) → Goes s s a a
-  rests s a = record { on = stays a a refl (refl, omega arith); stage = record { rise = tt; stage = refl } }
+  pub rests : (s : RunnerState) (a : Desk L ledger) → Goes s s a a
+  rests s a = record { on = stays a a refl (refl, omega arith); stage = record { rise = tt; stage = refl }; leases = refl }
 
   -- a lease goes out
-  pub leased_goes : (a b : Desk L ledger) (lease : LeaseState) → MakesCallOn (LeaseIsFresh (Ok (Some lease))) a LeaseCall (lease_reply (Ok (Some lease))) b → Goes Free (InTurn (turn_of lease)) a b
-  leased_goes a b lease made = goes_one Free (InTurn (turn_of lease)) a b LeaseCall (lease_reply (Ok (Some lease))) made.1.0 made.0 made.1.1 refl
+  pub leased_goes : (a b : Desk L ledger) (lease : LeaseState) → IsLease lease → MakesCallOn (LeaseIsFresh (Ok (Some lease))) a LeaseCall (lease_reply (Ok (Some lease))) b → Goes Idle (Running lease) a b
+  leased_goes a b lease is made = goes_one Idle (Running lease) a b LeaseCall (lease_reply (Ok (Some lease))) made.1.0 made.0 made.1.1 refl
       (ap (λ (base : ℕ). InTurn (record { job = lease.job; number = lease.number; base = base; step = lease.step; steps = lease.steps })) (sym (base_is (slice_get made.1.0.jobs lease.job) made.1.2)))
+      (record { made_is = refl; fresh = made.1.2; is_lease = is })
     where
       base_is : (found : Option JobState) → MatchOption found ⊥ (λ job. IsFresh job made.1.0.next lease) → lease.base.step ≡ lease.step
       base_is None none = absurd none
       base_is (Some job) fresh = fresh.base_step ∙ sym fresh.step
 
   -- the next step of a lease is ordered, and run
-  pub ordered_goes : (a b : Desk L ledger) (lease next : LeaseState) (order : Order) (Holds : Bool → BookState → Type 0) → lease.step < lease.steps
-      → (same : Bool) × MakesCallOn (Holds same) a (OrderCall (offered lease same)) (order_reply (Ok order)) b → HasRun lease order next → Goes (InTurn (turn_of lease)) (InTurn (turn_of next)) a b
-  ordered_goes a b lease next order Holds left made ran =
-      goes_one (InTurn (turn_of lease)) (InTurn (turn_of next)) a b (OrderCall (offered lease made.0)) (order_reply (Ok order)) made.1.1.0 made.1.0 made.1.1.1 refl
+  pub ordered_goes : (a b : Desk L ledger) (lease next : LeaseState) (order : Order) → lease.step < lease.steps
+      → (same : Bool) × MakesCallOn (λ book. IsCorrectVerdict lease same book × OrderHasRuleInForce (Ok order) book) a (OrderCall (offered lease same)) (order_reply (Ok order)) b
+      → HasRun lease order next → Goes (Running lease) (Running next) a b
+  ordered_goes a b lease next order left made ran =
+      goes_one (Running lease) (Running next) a b (OrderCall (offered lease made.0)) (order_reply (Ok order)) made.1.1.0 made.1.0 made.1.1.1 refl
       (rw (offers_own lease made.0, lt-ltb lease.step lease.steps left) (ap (λ (now : LeaseState). InTurn (turn_of now)) (sym ran.grown)))
+      (record { order = order; same = made.0; made_is = refl; rule = made.1.1.2.1; ran = ran })
 
   -- an order or the return of a lease is refused: if the call is an event, the lease has ended
-  refused_goes : (Holds : BookState → Type 0) (s t : Stage) (a b c : Desk L ledger) (call : Call) (fault : BookFault) → Goes s t a b → MakesCallOn Holds b call (Refused fault) c
-      → is_runner_call call ≡ true → stage_after t (event call (Refused fault)) ≡ Free → MatchBool (is_event (Refused fault)) (Goes s Free a c) (AddsRunnerCalls a c)
-  refused_goes Holds s t a b c call fault before made of_runner next = by_event (is_event (Refused fault)) made.1
+  refused_goes : (Holds : BookState → Type 0) (s t : RunnerState) (a b c : Desk L ledger) (call : Call) (fault : BookFault) → Goes s t a b → MakesCallOn Holds b call (Refused fault) c
+      → is_runner_call call ≡ true → stage_after (stage_of t) (event call (Refused fault)) ≡ Free
+      → ((book : BookState) → is_event (Refused fault) ≡ true → Holds book → CallsAs t book (event call (Refused fault)) Idle)
+      → MatchBool (is_event (Refused fault)) (Goes s Idle a c) (AddsRunnerCalls a c)
+  refused_goes Holds s t a b c call fault before made of_runner next calls = by_event (is_event (Refused fault)) refl made.1
     where
-      by_event : (one : Bool) → MatchBool one ((book : BookState) × MakesEvent b call (Refused fault) c book × Holds book) (MakesNoEvent b (Refused fault) c)
-          → MatchBool one (Goes s Free a c) (AddsRunnerCalls a c)
-      by_event true one = goes_both s t Free a b c before (goes_one t Free b c call (Refused fault) one.0 made.0 one.1 of_runner next)
-      by_event false none = goes_on a b c before.on (stays b c made.0 (is_none b c (Refused fault) none))
+      by_event : (one : Bool) → is_event (Refused fault) ≡ one → MatchBool one ((book : BookState) × MakesEvent b call (Refused fault) c book × Holds book) (MakesNoEvent b (Refused fault) c)
+          → MatchBool one (Goes s Idle a c) (AddsRunnerCalls a c)
+      by_event true is one = goes_both s t Idle a b c before (goes_one t Idle b c call (Refused fault) one.0 made.0 one.1 of_runner next (calls one.0 is one.2))
+      by_event false is none = goes_on a b c before.on (stays b c made.0 (is_none b c (Refused fault) none))
 
-  pub refused_order : (Holds : Bool → BookState → Type 0) (s : Stage) (a b c : Desk L ledger) (lease : LeaseState) (fault : BookFault) → lease.step < lease.steps → Goes s (InTurn (turn_of lease)) a b
-      → (same : Bool) × MakesCallOn (Holds same) b (OrderCall (offered lease same)) (Refused fault) c → MatchBool (is_event (Refused fault)) (Goes s Free a c) (AddsRunnerCalls a c)
-  refused_order Holds s a b c lease fault left before made =
-      refused_goes (Holds made.0) s (InTurn (turn_of lease)) a b c (OrderCall (offered lease made.0)) fault before made.1 refl (rw (offers_own lease made.0, lt-ltb lease.step lease.steps left) refl)
+  pub refused_order : (More : BookState → Type 0) (s : RunnerState) (a b c : Desk L ledger) (lease : LeaseState) (fault : BookFault) → lease.step < lease.steps → Goes s (Running lease) a b
+      → (same : Bool) × MakesCallOn (λ book. IsCorrectVerdict lease same book × More book) b (OrderCall (offered lease same)) (Refused fault) c
+      → MatchBool (is_event (Refused fault)) (Goes s Idle a c) (AddsRunnerCalls a c)
+  refused_order More s a b c lease fault left before made =
+      refused_goes (λ book. IsCorrectVerdict lease made.0 book × More book) s (Running lease) a b c (OrderCall (offered lease made.0)) fault before made.1 refl
+      (rw (offers_own lease made.0, lt-ltb lease.step lease.steps left) refl)
+      (λ book one holds. record { same = made.0; offers = inr (refl, left); verdict = holds.0; is_one = one })
 
-  pub refused_back : (Holds : Bool → BookState → Type 0) (s : Stage) (a b c : Desk L ledger) (lease : LeaseState) (fault : BookFault) → Goes s (InTurn (turn_of lease)) a b
-      → (same : Bool) × MakesCallOn (Holds same) b (GiveBack (offered lease same)) (Refused fault) c → MatchBool (is_event (Refused fault)) (Goes s Free a c) (AddsRunnerCalls a c)
-  refused_back Holds s a b c lease fault before made =
-      refused_goes (Holds made.0) s (InTurn (turn_of lease)) a b c (GiveBack (offered lease made.0)) fault before made.1 refl (rw (offers_own lease made.0) refl)
+  pub refused_back : (s : RunnerState) (a b c : Desk L ledger) (lease : LeaseState) (fault : BookFault) → Goes s (Running lease) a b
+      → (same : Bool) × MakesCallOn (IsCorrectVerdict lease same) b (GiveBack (offered lease same)) (Refused fault) c → MatchBool (is_event (Refused fault)) (Goes s Idle a c) (AddsRunnerCalls a c)
+  refused_back s a b c lease fault before made =
+      refused_goes (IsCorrectVerdict lease made.0) s (Running lease) a b c (GiveBack (offered lease made.0)) fault before made.1 refl (rw (offers_own lease made.0) refl)
+      (λ book one holds. record { same = made.0; offers = inl refl; verdict = holds; is_one = one })
 
   -- a lease is returned
-  pub back_goes : (Holds : Bool → BookState → Type 0) (a b : Desk L ledger) (lease : LeaseState)
-      → (same : Bool) × MakesCallOn (Holds same) a (GiveBack (offered lease same)) Done b → Goes (InTurn (turn_of lease)) Free a b
-  back_goes Holds a b lease made =
-      goes_one (InTurn (turn_of lease)) Free a b (GiveBack (offered lease made.0)) Done made.1.1.0 made.1.0 made.1.1.1 refl (rw (offers_own lease made.0) refl)
+  pub back_goes : (a b : Desk L ledger) (lease : LeaseState) → (same : Bool) × MakesCallOn (IsCorrectVerdict lease same) a (GiveBack (offered lease same)) Done b → Goes (Running lease) Idle a b
+  back_goes a b lease made =
+      goes_one (Running lease) Idle a b (GiveBack (offered lease made.0)) Done made.1.1.0 made.1.0 made.1.1.1 refl (rw (offers_own lease made.0) refl)
+      (record { same = made.0; offers = inl refl; verdict = made.1.1.2; is_one = refl })
 
   -- no job is free, and the runner has ended
-  pub none_left : (a b : Desk L ledger) → MakesCallOn (LeaseIsFresh (Ok None)) a LeaseCall NoLease b → EndsAt Free Finished 1 (Ok tt) a b
+  pub none_left : (a b : Desk L ledger) → MakesCallOn (LeaseIsFresh (Ok None)) a LeaseCall NoLease b → EndsAt Idle Over 1 (Ok tt) a b
   none_left a b made =
       let one = one_more a b LeaseCall NoLease made.1.0 made.0 made.1.1 refl in
       let all = ap no_job_count one.subhistory ∙ none_append (subhistory_of a) one.more in
-      record { on = one; stage = record { rise = (made.1.1.noted.1, tt); stage = refl }; no_job = omega arith; full = λ e. absurd (cc e) }
+      record {
+        on = one;
+        stage = record { rise = (made.1.1.noted.1, tt); stage = refl };
+        leases = (Over, made.1.0, made.1.1.replays, refl, refl);
+        no_job = omega arith;
+        full = λ e. absurd (cc e);
+      }
 
   -- a result after other calls
-  pub ended_after : (s t u : Stage) (count : ℕ) (ended : Result (Unit {0}) RunFault) (a b c : Desk L ledger) → Goes s t a b → EndsAt t u count ended b c → EndsAt s u count ended a c
+  pub ended_after : (s t u : RunnerState) (count : ℕ) (ended : Result (Unit {0}) RunFault) (a b c : Desk L ledger) → Goes s t a b → EndsAt t u count ended b c → EndsAt s u count ended a c
   ended_after s t u count (Ok done) a b c go end =
-      let both = goes_both s t u a b c go (record { on = end.on; stage = end.stage }) in
+      let both = goes_both s t u a b c go (record { on = end.on; stage = end.stage; leases = end.leases }) in
       let rises = none_rises a b go.on in
       let out = end.no_job in
-      record { on = both.on; stage = both.stage; no_job = omega arith; full = end.full }
-  ended_after s t u count (Err fault) a b c go end = record { on = goes_on a b c go.on end.on; stage = tt; no_job = tt; full = end.full }
+      record { on = both.on; stage = both.stage; leases = both.leases; no_job = omega arith; full = end.full }
+  ended_after s t u count (Err fault) a b c go end = record { on = goes_on a b c go.on end.on; stage = tt; leases = tt; no_job = tt; full = end.full }
 
   -- a runner that continues has not ended with a fault
-  pub ended_none : (s t : Stage) (a b : Desk L ledger) → Goes s t a b → EndsAt s t 0 (Ok tt) a b
-  ended_none s t a b go = let rises = none_rises a b go.on in record { on = go.on; stage = go.stage; no_job = omega arith; full = λ e. absurd (cc e) }
+  pub ended_none : (s t : RunnerState) (a b : Desk L ledger) → Goes s t a b → EndsAt s t 0 (Ok tt) a b
+  ended_none s t a b go = let rises = none_rises a b go.on in record { on = go.on; stage = go.stage; leases = go.leases; no_job = omega arith; full = λ e. absurd (cc e) }
 
   -- after a fault only the kinds of the calls are known
-  pub ended_fault : (s t : Stage) (count : ℕ) (fault : RunFault) (a b : Desk L ledger) → AddsRunnerCalls a b → (failed fault ≡ Err run.HistoryFull → MAX_EVENTS ≤ clock_of b) → EndsAt s t count (Err fault) a b
-  ended_fault s t count fault a b on seen = record { on = on; stage = tt; no_job = tt; full = seen }
+  pub ended_fault : (s t : RunnerState) (count : ℕ) (fault : RunFault) (a b : Desk L ledger) → AddsRunnerCalls a b → (failed fault ≡ Err run.HistoryFull → MAX_EVENTS ≤ clock_of b) → EndsAt s t count (Err fault) a b
+  ended_fault s t count fault a b on seen = record { on = on; stage = tt; leases = tt; no_job = tt; full = seen }
 
   -- a lease is dropped after a fault
-  pub dropped : (s : Stage) (a b c : Desk L ledger) (fault : BookFault) (ended : Result (Unit {0}) RunFault)
-      → MatchBool (is_event (Refused fault)) (Goes s Free a b) (AddsRunnerCalls a b) → AddsRunnerCalls b c → (IsOk ended → (is_event (Refused fault) ≡ true) × (c ≡ b))
-      → (ended ≡ Err run.HistoryFull → MAX_EVENTS ≤ clock_of c) → EndsAt s Free 0 ended a c
+  pub dropped : (s : RunnerState) (a b c : Desk L ledger) (fault : BookFault) (ended : Result (Unit {0}) RunFault)
+      → MatchBool (is_event (Refused fault)) (Goes s Idle a b) (AddsRunnerCalls a b) → AddsRunnerCalls b c → (IsOk ended → (is_event (Refused fault) ≡ true) × (c ≡ b))
+      → (ended ≡ Err run.HistoryFull → MAX_EVENTS ≤ clock_of c) → EndsAt s Idle 0 ended a c
   dropped s a b c fault (Ok done) before on over full =
       let is = over refl in
-      subst (λ (d : Desk L ledger). EndsAt s Free 0 (Ok done) a d) (sym is.1) (ended_none s Free a b (MatchBool-at_true (Goes s Free a b) (AddsRunnerCalls a b) is.0 before))
-  dropped s a b c fault (Err why) before on over full = ended_fault s Free 0 why a c (goes_on a b c (known (is_event (Refused fault)) before) on) full
+      subst (λ (d : Desk L ledger). EndsAt s Idle 0 (Ok done) a d) (sym is.1) (ended_none s Idle a b (MatchBool-at_true (Goes s Idle a b) (AddsRunnerCalls a b) is.0 before))
+  dropped s a b c fault (Err why) before on over full = ended_fault s Idle 0 why a c (goes_on a b c (known (is_event (Refused fault)) before) on) full
     where
-      known : (one : Bool) → MatchBool one (Goes s Free a b) (AddsRunnerCalls a b) → AddsRunnerCalls a b
+      known : (one : Bool) → MatchBool one (Goes s Idle a b) (AddsRunnerCalls a b) → AddsRunnerCalls a b
       known true go = go.on
       known false go = go
 
   -- one runner has ended
-  pub one_ended : (ended : Result (Unit {0}) RunFault) (a b : Desk L ledger) → EndsAt Free Finished 1 ended a b → HasEnded 1 ended a b
-  one_ended (Ok done) a b end = record { on = end.on; logs = (end.on.more, [], sym (append-nil end.on.more), record { rise = lower (clock_of a) 0 end.on.more (omega arith) end.stage.rise; stage = end.stage.stage }, refl); no_job = end.no_job; full = end.full }
+  pub one_ended : (ended : Result (Unit {0}) RunFault) (a b : Desk L ledger) → EndsAt Idle Over 1 ended a b → HasEnded 1 ended a b
+  one_ended (Ok done) a b end = record { on = end.on; logs = (end.on.more, [], sym (append-nil end.on.more), record { rise = lower (clock_of a) 0 end.on.more (omega arith) end.stage.rise; stage = end.stage.stage }, end.leases, refl); no_job = end.no_job; full = end.full }
   one_ended (Err fault) a b end = record { on = end.on; logs = tt; no_job = tt; full = end.full }
 
   -- the ends of two runners, combined into one

@@ -12,7 +12,8 @@ use Rattle.trlab_sequential_book.specs.Comparison as comparison
 use Rattle.trlab_sequential_book.specs.declared.event.Call.TheVariants as call
 use Rattle.trlab_strands.specs.{declared.knowledge.{Noted.Noted, Ledger.Ghosts}, Knowledge.event_number}
 use Rattle.trlab_strands.specs.Tokens.{AddsEvent, CatchesUp, IsSameStrand, strand_clock, strand_events}
-use Rattle.trlab_book.specs.Turns.{Stage, Free, InTurn, turn_of, AreNextCalls, AreLogs}
+use Rattle.trlab_book.specs.HeldLeases.{RunnerState, Idle, Running, RunsLeases}
+use Rattle.trlab_book.specs.Turns.{stage_of, is_lease, AreNextCalls, AreLogs}
 use Rattle.trlab_book.specs.declared.{desk.{Desk.Desk, SharedBook.SharedBook}, running.RunFault.RunFault}
 use Rattle.trlab_book.specs.declared.running.RunFault.TheVariants as run
 
@@ -131,11 +132,6 @@ pub record AddsRunnerCalls {L : Type 0} {ledger : Ghosts L} (old new : Desk L le
   pub subhistory : subhistory_of new ≡ subhistory_of old ++ more
   pub runners : AreRunnerCalls (clock_of old) (clock_of new) more
 
--- is this the call `lease`?
-abbrev pub is_lease : Call → Bool
-is_lease call.Lease = true
-is_lease _ = false
-
 -- is this the reply that no job is free?
 abbrev pub is_no_lease : Reply → Bool
 is_no_lease NoLease = true
@@ -160,32 +156,35 @@ pub record HasEnded {L : Type 0} {ledger : Ghosts L} (runners : ℕ) (ended : Re
   pub no_job : OnOk ended (no_job_count (subhistory_of old) + runners ≤ no_job_count (subhistory_of new))
   pub full : ended ≡ Err run.HistoryFull → MAX_EVENTS ≤ clock_of new
 
--- the desk `old` is `new` after calls of a runner that lead from the stage `from` to the stage `to`
-pub record Goes {L : Type 0} {ledger : Ghosts L} (from to : Stage) (old new : Desk L ledger) : Type 0 where
+-- the desk `old` is `new` after calls of a runner, which was `from` and is `to`
+pub record Goes {L : Type 0} {ledger : Ghosts L} (from to : RunnerState) (old new : Desk L ledger)
+    : Type 0 where
   pub on : AddsRunnerCalls old new
-  pub stage : AreNextCalls (clock_of old) from to on.more
+  pub stage : AreNextCalls (clock_of old) (stage_of from) (stage_of to) on.more
+  pub leases : RunsLeases from on.more to
 
--- the desk `old` is `new` after calls of a runner, with this result. If it succeeded, they lead from the
--- stage `from` to the stage `to`, and `count` of them or more found no free job; if it ended because the
--- history was full, the desk has seen all of it
-pub record EndsAt {L : Type 0} {ledger : Ghosts L} (from to : Stage) (count : ℕ)
+-- the desk `old` is `new` after calls of a runner, with this result. If it succeeded, the runner was `from`
+-- and is `to`, and `count` of the calls or more found no free job; if it ended because the history was full,
+-- the desk has seen all of it
+pub record EndsAt {L : Type 0} {ledger : Ghosts L} (from to : RunnerState) (count : ℕ)
     (ended : Result (Unit {0}) RunFault) (old new : Desk L ledger) : Type 0 where
   pub on : AddsRunnerCalls old new
-  pub stage : OnOk ended (AreNextCalls (clock_of old) from to on.more)
+  pub stage : OnOk ended (AreNextCalls (clock_of old) (stage_of from) (stage_of to) on.more)
+  pub leases : OnOk ended (RunsLeases from on.more to)
   pub no_job : OnOk ended (no_job_count (subhistory_of old) + count ≤ no_job_count (subhistory_of new))
   pub full : ended ≡ Err run.HistoryFull → MAX_EVENTS ≤ clock_of new
 
 -- the desk `old` is `new` after a runner's turn with one lease. If it succeeded, the lease has ended
 abbrev pub EndsTurn : {L : Type 0} {ledger : Ghosts L}
     → LeaseState → Result (Unit {0}) RunFault → Desk L ledger → Desk L ledger → Type 0
-EndsTurn lease result old new = EndsAt (InTurn (turn_of lease)) Free 0 result old new
+EndsTurn lease result old new = EndsAt (Running lease) Idle 0 result old new
 
 -- the desk `old` is `new` after a runner has ordered and run steps of a lease, which was `before` and is
 -- `after`. If the book refused an order, the lease has ended; if an allocation failed or the history was
 -- full, only the kinds of the calls are known
 abbrev pub RunsSteps : {L : Type 0} {ledger : Ghosts L}
     → LeaseState → LeaseState → Result (Unit {0}) BookFault → Desk L ledger → Desk L ledger → Type 0
-RunsSteps before after (Ok done) old new = Goes (InTurn (turn_of before)) (InTurn (turn_of after)) old new
+RunsSteps before after (Ok done) old new = Goes (Running before) (Running after) old new
 RunsSteps before after (Err fault) old new =
     MatchBool (is_event (Refused fault))
-    (Goes (InTurn (turn_of before)) Free old new) (AddsRunnerCalls old new)
+    (Goes (Running before) Idle old new) (AddsRunnerCalls old new)

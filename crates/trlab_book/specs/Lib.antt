@@ -1,3 +1,4 @@
+pub mod HeldLeases
 pub mod Turns
 pub mod Events
 pub mod Desks

@@ -1,13 +1,16 @@
 -- The turns of runners, and what the logs of these turns say of leases and of free jobs.
-use Rattle.std.specs.Prelude.{◌≡◌, false, List, ◌∷◌, ◌++◌, map, All, ℕ, zero, suc, ◌+◌, ◌==◌, ◌≤◌, ltb, Bool}
-use Rattle.std.specs.Prelude.{◌&&◌, [], if◌then◌else◌, fold, true}
+use Rattle.std.specs.Prelude.{◌≡◌, false, List, ◌∷◌, ◌++◌, map, All, ℕ, zero, suc, ◌+◌, ◌==◌, ◌<◌, ◌≤◌, ltb, Bool}
+use Rattle.std.specs.Prelude.{◌&&◌, [], if◌then◌else◌, fold, true, Option, Some, None, MatchOption, slice_get, ◌⊎◌}
 use Rattle.trlab_sequential_book.specs.declared.event.{Event.Event, Reply.{Reply, TheVariants.NoLease}}
 use Rattle.trlab_sequential_book.specs.declared.event.{Call.Call, Offered.Offered}
-use Rattle.trlab_sequential_book.specs.Machine.{BookState, JobState, empty_book, is_free}
-use Rattle.trlab_sequential_book.specs.{Histories.{Replays, call_of, event, state_from}, Leases.LeaseState}
+use Rattle.trlab_sequential_book.specs.declared.fault.BookFault.{BookFault}
+use Rattle.trlab_sequential_book.specs.Machine.{BookState, JobState, empty_book, is_free, is_out}
+use Rattle.trlab_sequential_book.specs.Histories.{Replays, book_after, call_of, event, state_from}
+use Rattle.trlab_sequential_book.specs.Leases.{LeaseState}
 use Rattle.trlab_sequential_book.specs.declared.event.Call.TheVariants as call
 use Rattle.trlab_sequential_book.specs.declared.event.Reply.TheVariants as reply
-use Rattle.trlab_strands.specs.{declared.knowledge.Noted.Noted, Knowledge.event_number}
+use Rattle.trlab_strands.specs.{declared.knowledge.Noted.Noted, Knowledge.{AreInList, IsLinearization, event_number}}
+use Rattle.trlab_book.specs.HeldLeases.{RunnerState, Idle, Running, Over, RunsLeases}
 
 -- What a call of `lease` that finds no free job says of the book.
 
@@ -53,6 +56,12 @@ pub data Stage : Type 0 where
 abbrev pub is_of_turn : Turn → Offered → Bool
 is_of_turn turn lease =
     (turn.job == lease.job) && ((turn.number == lease.number) && ((turn.base == lease.base) && (turn.step == lease.step)))
+
+-- the stage of a runner that has a lease, or has none
+abbrev pub stage_of : RunnerState → Stage
+stage_of Idle = Free
+stage_of (Running lease) = InTurn (turn_of lease)
+stage_of Over = Finished
 
 -- the stage after a call of `lease`: a turn begins with the lease that went out; if no job is free, the
 -- runner has ended
@@ -114,12 +123,13 @@ pub record AreNextCalls (clock : ℕ) (from to : Stage) (events : List (Noted Ev
 abbrev pub IsLog : List (Noted Event) → Type 0
 IsLog events = AreNextCalls 0 Free Finished events
 
--- these events are the logs of this number of runners, one log after the other
+-- these events are the logs of this number of runners, one log after the other; and in each log the leases
+-- themselves ran only steps that the book ordered
 abbrev pub AreLogs : ℕ → List (Noted Event) → Type 0
 AreLogs zero events = events ≡ []
 AreLogs (suc runners) events =
     (log : List (Noted Event)) × (more : List (Noted Event))
-    × (events ≡ log ++ more) × IsLog log × AreLogs runners more
+    × (events ≡ log ++ more) × IsLog log × RunsLeases Idle log Over × AreLogs runners more
 
 -- What the log of a runner says of each of its leases.
 
@@ -156,3 +166,83 @@ LeasesEnd =
     (log before after : List (Noted Event)) (made : Noted Event) (job number step steps : ℕ) → IsLog log
     → log ≡ before ++ made ∷ after → made.event.reply ≡ reply.Leased job number step steps
     → IsEndedIn job number after
+
+-- Leases that the book refuses to a runner.
+
+-- the lease that a call offers to the book; `None` if it offers none
+abbrev pub lease_offered_by : Call → Option Offered
+lease_offered_by (call.Order lease) = Some lease
+lease_offered_by (call.GiveBack lease) = Some lease
+lease_offered_by _ = None
+
+-- the book has a job with this number, for which the lease with the number `lease` is not out
+abbrev pub LeaseIsNotOut : BookState → ℕ → ℕ → Type 0
+LeaseIsNotOut book number lease =
+    MatchOption (slice_get book.jobs number) ⊥ (λ job. is_out lease job.out ≡ false)
+
+-- a history that replays has the events of a runner's log. If the book refuses a lease to this runner, then
+-- the lease is not out: another call has ended it before
+abbrev pub LeasesRefusedToRunnersAreNotOut : Type 0
+LeasesRefusedToRunnersAreNotOut =
+    (history : List Event) (book : BookState) (log before later : List (Noted Event)) (made : Noted Event)
+    (lease : Offered) (fault : BookFault) → Replays history book → AreInList history log
+    → IsLog log → RunsLeases Idle log Over → log ≡ before ++ made ∷ later
+    → lease_offered_by made.event.call ≡ Some lease → made.event.reply ≡ reply.Refused fault
+    → LeaseIsNotOut (book_after made.before) lease.job lease.number
+
+-- The jobs of a book after its runners have ended.
+
+-- is this the call `lease`?
+abbrev pub is_lease : Call → Bool
+is_lease call.Lease = true
+is_lease _ = false
+
+-- is this a call of `submit`?
+abbrev pub is_submit : Call → Bool
+is_submit (call.Submit seed rule steps) = true
+is_submit _ = false
+
+-- the job is over: no lease is out for it, and it was cancelled or all its steps are done
+pub record IsOver (job : JobState) : Type 0 where
+  pub out : job.out ≡ None
+  pub over : (job.cancelled ≡ true) ⊎ (job.done ≡ job.steps)
+
+-- none of these events is a call of `lease`, and each call of `submit` among them is one of the first `count`
+-- events of the history
+abbrev pub AreOtherCalls : ℕ → List (Noted Event) → Type 0
+AreOtherCalls count events =
+    All (λ made. (is_lease made.event.call ≡ false)
+    × (is_submit made.event.call ≡ true → event_number made < count)) events
+
+-- the history consists of the calls of one or more runners, which have all ended, and of other calls: none of
+-- these is `lease`, and each `submit` is one of the first `count` events. No runner called before
+pub record HaveEnded (history : List Event) (runners count : ℕ) (before calls later : List (Noted Event))
+    : Type 0 where
+  pub whole : IsLinearization history (before ++ (calls ++ later))
+  pub some : 0 < runners
+  pub logs : AreLogs runners calls
+  pub first : All (λ made. count ≤ event_number made) calls
+  pub others_before : AreOtherCalls count before
+  pub others_later : AreOtherCalls count later
+
+-- if a history replays to a book and its runners have ended, all jobs of the book are over
+abbrev pub JobsAreOver : Type 0
+JobsAreOver =
+    (history : List Event) (book : BookState) (runners count : ℕ) (before calls later : List (Noted Event))
+    (number : ℕ) (job : JobState) → Replays history book
+    → HaveEnded history runners count before calls later
+    → slice_get book.jobs number ≡ Some job → IsOver job
+
+-- is this a call of `cancel`?
+abbrev pub is_cancel : Call → Bool
+is_cancel (call.Cancel job) = true
+is_cancel _ = false
+
+-- if nobody has called `cancel` either, all steps of each job are done
+abbrev pub AllStepsAreDone : Type 0
+AllStepsAreDone =
+    (history : List Event) (book : BookState) (runners count : ℕ) (before calls later : List (Noted Event))
+    (number : ℕ) (job : JobState) → Replays history book
+    → HaveEnded history runners count before calls later
+    → All (λ made. is_cancel made.call ≡ false) history
+    → slice_get book.jobs number ≡ Some job → job.done ≡ job.steps

@@ -7,8 +7,9 @@ ghost use Rattle.trlab_sequential_book.specs.declared.book.TheConstants.{MAX_EVE
 ghost use Rattle.trlab_sequential_book.specs.declared.fault.BookFault.TheVariants.{HistoryFull};
 ghost use Rattle.trlab_sequential_book.specs.declared.event.Reply.TheVariants.{Refused};
 ghost use Rattle.trlab_sequential_book.specs.Histories.{is_event};
+ghost use Rattle.trlab_sequential_book.specs.Leases.{IsLease};
 ghost use Rattle.trlab_book.specs.Desks.{AddsRunnerCalls, EndsAt, EndsTurn, Goes, HasEnded, RunsSteps, clock_of, part_count};
-ghost use Rattle.trlab_book.specs.Turns.{Free, Finished};
+ghost use Rattle.trlab_book.specs.HeldLeases.{Idle, Over};
 ghost use Rattle.trlab_book.specs.declared.running.RunFault.TheVariants as run;
 
 use crate::desk::{Desk, SharedBook};
@@ -37,7 +38,8 @@ pub enum RunFault {
 /// `MAX_WORKERS` workers, which pass the gate. Returns the desk; the runners' calls follow its own, one runner after
 /// the other.
 ///
-/// If it succeeds, each lease that a runner took was given back, or the book refused it.
+/// If it succeeds, each lease that a runner took was given back, or another call had ended it, so that the book refused
+/// it. The laws `leases_refused_to_runners_are_not_out` and `jobs_are_over` say what follows for the jobs.
 ///
 /// The desk needs a part for each runner. The calling thread is one of the runners. It begins after the others were
 /// started, and does the work of any that cannot be started.
@@ -176,8 +178,8 @@ impl<'a, L: Ledger, R: Threads + Wait + Sync, G: Gate + Sync> Runner<'a, L, R, G
     /// Leases a free job for one turn. Returns the result of the runner if it ends, because no job is free or after a
     /// fault; otherwise `None`.
     fn take_free(&self, desk: &mut Desk<L>) -> Option<Result<(), RunFault>>
-        ensures { MatchOption result (Goes Free Free desk.old desk.new)
-            (λ ended. EndsAt Free Finished 1 ended desk.old desk.new) }
+        ensures { MatchOption result (Goes Idle Idle desk.old desk.new)
+            (λ ended. EndsAt Idle Over 1 ended desk.old desk.new) }
     {
         match self.book.lease(self.rt, self.alloc, desk) {
             Ok(Some(lease)) => match self.take_turn(desk, lease) {
@@ -192,7 +194,8 @@ impl<'a, L: Ledger, R: Threads + Wait + Sync, G: Gate + Sync> Runner<'a, L, R, G
 
     /// Runs up to `STEPS_PER_TURN` steps of a lease and gives it back.
     fn take_turn(&self, desk: &mut Desk<L>, lease: Lease) -> Result<(), RunFault>
-        ensures { EndsTurn lease result desk.old desk.new }
+        ensures turn { EndsTurn lease result desk.old desk.new }
+        ensures lease { IsLease lease }
     {
         let mut lease = lease;
         match self.run_steps(desk, &mut lease) {
@@ -208,6 +211,7 @@ impl<'a, L: Ledger, R: Threads + Wait + Sync, G: Gate + Sync> Runner<'a, L, R, G
     /// while a step runs.
     fn run_steps(&self, desk: &mut Desk<L>, lease: &mut Lease) -> Result<(), BookFault>
         ensures ran { RunsSteps lease.old lease.new result desk.old desk.new }
+        ensures lease { IsLease lease.old }
         ensures full_history { result ≡ Err HistoryFull → MAX_EVENTS ≤ clock_of desk.new }
     {
         for _ in 0..STEPS_PER_TURN {
