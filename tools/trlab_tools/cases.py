@@ -53,6 +53,14 @@ class Expected(NamedTuple):
     extent: str
 
 
+class Call(NamedTuple):
+    """A call of the program: a name for messages, the words of a command line, and an input."""
+
+    name: str
+    words: list[str]
+    text: bytes
+
+
 class Case(NamedTuple):
     """A case: its place, its command lines, and for each of them the same input, exit status and output."""
 
@@ -163,8 +171,8 @@ def files() -> Iterator[tuple[str, str]]:
         yield path.name, path.read_bytes().decode()
 
 
-def texts() -> Iterator[tuple[str, list[str], bytes]]:
-    """The name, the first command line and the input of each case."""
+def first_calls() -> Iterator[Call]:
+    """The first call of each case."""
     for name, content in files():
         for case in cases_of(name, content):
-            yield case.name, case.calls[0], case.given
+            yield Call(case.name, case.calls[0], case.given)
