@@ -200,7 +200,8 @@ MUTANTS = list(map(Mutant._make, [
     ("_analysis/plots.py", "steps[-1] + half, steps[0] - half", "steps[0] - half, steps[-1] + half"),
     # Grids.
     ("_studies/grid.py", "            self._check_densities()\n", "            pass\n"),
-    ("_studies/grid.py", "            if other is not place:\n                raise ParameterError(\n                    f\"`make`",
+    ("_studies/grid.py",
+     "            if other is not place:\n                raise ParameterError(\n                    f\"`make`",
      "            if False:\n                raise ParameterError(\n                    f\"`make`"),
     ("_studies/grid.py", "if len(unused) > 1:", "if False:"),
     ("_studies/grid.py", "            _check_roads(place._asdict(), self._runs[place])\n", "            pass\n"),

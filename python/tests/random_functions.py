@@ -19,27 +19,27 @@ MAX_CELLS = 100000  # of a lane
 # What a car sees, by the names of a program's inputs.
 View = dict[str, Any]
 JUMPS: dict[str, Callable[..., Any]] = {
-    "jump": lambda: True, "jlt": operator.lt, "jle": operator.le, "jtrue": lambda flag: flag,
-    "jfalse": lambda flag: not flag,
+    "jump": lambda: True, "jlt": operator.lt, "jle": operator.le,
+    "jtrue": lambda flag: flag, "jfalse": lambda flag: not flag,
 }
 INSTRUCTIONS: dict[str, Callable[..., Any]] = {
-    "num": int, "copy": lambda value: value, "add": operator.add, "sub": operator.sub, "mul": operator.mul,
-    "div": operator.floordiv,
-    "min": min, "max": max, "not": operator.not_, "and": lambda a, b: a and b, "or": lambda a, b: a or b,
+    "num": int, "copy": lambda value: value,
+    "add": operator.add, "sub": operator.sub, "mul": operator.mul, "div": operator.floordiv,
+    "min": min, "max": max,
+    "not": operator.not_, "and": lambda first, second: first and second, "or": lambda first, second: first or second,
 }
 CONSTANT_PROBABILITIES = ("0", "1", "0.5", "0.25", "'1/3'")
 PROBABILITIES = (
     *CONSTANT_PROBABILITIES, "p", "1 - p", "0.9 if car.speed == 0 else 0.1", "p if car.gap < 3 else 0",
 )
+# Errors that a function of the subset may have.
 EXPECTED = (
     "may be below 0", "may be more than", "may be above", "side cell is occupied", "at most 128",
-    "more than eight registers",
-    "one draw too many", "which another draw uses too",
+    "more than eight registers", "one draw too many", "which another draw uses too",
 )
-"""Errors that a function of the subset may have."""
 
-# Statements with one feature each. {n} is a number, {c} a condition, {k} a constant above 0, {p} a probability, {t}
-# turns.
+# Statements with one feature each; `|` ends a line. {n} is a number, {c} a condition, {k} a constant above 0, {p} a
+# probability, {q} a constant probability, {t} the number of turns of a loop.
 MOTIONS = """
 v = {n} + {n}
 v = {n} - {n}
@@ -174,31 +174,44 @@ def clear(car, x, y=3):
 """
 
 
-def _choices(text: str) -> list[str]:
+def _functions_in(text: str) -> list[str]:
+    """The functions of a text, one after the other."""
     return [f"def {part}".rstrip("\n") for part in text.split("\ndef ")[1:]]
 
 
 class Writer:
-    """Writes a random function. Its draws have `word=` all of them, or none."""
+    """Writes a random function of a kind, "motion" or "change"."""
 
     def __init__(self, dice: random.Random, kind: str) -> None:
-        self.dice, self.kind, self.has_words = dice, kind, dice.random() < 0.4
-        self.draws, self.turns = 0, 1
+        self.dice = dice
+        self.kind = kind
+        # Either all draws of a function have `word=`, or none.
+        self.has_words = dice.random() < 0.4
+        self.draws = 0
+        # How often the present loop runs: so many draws is one draw in it.
+        self.turns = 1
+        # The local names that have a value here: those with numbers, and those with conditions.
         self.numbers: list[str] = []
         self.flags: list[str] = []
-        self.has_helpers, self.own = False, ["g", "g + 1", "-1", "MARGIN"]
+        # Whether the function may call `helper` and `clear`.
+        self.has_helpers = False
+        # The constants that only the present function has.
+        self.own = ["g", "g + 1", "-1", "MARGIN"]
 
     def text(self) -> str:
+        """A module with the function `f`, and with the helpers that it calls."""
         write = self.small if self.dice.random() < 0.8 else self.large
         function = write()
         helpers = self.helpers() if "helper(" in function or "clear(" in function else []
         return "\n".join(["MARGIN = 4", *helpers, f"@{self.kind}", "def f(car, g=2, p=0.25):", function, ""])
 
     def helpers(self) -> list[str]:
-        self.numbers, self.flags, self.has_helpers, self.own = ["x"], [], False, ["MARGIN"]
-        inner = self.filled(self.dice.choice(_choices(INNER)))
+        """The functions `inner`, `helper` and `clear`."""
+        self.numbers, self.flags = ["x"], []
+        self.has_helpers, self.own = False, ["MARGIN"]
+        inner = self.filled(self.dice.choice(_functions_in(INNER)))
         self.own = ["y", "y + 1", "MARGIN"]
-        return [inner, *(self.filled(self.dice.choice(_choices(text))) for text in (HELPERS, CLEARS))]
+        return [inner, *(self.filled(self.dice.choice(_functions_in(text))) for text in (HELPERS, CLEARS))]
 
     def filled(self, text: str) -> str:
         """A template with its holes filled."""
@@ -213,10 +226,11 @@ class Writer:
         return re.sub("{([nckpqt])}", lambda hole: holes[hole[1]](), text)
 
     def word(self) -> str:
+        """The argument `word` of a draw, or nothing."""
         return f", word={self.dice.randrange(WORDS)}" if self.has_words else ""
 
     def small(self) -> str:
-        """One or two statements with one feature each."""
+        """A body of one or two statements with one feature each."""
         without_safe = [template for template in MOTIONS if "safe" not in template]
         kinds = MOTIONS if self.kind == "motion" else [*CHANGES, *CHANGES, *without_safe]
         lines = []
@@ -235,15 +249,18 @@ class Writer:
         return "\n".join(f"    {line}" for line in [*lines, f"return {returned}"])
 
     def constant(self) -> str:
+        """A number, or the name of one."""
         return self.dice.choice(["0", "1", "1", "2", "3", "5", "7", "40", *self.own])
 
     def seen(self) -> str:
+        """A number that the car sees."""
         inputs_of_change = ["sidegap", "sideback", "lane"] * 2 if self.kind == "change" else []
         return "car." + self.dice.choice(
             ["speed", "limit", "gap", "headspeed", "speed", "gap", "limit", *inputs_of_change]
         )
 
     def draw(self) -> str:
+        """A draw, unless too many words would be drawn."""
         if self.draws + self.turns > WORDS:
             return "car.gap > 2"
         self.draws += self.turns
@@ -252,32 +269,41 @@ class Writer:
         return f"car.draw({probability}{self.word()})"
 
     def number(self, depth: int) -> str:
+        """An expression for a number, in which operations are nested at most so deeply."""
         if depth <= 0 or self.dice.random() < 0.2:
-            choice = self.dice.random()
-            if self.numbers and choice < 0.45:
-                return self.dice.choice(self.numbers)
-            return self.seen() if choice < 0.8 else self.constant()
+            return self.simple_number()
         first, second = self.number(depth - 1), self.number(depth - 1)
         by = self.dice.choice(["2", "3", "MARGIN"])
         forms = [
             f"{first} + {second}", f"({first} - {second})", f"({first} - {second})",
             f"max({first} - {second}, {self.dice.choice('001')})",
-            f"min({first}, {second})", f"max({first}, {second}, {self.number(depth - 1)})", f"({first}) // {by}",
-            f"({first}) % {by}",
-            f"({first}) * {by}", f"{self.dice.choice(['2', '-1', '3'])} * ({first})", f"abs({first})", f"-({first})",
+            f"min({first}, {second})", f"max({first}, {second}, {self.number(depth - 1)})",
+            f"({first}) // {by}", f"({first}) % {by}", f"({first}) * {by}",
+            f"{self.dice.choice(['2', '-1', '3'])} * ({first})", f"abs({first})", f"-({first})",
         ]
         if self.dice.random() < 0.25:
             condition = self.condition(depth - 1)
-            forms = [f"({first} if {condition} else {second})", f"({condition})", f"max({first} - ({condition}), 0)",
-                     f"({first} and {second})", f"({first} or {second})"]
+            forms = [
+                f"({first} if {condition} else {second})", f"({condition})", f"max({first} - ({condition}), 0)",
+                f"({first} and {second})", f"({first} or {second})",
+            ]
         elif self.has_helpers and self.dice.random() < 0.15:
             forms = [f"helper(car, {first})", f"helper(car, {first}, {by})"]
         return self.dice.choice(forms)
 
+    def simple_number(self) -> str:
+        """A number without an operation."""
+        choice = self.dice.random()
+        if self.numbers and choice < 0.45:
+            return self.dice.choice(self.numbers)
+        return self.seen() if choice < 0.8 else self.constant()
+
     def sign(self) -> str:
+        """A comparison."""
         return self.dice.choice(["<", "<=", ">", ">=", "==", "!="])
 
     def condition(self, depth: int) -> str:
+        """A condition, in which operations are nested at most so deeply."""
         choice, sign = self.dice.randrange(10), self.sign
         if depth > 0 and choice < 3:
             first, second = self.condition(depth - 1), self.condition(depth - 1)
@@ -298,35 +324,58 @@ class Writer:
         return f"{self.number(depth - 1)} {sign()} {self.number(depth - 1)}"
 
     def large(self) -> str:
+        """A body of several statements, with decisions and a loop."""
         self.has_helpers = self.dice.random() < 0.4
         return "\n".join([*self.block(1, 2, self.dice.choice([1, 2, 3, 4])), f"    return {self.result()}"])
 
     def block(self, indent: int, depth: int, count: int) -> list[str]:
-        lines, pad, before = [], "    " * indent, (list(self.numbers), list(self.flags))
+        """The lines of so many statements; decisions in them are nested at most so deeply."""
+        lines: list[str] = []
+        before = (list(self.numbers), list(self.flags))
         for _ in range(count):
             choice = self.dice.randrange(10)
             if choice < 4 or not depth:
-                name = self.dice.choice("vwu")
-                sign = self.dice.choice(["+=", "-=", "="]) if name in self.numbers else "="
-                lines.append(f"{pad}{name} {sign} {self.number(2)}")
-                self.numbers += [name] * (name not in self.numbers)
+                lines.append("    " * indent + self.assigned_number())
             elif choice == 4:
-                name = self.dice.choice("abv" if "v" in self.numbers else "ab")
-                lines.append(f"{pad}{name} = {self.condition(2)}")
-                self.flags += [name] * (name not in self.flags)
+                lines.append("    " * indent + self.assigned_flag())
             elif choice == 5 and self.turns == 1 and self.draws < 8:
-                self.turns = self.dice.choice([1, 2, 3])
-                self.numbers.append("i")
-                lines += [f"{pad}for i in range({self.turns}):", *self.block(indent + 1, 0, self.dice.choice([1, 2]))]
-                self.numbers.remove("i")
-                self.turns = 1
+                lines += self.loop(indent)
             else:
                 lines += self.decision(indent, depth)
         if indent > 1:
+            # Names that only this block assigns may have no value after it.
             self.numbers, self.flags = before
         return lines
 
+    def assigned_number(self) -> str:
+        """An assignment of a number."""
+        name = self.dice.choice("vwu")
+        sign = self.dice.choice(["+=", "-=", "="]) if name in self.numbers else "="
+        line = f"{name} {sign} {self.number(2)}"
+        if name not in self.numbers:
+            self.numbers.append(name)
+        return line
+
+    def assigned_flag(self) -> str:
+        """An assignment of a condition."""
+        name = self.dice.choice("abv" if "v" in self.numbers else "ab")
+        line = f"{name} = {self.condition(2)}"
+        if name not in self.flags:
+            self.flags.append(name)
+        return line
+
+    def loop(self, indent: int) -> list[str]:
+        """The lines of a loop."""
+        self.turns = self.dice.choice([1, 2, 3])
+        self.numbers.append("i")
+        head = "    " * indent + f"for i in range({self.turns}):"
+        lines = [head, *self.block(indent + 1, 0, self.dice.choice([1, 2]))]
+        self.numbers.remove("i")
+        self.turns = 1
+        return lines
+
     def decision(self, indent: int, depth: int) -> list[str]:
+        """The lines of a statement `if`."""
         pad = "    " * indent
         lines = [f"{pad}if {self.condition(2)}:", *self.block(indent + 1, depth - 1, self.dice.choice([1, 2]))]
         if self.dice.random() < 0.15:
@@ -337,11 +386,14 @@ class Writer:
         return lines
 
     def result(self) -> str:
+        """The expression that is returned."""
         if self.kind == "change":
             return self.dice.choice(["car.side and ", "car.side and ", ""]) + self.condition(2)
         value = self.number(2)
-        forms = [f"car.safe({value})", f"min({value}, car.gap, car.limit)", f"max(min({value}, car.limit, car.gap), 0)",
-                 f"car.safe({value} + 5)", f"car.safe(({value}) % 7)", f"min(abs({value}), car.gap, car.limit)"]
+        forms = [
+            f"car.safe({value})", f"min({value}, car.gap, car.limit)", f"max(min({value}, car.limit, car.gap), 0)",
+            f"car.safe({value} + 5)", f"car.safe(({value}) % 7)", f"min(abs({value}), car.gap, car.limit)",
+        ]
         return self.dice.choice(3 * forms + [value])
 
 
@@ -350,20 +402,29 @@ class Numbered(ast.NodeTransformer):
     and the texts of called functions written out. A function gets the first word of its draws as a parameter `at`."""
 
     def __init__(self, draws: dict[str, int], constants: dict[str, object]) -> None:
-        self.draws, self.constants = draws, constants
-        self.count, self.turns = 0, ""
+        # The number of draws of each function that stands above.
+        self.draws = draws
+        self.constants = constants
+        # The draws before the present place, in the first turn of each loop around it.
+        self.count = 0
+        # What is added in later turns: a sum that Python evaluates.
+        self.later_turns = ""
 
     def visit_For(self, node: ast.For) -> ast.AST:
         values = eval(compile(ast.Expression(node.iter), "turns", "eval"), {"range": range}, dict(self.constants))
-        outer, before = self.count, self.turns
+        count_before, later_turns_before = self.count, self.later_turns
         name = ast.unparse(node.target)
-        self.turns = f"{before} + [{', '.join(map(str, values))}].index({name}) * PER_{name}_{node.lineno}"
+        # The number of draws in a turn is known only after the body, so that a name stands for it until then.
+        draws_per_turn = f"PER_{name}_{node.lineno}"
+        turn = f"[{', '.join(map(str, values))}].index({name})"
+        self.later_turns = f"{later_turns_before} + {turn} * {draws_per_turn}"
         node.body = [self.visit(part) for part in node.body]
-        draws_of_turn = self.count - outer
+        draws_of_turn = self.count - count_before
         for part in ast.walk(ast.Module(node.body, [])):
-            if isinstance(part, ast.Name) and part.id == f"PER_{name}_{node.lineno}":
+            if isinstance(part, ast.Name) and part.id == draws_per_turn:
                 part.id = f"({draws_of_turn})"
-        self.count, self.turns = outer + draws_of_turn * len(values), before
+        self.count = count_before + draws_of_turn * len(values)
+        self.later_turns = later_turns_before
         return node
 
     def visit_Call(self, node: ast.Call) -> ast.AST:
@@ -378,26 +439,34 @@ class Numbered(ast.NodeTransformer):
         return node
 
     def now(self) -> ast.expr:
-        return ast.parse(f"at + {self.count}{self.turns}", mode="eval").body
+        """The number of draws before the present place."""
+        return ast.parse(f"at + {self.count}{self.later_turns}", mode="eval").body
 
 
 def called_by_python(text: str, kind: str, given: dict[str, Any]) -> Callable[[Any], Any]:
     """The result of a function for a view, as Python calculates it."""
-    tree, draws = ast.parse(text), dict[str, int]()
+    tree = ast.parse(text)
+    draws: dict[str, int] = {}
     for node in tree.body:
         if isinstance(node, ast.FunctionDef):
-            with_defaults = node.args.args[len(node.args.args) - len(node.args.defaults):]
-            values = map(ast.literal_eval, node.args.defaults)
-            defaults = {argument.arg: value for argument, value in zip(with_defaults, values)}
-            numbered = Numbered(draws, {"MARGIN": 4, **defaults, **(given if node.name == "f" else {})})
-            node.body = [numbered.visit(statement) for statement in node.body]
-            draws[node.name] = numbered.count
-            node.args.kwonlyargs.append(ast.arg("at"))
-            node.args.kw_defaults.append(ast.Constant(0))
+            number_draws(node, draws, given if node.name == "f" else {})
     # The decorators return the function itself.
     names: dict[str, Any] = {"motion": lambda function: function, "change": lambda function: function}
     exec(compile(ast.unparse(ast.fix_missing_locations(tree)), "a function", "exec"), names)
     return lambda view: names["f"](Car(view, kind), **given)
+
+
+def number_draws(function: ast.FunctionDef, draws: dict[str, int], given: dict[str, Any]) -> None:
+    """Give each draw of a function its random word, and note the number of its draws among those of all functions."""
+    arguments = function.args
+    with_defaults = arguments.args[len(arguments.args) - len(arguments.defaults):]
+    values = map(ast.literal_eval, arguments.defaults)
+    defaults = {argument.arg: value for argument, value in zip(with_defaults, values)}
+    numbered = Numbered(draws, {"MARGIN": 4, **defaults, **given})
+    function.body = [numbered.visit(statement) for statement in function.body]
+    draws[function.name] = numbered.count
+    arguments.kwonlyargs.append(ast.arg("at"))
+    arguments.kw_defaults.append(ast.Constant(0))
 
 
 class Car:
@@ -423,32 +492,47 @@ class Car:
 
 def run_program(program: str, view: View) -> Union[int, bool]:
     """The result of a program for a view: a speed, or whether the car changes lanes."""
-    lines, labels = parsed(program)
+    instructions, labels = parsed(program)
     registers: dict[str, int] = {}
-    pc = 0
+    next_instruction = 0
     while True:
-        name, *operands = lines[pc]
-        pc += 1
-        if name in ("go", "cross", "stay"):
-            return registers[operands[0]] if name == "go" else name == "cross"
-        if name[0] == "j":
-            pc = labels[operands[-1]] if JUMPS[name](*(registers[operand] for operand in operands[:-1])) else pc
-        elif name in INSTRUCTIONS:
-            values = [registers[operand] if operand[0] == "r" else int(operand) for operand in operands[1:]]
-            registers[operands[0]] = INSTRUCTIONS[name](*values)
-        elif name == "draw":
-            registers[operands[0]] = view["words"][int(operands[1])] // 2 < int(operands[2])
+        name, *operands = instructions[next_instruction]
+        next_instruction += 1
+        if name == "go":
+            return registers[operands[0]]
+        if name in ("cross", "stay"):
+            return name == "cross"
+        if name in JUMPS:
+            *compared, label = operands
+            if JUMPS[name](*(registers[register] for register in compared)):
+                next_instruction = labels[label]
         else:
-            registers[operands[0]] = view["side"] if name == "side" else view[operands[1]]
-        assert name[0] == "j" or 0 <= registers[operands[0]] < 2**32
+            target, *sources = operands
+            registers[target] = value_of(name, sources, registers, view)
+            assert 0 <= registers[target] < 2**32
+
+
+def value_of(name: str, sources: list[str], registers: dict[str, int], view: View) -> int:
+    """The value that an instruction writes into its first register."""
+    if name in INSTRUCTIONS:
+        values = [registers[source] if source.startswith("r") else int(source) for source in sources]
+        value: int = INSTRUCTIONS[name](*values)
+    elif name == "draw":
+        word, threshold = map(int, sources)
+        value = view["words"][word] // 2 < threshold
+    elif name == "side":
+        value = view["side"]
+    else:
+        value = view[sources[0]]
+    return value
 
 
 @functools.lru_cache(maxsize=8)
 def parsed(program: str) -> tuple[list[list[str]], dict[str, int]]:
     """The name and the operands of each instruction of a program, and the numbers of the instructions by their
     labels."""
-    lines = [line.split(";")[0].strip() for line in program.split("\n")[1:]]
-    lines = [line for line in lines if line]
+    without_comments = [line.split(";")[0].strip() for line in program.split("\n")[1:]]
+    lines = [line for line in without_comments if line]
     labels = {line.split(":")[0]: number for number, line in enumerate(lines) if ":" in line}
     return [line.split(": ")[-1].replace(",", "").split() for line in lines], labels
 

@@ -211,12 +211,17 @@ class Peaks(unittest.TestCase):
         self.assertRaisesRegex(EstimateError, "no curve fits", _mean_of_fits, [fits[0]._replace(chi2=40.0)])
 
     def test_curves_without_a_peak(self) -> None:
+        def zigzag(density: float) -> float:
+            """A flow that is higher near a density, where it goes up and down."""
+            is_near = abs(density - 0.17) < 0.02
+            return 0.51 - (density * 1e3 % 2) * 0.001 if is_near else 0.5
+
         densities = numpy.linspace(0.13, 0.21, 12)
         for message, frame in (
             ("points are needed", self.curve(lambda x: x, densities, 8, 0.0005)),
             ("points are needed", self.curve(lambda x: 1 - x, densities, 8, 0.0005)),
             ("points are needed", self.curve(self.parabola, self.AT[:4])),
-            ("no curve fits", self.curve(lambda x: 0.5 + (abs(x - 0.17) < 0.02) * (0.01 - (x * 1e3 % 2) * 0.001), densities, 8, 0.00002)),
+            ("no curve fits", self.curve(zigzag, densities, 8, 0.00002)),
             ("does not fall significantly|points are needed", self.curve(lambda x: 0.3, noise=0.001)),
             ("at least 5 runs", self.curve(self.parabola, runs=4)),
             ("all equal", self.curve(self.parabola, noise=0.0)),
@@ -349,7 +354,8 @@ class Lifetimes(unittest.TestCase):
         self.assertEqual(means, {0.1: 8, 0.2: 4})
 
     def test_the_lifetime_of_free_flow(self) -> None:
-        ring: dict[str, Any] = dict(limit=5, length=500, density=0.18, rule=SlowToStart("1/64", "3/4"), start=moving, steps=500)
+        rule = SlowToStart("1/64", "3/4")
+        ring: dict[str, Any] = dict(limit=5, length=500, density=0.18, rule=rule, start=moving, steps=500)
         grid = Grid(lambda seed, key: Job(**ring, key=key), seed=range(12))
         lives = grid.run(call=lambda job: job.time_until(lambda window: window.stopped > 0, every=10))
         estimate = trlab.lifetime(lives.time, lives.observed)

@@ -202,7 +202,8 @@ class Frames(unittest.TestCase):
         with self.assertRaises(ZeroDivisionError) as caught:
             grid.run(call=call)
         text = "".join(traceback.format_exception(None, caught.exception, None))
-        self.assertRegex(text, r"failed for the input Choice\(p=0.25, density=0.2, seed=0\)(.|\n)*KeyError(.|\n)*ZeroDivision")
+        message = r"failed for the input Choice\(p=0.25, density=0.2, seed=0\)"
+        self.assertRegex(text, rf"{message}(.|\n)*KeyError(.|\n)*ZeroDivision")
 
         def make(density: float, key: int) -> Job:
             return Job(limit=5, length=50, density=density, rule=Nasch(3 * density), steps=5, key=key)

@@ -83,7 +83,8 @@ def is_error(call: Callable[..., object], *arguments: object, **named: object) -
 def job(density: float = 0.2, seed: int = 0, key: int = 0, **changes: Any) -> Job:
     """A job of 40 steps, with changes. A grid of jobs may have `seed` as a parameter, which changes only the key."""
     parameters: dict[str, Any] = {
-        "limit": 5, "length": 50, "density": density, "rule": Nasch(0.25), "start": random_cells(key), "steps": 40, "key": key,
+        "limit": 5, "length": 50, "density": density, "rule": Nasch(0.25), "start": random_cells(key),
+        "steps": 40, "key": key,
     }
     return Job(**{**parameters, **changes})
 

@@ -38,12 +38,27 @@ class Calls(NamedTuple):
     given: str
 
 
+class Command(NamedTuple):
+    """A part that is a command: the number of its line, and its calls."""
+
+    line: int
+    calls: Calls
+
+
 class Expected(NamedTuple):
     """An exit status, an output, and how much of the output this is: "all", its "first lines", or "nothing"."""
 
     status: int
     output: bytes
     extent: str
+
+
+class Call(NamedTuple):
+    """A call of the program: a name for messages, the words of a command line, and an input."""
+
+    name: str
+    words: list[str]
+    text: bytes
 
 
 class Case(NamedTuple):
@@ -71,10 +86,13 @@ def line_of(text: str, number: int) -> Optional[str]:
 
 
 def lines_of(text: str, count: int) -> Optional[str]:
-    """A line of a part, repeated; the copies differ only if they contain their number."""
-    lines = [line_of(text, number) for number in (range(count) if "\\k" in text else [0])]
-    written = [line for line in lines if line is not None]
-    return None if len(written) < len(lines) else "".join(written) * (1 if "\\k" in text else count)
+    """A line of a part, repeated; the copies differ only if they contain their number. None if it is malformed."""
+    if "\\k" not in text:
+        line = line_of(text, 0)
+        return None if line is None else line * count
+    lines = [line_of(text, number) for number in range(count)]
+    well_formed = [line for line in lines if line is not None]
+    return "".join(well_formed) if len(well_formed) == len(lines) else None
 
 
 def parts_of(content: str) -> list[Part]:
@@ -124,26 +142,27 @@ def expected_by(part: Part) -> Optional[Expected]:
 
 def cases_of(name: str, content: str) -> Iterator[Case]:
     """The cases of a file. Its parts are titles, fronts, and commands, each followed by the expected answer."""
-    title, front, command = "", "", None
+    title, front = "", ""
+    command: Optional[Command] = None
     for part in parts_of(content):
         if command:
             # The part before was a command, so that this one is the expected answer.
             expected = expected_by(part)
-            line, (calls, given) = command
-            if not expected or not calls:
+            if not expected or not command.calls.lines:
                 raise Broken(f"line {part.line}")
-            yield Case(f"{name}, line {line}, {title}", calls, given.encode(), *expected)
+            place = f"{name}, line {command.line}, {title}"
+            yield Case(place, command.calls.lines, command.calls.given.encode(), *expected)
             command = None
         elif part.words.startswith("== ") and not part.text:
             title = part.words[3:]
         elif part.words == "front":
             front = part.text or ""
-        elif calls_of_part := calls_of(part, front):
-            command = part.line, calls_of_part
+        elif calls := calls_of(part, front):
+            command = Command(part.line, calls)
         else:
             raise Broken(f"line {part.line}")
     if command:
-        raise Broken(f"line {command[0]}")
+        raise Broken(f"line {command.line}")
 
 
 def files() -> Iterator[tuple[str, str]]:
@@ -152,8 +171,8 @@ def files() -> Iterator[tuple[str, str]]:
         yield path.name, path.read_bytes().decode()
 
 
-def texts() -> Iterator[tuple[str, list[str], bytes]]:
-    """The name, the first command line and the input of each case."""
+def first_calls() -> Iterator[Call]:
+    """The first call of each case."""
     for name, content in files():
         for case in cases_of(name, content):
-            yield case.name, case.calls[0], case.given
+            yield Call(case.name, case.calls[0], case.given)

@@ -16,10 +16,12 @@ from trlab._runs import location
 from . import TOP
 
 BUILT = TOP / "crates" / "trlab_program" / "out" / "trlab_program"
-LONGEST = 300  # seconds after which a run counts as a hang; this long because other work may slow everything down
+SECONDS_OF_A_HANG = 300  # after which a run counts as a hang; this long because other work may slow everything down
 NOT_FOUND = "build the program first (./trlab --prove), or name one in TRLAB"
 # The exit statuses of the program.
 DONE, REJECTED, WRONG_ARGUMENTS, OUT_OF_MEMORY, DEVICE_FAILED = range(5)
+# The exit status if the processor lacks a feature that the program is compiled for.
+PROCESSOR_LACKS_FEATURE = 127
 Answer = tuple[Union[int, str], bytes]
 
 
@@ -50,7 +52,7 @@ def ended(pid: int) -> Union[int, str]:
     ready = select.poll()
     process = os.pidfd_open(pid)
     ready.register(process, select.POLLIN)
-    is_hang = not ready.poll(LONGEST * 1000)
+    is_hang = not ready.poll(SECONDS_OF_A_HANG * 1000)
     os.close(process)
     if is_hang:
         os.kill(pid, signal.SIGKILL)

@@ -9,6 +9,7 @@ from os import PathLike
 from typing import NamedTuple, Union
 
 from . import TOP
+from .cases import Call
 from .command import Count
 
 # The further calls for an input of a command. The native program reports the progress of several runners in any order.
@@ -22,14 +23,6 @@ MORE = {
 }
 
 
-class Call(NamedTuple):
-    """A call of the program: a name for messages, its arguments and its input."""
-
-    name: str
-    words: list[str]
-    text: bytes
-
-
 class Ended(NamedTuple):
     """How a call ended: its exit status, its output and its standard error."""
 
@@ -38,12 +31,13 @@ class Ended(NamedTuple):
     error: bytes
 
 
-def calls_of(texts: Iterable[tuple[str, list[str], bytes]]) -> Iterator[Call]:
-    """The calls for inputs, each of which has a name and the words of a command."""
-    for name, words, text in texts:
-        yield Call(name, words, text)
-        for more in MORE.get(words[0], []) if len(words) == 1 else []:
-            yield Call(name, more.split(), text)
+def with_more(calls: Iterable[Call]) -> Iterator[Call]:
+    """The calls, and after each of a command without options the further calls for its input."""
+    for call in calls:
+        yield call
+        if len(call.words) == 1:
+            for more in MORE.get(call.words[0], []):
+                yield call._replace(words=more.split())
 
 
 def by_program(program: str, call: Call) -> Ended:
@@ -76,11 +70,9 @@ def has_node() -> bool:
     return shutil.which("node") is not None
 
 
-def compare(
-    count: Count, page: Union[str, PathLike[str]], program: str, texts: Iterable[tuple[str, list[str], bytes]]
-) -> None:
-    """Note for each call of each input whether both programs end in the same way."""
-    calls = list(calls_of(texts))
+def compare(count: Count, page: Union[str, PathLike[str]], program: str, first_calls: Iterable[Call]) -> None:
+    """Note for these calls, and for the further ones of their inputs, whether both programs end in the same way."""
+    calls = list(with_more(first_calls))
     answers = 0
     for call, answer in zip(calls, by_node(page, calls)):
         answers += 1

@@ -181,7 +181,7 @@ class Checkout:
 
 def end(process: Process) -> Run:
     """Wait for ./trlab to end, after it has got its input."""
-    output, messages = process.communicate(INPUT, timeout=program.LONGEST)
+    output, messages = process.communicate(INPUT, timeout=program.SECONDS_OF_A_HANG)
     return Run(output, process.returncode, messages.decode())
 
 

@@ -257,7 +257,8 @@ def with_damaged_line(dice: Dice, lines: list[bytes]) -> list[bytes]:
     """The lines with one of them deleted, doubled, exchanged, or replaced with a line of another input, which may also be
     inserted."""
     damaged, place = list(lines), dice.randrange(len(lines))
-    DAMAGES_OF_LINES[dice.randrange(len(DAMAGES_OF_LINES))](dice, damaged, place)
+    damage = dice.choice(DAMAGES_OF_LINES)
+    damage(dice, damaged, place)
     return damaged or [b""]
 
 
@@ -297,6 +298,7 @@ def random_input(dice: Dice) -> tuple[str, bytes]:
     if dice.happens(0.1):
         return command, random_bytes(dice)
     lines, damage = lines_of(dice), dice.random()
+    # One in three is not damaged, and one in ten is damaged in both ways.
     has_damaged_lines, has_damaged_bytes = 0.35 < damage < 0.8, damage > 0.7
     for _ in range(dice.choice((1, 1, 2)) if has_damaged_lines else 0):
         lines = with_damaged_line(dice, lines) if dice.happens(0.5) else with_damaged_word(dice, lines)
