@@ -8,7 +8,7 @@ from .files import FENCED, content, documents
 # Pages grow with every change, and each sentence seems useful. When a page comes to its limit, somebody should read it as a
 # whole: what another page says goes, and otherwise the limit rises. No page is cut for its limit.
 MAX_WORDS = {
-    "CHANGELOG.md": 1620,
+    "CHANGELOG.md": 1720,
     "CONTRIBUTING.md": 2280,
     "README.md": 1330,
     "docs/CHEATSHEET.md": 730,
@@ -32,7 +32,7 @@ MAX_WORDS = {
     "docs/dev/ARCHITECTURE.md": 2050,
     "docs/dev/CALLS.md": 760,
     "docs/dev/BOOK.md": 1380,
-    "docs/dev/DECISIONS.md": 3440,
+    "docs/dev/DECISIONS.md": 3520,
     "docs/dev/EMBEDDING.md": 520,
     "docs/dev/EXTENDING.md": 1250,
     "docs/dev/GLOSSARY.md": 470,
