@@ -188,7 +188,7 @@ class Writer:
         # Either all draws of a function have `word=`, or none.
         self.has_words = dice.random() < 0.4
         self.draws = 0
-        # How often the present loop runs: a draw in it is drawn as often.
+        # How often the present loop runs: one draw in it counts for this number of draws.
         self.turns = 1
         # The local names that have a value here: those with numbers, and those with conditions.
         self.numbers: list[str] = []
@@ -269,7 +269,7 @@ class Writer:
         return f"car.draw({probability}{self.word()})"
 
     def number(self, depth: int) -> str:
-        """An expression for a number, in which operations are nested at most so deeply."""
+        """An expression for a number, in which operations are nested up to `depth` times."""
         if depth <= 0 or self.dice.random() < 0.2:
             return self.simple_number()
         first, second = self.number(depth - 1), self.number(depth - 1)
@@ -303,7 +303,7 @@ class Writer:
         return self.dice.choice(["<", "<=", ">", ">=", "==", "!="])
 
     def condition(self, depth: int) -> str:
-        """A condition, in which operations are nested at most so deeply."""
+        """A condition, in which operations are nested up to `depth` times."""
         choice, sign = self.dice.randrange(10), self.sign
         if depth > 0 and choice < 3:
             first, second = self.condition(depth - 1), self.condition(depth - 1)
@@ -329,7 +329,7 @@ class Writer:
         return "\n".join([*self.block(1, 2, self.dice.choice([1, 2, 3, 4])), f"    return {self.result()}"])
 
     def block(self, indent: int, depth: int, count: int) -> list[str]:
-        """The lines of `count` statements. Decisions in them are nested at most `depth` deep."""
+        """The lines of `count` statements, in which decisions are nested up to `depth` times."""
         lines: list[str] = []
         before = (list(self.numbers), list(self.flags))
         for _ in range(count):
@@ -402,7 +402,7 @@ class Numbered(ast.NodeTransformer):
     and the texts of called functions written out. A function gets the first word of its draws as a parameter `at`."""
 
     def __init__(self, draws: dict[str, int], constants: dict[str, object]) -> None:
-        # The number of draws of each function that is defined above.
+        # The number of draws of each function above.
         self.draws = draws
         self.constants = constants
         # The draws before the present place, in the first turn of each loop around it.
@@ -414,7 +414,7 @@ class Numbered(ast.NodeTransformer):
         values = eval(compile(ast.Expression(node.iter), "turns", "eval"), {"range": range}, dict(self.constants))
         count_before, later_turns_before = self.count, self.later_turns
         name = ast.unparse(node.target)
-        # The number of draws in a turn is known only after the body, so that it has a name until then.
+        # The number of draws in a turn is known only after the body, so that a name stands for it until then.
         draws_per_turn = f"PER_{name}_{node.lineno}"
         turn = f"[{', '.join(map(str, values))}].index({name})"
         self.later_turns = f"{later_turns_before} + {turn} * {draws_per_turn}"
