@@ -224,6 +224,27 @@ class Faults(OnPage):
         self.hold(lambda: self.page.text("fault").endswith("The page still plays the job that it had before."))
         self.has_job(job_of(cars=200))
 
+    def test_a_late_explanation_is_not_shown(self):
+        """The explanation of an earlier job file comes after that of the present one, because it is held back."""
+        self.page.js("""const {fetch} = window;
+            window.fetch = async (address, options) => {
+                const response = await fetch(address, options);
+                if (address !== 'explain' || window.release) return response;
+                const words = await response.text();
+                await new Promise(resolve => window.release = resolve);
+                return {ok: true, text: async () => {
+                    setTimeout(() => window.hasCome = true);
+                    return words;
+                }};
+            };""")
+        self.page.set("density", "0.2")
+        self.hold(lambda: self.page.js("return window.release !== undefined"))
+        self.page.set("density", "0.3")
+        self.hold(lambda: "300 cars" in self.page.text("explained"))
+        self.page.js("window.release()")
+        self.hold(lambda: self.page.js("return window.hasCome === true"))
+        self.assertIn("300 cars", self.page.text("explained"))
+
     # Playback
 
     def test_a_step_after_a_long_pause(self):

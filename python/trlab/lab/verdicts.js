@@ -31,8 +31,13 @@ async function judge(kind, id, editor, onError) {
 /** The same for the job file, with its explanation. */
 export async function judgeJob(editor, onError) {
   const accepted = await judge("run", "text", editor, onError);
-  post("explain", editor.value).then(response => response.text()).then(text => $("explained").textContent = text).catch(onError);
+  showExplanation(editor).catch(onError);
   return accepted;
+}
+/** Show the explanation of the job file, unless you typed on meanwhile: then another explanation is shown, which may come first. */
+async function showExplanation(editor) {
+  const source = editor.value, text = await (await post("explain", source)).text();
+  if (source === editor.value) $("explained").textContent = text;
 }
 /** The same for a program of a `kind`. No program for lane changes is one that never changes lanes. */
 export async function judgeProgram(kind, editor, onError) {
