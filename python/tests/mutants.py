@@ -133,7 +133,7 @@ MUTANTS = list(map(Mutant._make, [
     ("_analysis/repetitions.py", "if drawn:", "if True:"),
     ("_analysis/repetitions.py", "if unit := wrong_unit(", "if unit := \"\" and wrong_unit("),
     ("_studies/roads.py", "return [f\"-{_digest(road)}\" for road", "return [\"-\" for road"),
-    ("_studies/grid.py", "        if chosen[name] != used:", "        if False:"),
+    ("_studies/grid.py", "        if name in chosen and chosen[name] != used:", "        if False:"),
     ("_analysis/peak.py", "max(1.0, fits[number].chi2 / fits[number].freedom)", "1.0"),
     ("_analysis/frames.py", ".sort_index(kind=\"stable\")", ""),
     ("_analysis/frames.py", "return list(enumerate(ensembles))", "return [(0, it) for it in ensembles]"),

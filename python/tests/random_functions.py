@@ -414,7 +414,7 @@ class Numbered(ast.NodeTransformer):
         values = eval(compile(ast.Expression(node.iter), "turns", "eval"), {"range": range}, dict(self.constants))
         count_before, later_turns_before = self.count, self.later_turns
         name = ast.unparse(node.target)
-        # The number of draws in a turn is known only after the body, so that a name stands for it until then.
+        # The number of draws in a turn is known only after the body, so that a name is used for it until then.
         draws_per_turn = f"PER_{name}_{node.lineno}"
         turn = f"[{', '.join(map(str, values))}].index({name})"
         self.later_turns = f"{later_turns_before} + {turn} * {draws_per_turn}"

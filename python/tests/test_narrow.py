@@ -156,7 +156,8 @@ class Forms(unittest.TestCase):
         for line in SAME.splitlines():
             for old in "i64", "i8", "i128":
                 changed = line.replace(f" {old} ", " <2 x ptr> ").replace(f" {old},", " <2 x ptr>,")
-                if changed != line and "c\"" not in line:
+                has_string = 'c"' in line
+                if changed != line and not has_string:
                     with self.subTest(changed), self.assertRaises(narrow.UnknownForm):
                         self.body(changed)
 

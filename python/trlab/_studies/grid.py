@@ -256,7 +256,9 @@ def _choice_of(names: Sequence[str]) -> Any:
 def _check_roads(chosen: Mapping[str, Any], roads: KnownRoads) -> None:
     """Raises `ParameterError` if a parameter `density` or `cars` is not that of all roads of an input. A density may be
     rounded up or down to a whole number of cars."""
-    for name in [name for name in ("cars", "density") if name in chosen]:
+    for name in "cars", "density":
+        if name not in chosen:
+            continue
         try:
             expected_cars = as_fraction(chosen[name]) * (1 if name == "cars" else roads["cells"])
         except ValueError:
@@ -271,9 +273,9 @@ def _check_roads(chosen: Mapping[str, Any], roads: KnownRoads) -> None:
 
 def _check_numbers(chosen: Mapping[str, Any], input: Input) -> None:
     """Raises `ParameterError` if a parameter has the name of a number of the input, and another value."""
-    for name in [name for name in ("limit", "length", "lanes", "warm", "measure") if name in chosen]:
+    for name in "limit", "length", "lanes", "warm", "measure":
         used = getattr(input, name, None)
-        if chosen[name] != used:
+        if name in chosen and chosen[name] != used:
             wrong = f"the parameter `{name}` is {chosen[name]}, and the input has {used}"
             raise ParameterError(f"{wrong}: use it in `make`, or give it another name")
 

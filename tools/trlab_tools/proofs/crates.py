@@ -107,7 +107,7 @@ class Crate:
         files = [os.path.relpath(file, self.folder) for file in paths]
         functions = [function for file in files for function in functions_in(file, self.text(file))]
         with_body = [function for function in functions if function.has_clause and not function.is_empty]
-        return [function for function in with_body if self.exports.shows(function)]
+        return [function for function in with_body if self.exports.has_public(function)]
 
     @functools.cached_property
     def proved_alone(self) -> set[str]:
@@ -163,7 +163,7 @@ class Crate:
             if not function or not path:
                 raise SystemExit(f"{self.name}: {body.name} changes no function, and has no line `in`")
             texts[edit.file] = text[:at] + edit.new + text[at + len(edit.old):]
-            is_public = self.exports.shows(function) and function.has_clause
+            is_public = self.exports.has_public(function) and function.has_clause
             changed[path] = Change(path, is_public, str(function))
         return changed
 

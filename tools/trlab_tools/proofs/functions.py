@@ -86,7 +86,7 @@ def function_at(file: str, text: str, match: re.Match[str]) -> Function:
 
 
 class Exports:
-    """The names and the modules that a library shows."""
+    """The public names and modules of a library."""
 
     def __init__(self, folder: str) -> None:
         self.names: set[str] = set()
@@ -106,8 +106,8 @@ class Exports:
                 self.modules.add("::".join((*module, name)))
             self.read(folder, os.path.join("src", *module, f"{name}.rt"), (*module, name))
 
-    def shows(self, function: Function) -> bool:
-        """Whether a function is public. A program shows none, so there each one with a clause counts."""
+    def has_public(self, function: Function) -> bool:
+        """Whether a function is public. A program has no public functions, so there each one with a clause counts."""
         if self.is_program:
             return function.has_clause
         return function.is_pub and ((function.owner or function.name) in self.names or function.module in self.modules)
