@@ -240,10 +240,10 @@ class Faults(OnPage):
         self.page.set("density", "0.2")
         self.hold(lambda: self.page.js("return window.release !== undefined"))
         self.page.set("density", "0.3")
-        self.hold(lambda: "300 cars" in self.page.text("explained"))
+        self.hold(lambda: "Cars: 300." in self.page.text("explained"))
         self.page.js("window.release()")
         self.hold(lambda: self.page.js("return window.hasCome === true"))
-        self.assertIn("300 cars", self.page.text("explained"))
+        self.assertIn("Cars: 300.", self.page.text("explained"))
 
     # Playback
 
