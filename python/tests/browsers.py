@@ -163,3 +163,8 @@ class Window:
     def holds(self, condition: Callable[[], object]) -> bool:
         """Whether a condition comes true."""
         return holds(condition)
+
+    def wait_until(self, condition: Callable[[], object]) -> None:
+        """Wait until a condition comes true. Raises `TimeoutError` at the limit for calls that hang."""
+        if not self.holds(condition):
+            raise TimeoutError("the page does not come to the awaited state")

@@ -26,7 +26,7 @@ OF_THE_SERVER = (
 )
 # Tests in which the program computes most. The served page has all tests in both browsers, and the file has them in Chromium, so that
 # in Firefox these suffice for the file.
-OF_THE_PROGRAM = ("test_every_snapshot_is_that_of_the_run", "test_exact_curves", "test_saving", "test_a_link", "test_a_sweep")
+KEPT_IN_FIREFOX = ("test_every_snapshot_is_that_of_the_run", "test_exact_curves", "test_saving", "test_a_link", "test_a_sweep")
 # Counts the Workers that run the program: those that have been given it, and those that have been ended since. The scripts of a test
 # have names of their own in Firefox, so that those of the page are properties of `window`.
 WATCH = """window.running = new Set();
@@ -157,7 +157,7 @@ class FileInFirefox(FilePages, unittest.TestCase):
 
 
 for name in dir(FilePages):
-    if name.startswith("test_") and name not in vars(FilePages) and name not in OF_THE_PROGRAM:
+    if name.startswith("test_") and name not in vars(FilePages) and name not in KEPT_IN_FIREFOX:
         setattr(FileInFirefox, name, None)
 
 

@@ -332,9 +332,12 @@ class Words(unittest.TestCase):
             "for i in range(2):\n    if car.draw(p):\n        v = 0\nreturn v"
         )
         self.assertEqual(program(body).words, {0, 1, 2, 3})
+        # A change program counts down from 15, so that its words differ from those of the motion program.
         self.assertEqual(program("return car.draw(p) and car.side and car.draw(p)", "change").words, {14, 15})
         first = instructions(program("a = car.draw(0.25)\nreturn car.safe(car.draw(0.5) + a)"))
-        self.assertEqual([line[9:] for line in first if line.startswith("draw")], [f"0, {QUARTER}", f"1, {HALF}"])
+        # The word and the probability of `draw REGISTER, WORD, PROBABILITY`, in the order of the calls.
+        draws = [line.split(", ", 1)[1] for line in first if line.startswith("draw ")]
+        self.assertEqual(draws, [f"0, {QUARTER}", f"1, {HALF}"])
 
     def test_each_call_of_a_function_has_its_own(self) -> None:
         text = (

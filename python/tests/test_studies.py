@@ -212,7 +212,7 @@ class Studies(unittest.TestCase):
         sweep = Sweep(limit=5, length=10, rule=Nasch(0), warm=0, measure=1, cars=[1])
         sweeps = {f"{cars}_cars": replace(sweep, cars=[cars]) for cars in (1, 2, 3)}
 
-        def is_cut_off(sweep: Sweep) -> Table[Point]:
+        def fails_for_three_cars(sweep: Sweep) -> Table[Point]:
             if sweep.cars == (3,):
                 raise OSError("cut off")
             return sweep.sweep()
@@ -224,7 +224,8 @@ class Studies(unittest.TestCase):
             with mock.patch.dict("os.environ", TRLAB=str(logging_program(beside))):
                 study = shared.Study(Path(folder), is_full=False, is_drawn_only=False)
                 with contextlib.redirect_stderr(io.StringIO()):
-                    self.assertRaisesRegex(OSError, "cut off", study.frame, "table.csv", Point, sweeps, is_cut_off)
+                    self.assertRaisesRegex(OSError, "cut off", study.frame, "table.csv", Point, sweeps, fails_for_three_cars)
+                    # Sweeps run at the same time, so that the others may or may not be done by then.
                     done = len(list((Path(folder) / "outputs.parts").iterdir()))
                     new_calls_of: list[tuple[Callable[[Sweep], Table[Point]], int]] = [
                         (Sweep.sweep, 3 - done), (Sweep.sweep, 0), (other_call, 3)

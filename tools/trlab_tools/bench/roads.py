@@ -31,6 +31,8 @@ MAX_RATIOS: dict[tuple[str, Size], dict[str, float]] = {
 }
 # The wanted maximum of the nanoseconds per car and step, for five cars.
 MAX_NANOSECONDS = {DETERMINISTIC: 32, BRAKING: 70}
+LARGE_HEAP, SMALL_HEAP = 64000, 16000  # cells
+MAX_GROWTH = 4.5  # of the time of a step, from the small heap to the large one
 
 
 class Road(NamedTuple):
@@ -179,17 +181,20 @@ def row_of(road: Road, times: dict[str, measuring.Time]) -> Row:
 
 
 def growth(programs: Programs, times: int, folder: str) -> Row:
-    """The row that shows how the time of a step grows with a heap: 64000 cells over 16000, with the same number of steps."""
-    command, large, small = [programs.trlab, "run"], heap(64000), heap(16000)
+    """The row that shows how the time of a step grows with a heap: a large one over a small one, with the same number of steps.
+    A run without steps gives the time of the start, which does not count."""
+    command, large, small = [programs.trlab, "run"], heap(LARGE_HEAP), heap(SMALL_HEAP)
     steps = fitting_steps(large, os.path.join(folder, "job"), lambda text: measuring.timed(command, text).cpu)
     runs = {}
-    for road, count in itertools.product((large, small), (steps, 0)):
-        runs[road, count] = Run(command, road.write(os.path.join(folder, f"{road.cells} {count}"), count))
+    for road, steps_of_run in itertools.product((large, small), (steps, 0)):
+        path = road.write(os.path.join(folder, f"{road.cells} {steps_of_run}"), steps_of_run)
+        runs[road, steps_of_run] = Run(command, path)
     best = measuring.best_of(runs, times)
-    step, step_of_small = (time_per_move(best[road, steps], best[road, 0], steps) for road in (large, small))
-    ratio = step.cpu / step_of_small.cpu
+    time_of_large, time_of_small = (time_per_move(best[road, steps], best[road, 0], steps) for road in (large, small))
+    ratio = time_of_large.cpu / time_of_small.cpu
     per_move = {"trlab": time_per_move(best[large, steps], best[large, 0], steps * large.cells)}
-    beside, wanted = f"{ratio:.2f} times a step of 16000 cells", (wanted_text("at most 4.5 times", ratio <= 4.5),)
+    beside = f"{ratio:.2f} times a step of {SMALL_HEAP} cells"
+    wanted = (wanted_text(f"at most {MAX_GROWTH} times", ratio <= MAX_GROWTH),)
     return Row(f"heap, `{HEAP_RULE}`", 2, large.cells, large.cars(), per_move, beside, wanted)
 
 
