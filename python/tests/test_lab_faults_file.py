@@ -9,6 +9,7 @@ class FaultsFile(InFile, Faults):
     """The tests, in one browser."""
 
     test_parameters_of_rules_in_python = None  # Only the server translates them.
+    test_a_late_explanation_is_not_shown = None  # It holds back a response of the server.
 
 
 @unittest.skipIf(lacking("chromium"), lacking("chromium"))
