@@ -329,10 +329,13 @@ class ForEveryone(OnPage):
                 self.assertEqual(page.value("density"), "0.283333")
                 cut = page.js("return [...document.querySelectorAll('.field input.number')].filter(it => it.scrollWidth > it.clientWidth).map(it => it.value)")
                 self.assertEqual(cut, [])
-            # A choice has an arrow on the right, for which 24 pixels are enough.
-            cut = page.js("""const select = document.getElementById('example'), pen = document.createElement('canvas').getContext('2d');
-                pen.font = getComputedStyle(select).font;
-                return [...select.options].filter(it => pen.measureText(it.text).width > select.clientWidth - 24).map(it => it.text)""")
+            # These choices have a given width, with an arrow on the right, for which 24 pixels are enough.
+            cut = page.js("""const pen = document.createElement('canvas').getContext('2d');
+                return [...document.querySelectorAll('#example, .field > select')].flatMap(select => {
+                    const {fontSize, fontFamily} = getComputedStyle(select);  // `font` is empty in Chromium
+                    pen.font = `${fontSize} ${fontFamily}`;
+                    return [...select.options].filter(it => pen.measureText(it.text).width > select.clientWidth - 24).map(it => it.text);
+                })""")
             self.assertEqual(cut, [])
         finally:
             page.close()

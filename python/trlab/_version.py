@@ -1,3 +1,3 @@
 """The version of the module, the same as the program's."""
 
-__version__ = "0.7.6"
+__version__ = "0.7.7"

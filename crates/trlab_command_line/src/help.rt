@@ -6,7 +6,7 @@ pub const ABOUT: &str =
 
 /// The program's version, and on a second line the logic in which it is proved. Several kits of the toolchain
 /// share one logic.
-pub const VERSION: &str = "0.7.6
+pub const VERSION: &str = "0.7.7
 proved in logic dac8208d650f15bf";
 
 /// Below the list of commands: examples, exit statuses, and further reading.

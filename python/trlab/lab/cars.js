@@ -20,12 +20,12 @@ export function clearedCanvas(canvas) {
 const easedShare = share => share * share * (3 - 2 * share);
 
 /** Draw the cars of a scene, the slowest last: `draw(place, lane)` draws one with the pen's colour. */
-export function drawCars(pen, { film: { limit }, share }, { starts, cell, lane, origin }, draw) {
+export function drawCars(pen, { film: { limit }, share }, { starts, cell, lane, originLane }, draw) {
   const laneShare = easedShare(share);
   for (let speed = limit; speed >= 0; speed--) {
     pen.fillStyle = `rgb(${speedColour(speed / limit).join(",")})`;
     for (let car = starts[speed]; car < starts[speed + 1]; car++) {
-      draw(cell[car] - speed * (1 - share), origin[car] + (lane[car] - origin[car]) * laneShare);
+      draw(cell[car] - speed * (1 - share), originLane[car] + (lane[car] - originLane[car]) * laneShare);
     }
   }
 }

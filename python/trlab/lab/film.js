@@ -97,14 +97,14 @@ export class Film {
     forEachCar((_, __, speed) => { starts[speed + 1]++; });
     for (let speed = 0; speed <= limit; speed++) starts[speed + 1] += starts[speed];
     const cars = starts[limit + 1], next = starts.slice();
-    const cell = new Int32Array(cars), lane = new Uint8Array(cars), origin = new Uint8Array(cars);
+    const cell = new Int32Array(cars), lane = new Uint8Array(cars), originLane = new Uint8Array(cars);
     forEachCar((onLane, x, speed) => {
       const car = next[speed]++;
       cell[car] = x;
       lane[car] = onLane;
-      origin[car] = this.originLane(before, onLane, x, speed);
+      originLane[car] = this.originLane(before, onLane, x, speed);
     });
-    return { step, cars, starts, cell, lane, origin };
+    return { step, cars, starts, cell, lane, originLane };
   }
   /** All cars of a step, which are kept until another step is asked for. */
   wholeScene(step) {
