@@ -47,7 +47,7 @@ fn with_side(side: bool, value: AbstractValue) -> AbstractValue
     ensures { result ≡ with_side side value }
 {
     match value {
-        AbstractValue::Implies(imp) => AbstractValue::Implies(imp || side),
+        AbstractValue::Implies(implied) => AbstractValue::Implies(implied || side),
         other => other,
     }
 }

@@ -64,7 +64,7 @@ fn greater(p: AbstractValue, q: AbstractValue) -> AbstractValue
     AbstractValue::Between(p.low().max(q.low()), p.high().max(q.high()))
 }
 
-/// The smallest difference if the second number has this level to the first.
+/// The smallest difference of two numbers if the second has this level to the first: 1 if it is known to be smaller.
 fn least_difference(level: u8) -> u32
     ensures { result ≡ least_difference level }
 {

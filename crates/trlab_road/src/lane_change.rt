@@ -13,7 +13,7 @@ use crate::lanes::{empty_lanes, list_of};
 use std::alloc::{AllocError, Global};
 use std::mem;
 
-/// The cars of a lane before the lane change, and the index of the first car's answer.
+/// The cars of a lane before the lane change, and the index of the first car's answer in the list of all answers.
 #[derive(Clone, Copy)]
 struct AnsweredLane<'a> {
     cars: &'a [LaneCar],
@@ -55,7 +55,8 @@ fn leaving_cars(
     Ok(())
 }
 
-/// The index after a sequence of cars that stay and are before the place `due`; the first has the index `begin`.
+/// The index after the cars from index `begin` on that stay and are before the place `due`, where the next car comes
+/// from the other lane. They are copied together.
 fn run_end(lane: AnsweredLane, crosses: &[bool], begin: usize, due: u32) -> usize
     requires each { lane.from + length lane.cars.now ≤ length crosses.now }
     requires begin { begin < length lane.cars.now }
@@ -94,6 +95,8 @@ fn change_lane(
 {
     next.clear();
     next.reserve(own.cars.len())?;
+    // the next car of the lane itself has the index i and the place `own_next`, and the next car that comes from the
+    // other lane has the index j and the place `due`
     let mut i = 0;
     let mut j = 0;
     let mut own_next = place_or_end(own.cars, i, cells);
@@ -109,7 +112,7 @@ fn change_lane(
             }
             own_next = place_or_end(own.cars, i, cells);
         } else {
-            // a car that comes takes the cell if it is empty or its car leaves; a car that stays keeps its cell
+            // a car that comes takes the cell if it is empty or its own car leaves; a car that stays keeps its cell
             let own_here = own_next == due;
             let car = if own_here && !crosses[own.from + i] {
                 car_at(own.cars, i)
@@ -126,7 +129,7 @@ fn change_lane(
     Ok(())
 }
 
-/// The two lanes after the lane change. They use the lists of the room, if it has two.
+/// The two lanes after the lane change. Their lists reuse the memory of the room, if it has two lists.
 pub fn change_lanes(
     alloc: Global,
     room: &mut Room,

@@ -83,7 +83,8 @@ pub fn copy_lanes(alloc: Global, lanes: &[Vec<LaneCar>]) -> Result<Vec<Vec<LaneC
     Ok(copies)
 }
 
-/// Whether two lists have the same cars in the same order.
+/// Whether two lists have the same cars in the same order. The loop has no early exit, so that the compiler can compare
+/// many cars at once.
 fn are_same_cars(cars: &[LaneCar], others: &[LaneCar]) -> bool
     ensures { IsTrue result ↔ (cars.now ≡ others.now) }
 {

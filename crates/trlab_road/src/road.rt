@@ -185,12 +185,12 @@ impl Road {
     /// # Errors
     ///
     /// If allocation fails; then the bytes are unchanged.
-    pub fn push_picture(&self, out: &mut Vec<u8>, lane: u32) -> Result<(), AllocError>
+    pub fn push_picture(&self, bytes: &mut Vec<u8>, lane: u32) -> Result<(), AllocError>
         requires { lane < length self.now.lanes }
-        ensures added { OnOk result (out.new.items ≡ out.old.items ++ picture (lane_of self.now lane)) }
-        ensures unchanged { OnErr result (out.new.items ≡ out.old.items) }
+        ensures added { OnOk result (bytes.new.items ≡ bytes.old.items ++ picture (lane_of self.now lane)) }
+        ensures unchanged { OnErr result (bytes.new.items ≡ bytes.old.items) }
     {
-        push_picture(out, list_of(&self.lanes, lane), self.cells)
+        push_picture(bytes, list_of(&self.lanes, lane), self.cells)
     }
 
     /// Gives this road's memory to the room, for a later lane change.

@@ -44,7 +44,7 @@ fn mark_value(mark: Mark) -> AbstractValue
     match mark {
         Mark::Unset => AbstractValue::Unknown,
         Mark::Num(low, high) => AbstractValue::Between(low, high),
-        Mark::Flag(imp) => AbstractValue::Implies(imp),
+        Mark::Flag(implied) => AbstractValue::Implies(implied),
     }
 }
 
@@ -55,11 +55,12 @@ fn mark_of(value: AbstractValue) -> Mark
     match value {
         AbstractValue::Unknown => Mark::Unset,
         AbstractValue::Between(low, high) => Mark::Num(low, high),
-        AbstractValue::Implies(imp) => Mark::Flag(imp),
+        AbstractValue::Implies(implied) => Mark::Flag(implied),
     }
 }
 
-/// The abstract values of a form's variables, in the order of their numbers.
+/// The abstract values of the variables of a form, in the order of their numbers: the registers as the form marks them,
+/// the inputs as at the start of a program.
 fn variables(kind: Kind, form: &Note) -> [AbstractValue; VARIABLES]
     ensures { (x : AVariable) → value_in result x ≡ form_value kind form.now x }
 {
@@ -70,7 +71,7 @@ fn variables(kind: Kind, form: &Note) -> [AbstractValue; VARIABLES]
     variables
 }
 
-/// Whether no known level of the variable with the number x is above `BELOW`.
+/// Whether no known level of the variable with the number x to another is above `BELOW`.
 fn has_levels_from(values: &[AbstractValue; VARIABLES], levels: &[u8; VARIABLES], x: usize) -> bool
     requires { x < VARIABLES }
     ensures { IsTrue result ↔ ((y : ℕ) → y < VARIABLES →
@@ -125,7 +126,8 @@ pub fn write(kind: Kind, note: &StoredNote) -> Note
     }
 }
 
-/// The form of the entry note. Its levels are the levels at the start of a program, except those that ranges imply.
+/// The form of the entry note, with the levels at the start of a program; the stored note has also those that follow
+/// from its ranges, which a form need not list.
 pub fn first_note(kind: Kind) -> Note
     ensures { meaning kind result ≡ entry kind }
 {
