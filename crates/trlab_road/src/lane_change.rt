@@ -31,7 +31,7 @@ fn place_or_end(cars: &[LaneCar], k: usize, cells: u32) -> u32
     }
 }
 
-/// Fills a list with the cars that cross from a lane. Only the proof reads the number of cells.
+/// Fills the list `leaving` with the cars that cross from a lane to the other. Only the proof reads the number of cells.
 fn leaving_cars(
     leaving: &mut Vec<LaneCar>,
     cells: u32,

@@ -7,7 +7,7 @@ ghost use Rattle.trlab_road.specs.Stored.{IsFoundAt, list_at, lists_of, no_car, 
 use crate::car::{Car, LaneCar};
 use std::alloc::{AllocError, Global};
 
-/// The lane of the k-th car in standing order, and its index in the lane's list.
+/// Finds the k-th car in standing order: its lane, and its index in the lane's list.
 pub fn find(lanes: &[Vec<LaneCar>], k: u32) -> (u32, usize)
     requires at_most_max_lanes { length lanes.now ≤ MAX_LANES }
     requires below { k < sum_by length (lists_of lanes.now) }

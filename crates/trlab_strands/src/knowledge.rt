@@ -19,6 +19,7 @@ pub trait Ledger {
 impl Ledger for Brand {
     ghost use Rattle.std.specs.Prelude.{[]};
 
+    // a placeholder: the proof of each call that passes `Brand` picks the name
     ghost name = { record {
       words = 0;
       slots = 0;
@@ -69,7 +70,7 @@ impl<E> Play<E, StrandKnowledge<E>> for NoteEvent {
     ghost then = { NotesEvent };
 }
 
-/// The step that compares a strand with the list, and changes nothing.
+/// The step that changes nothing, and lets the proof compare a strand with the list.
 pub struct AuditList;
 
 impl<E> Play<E, StrandKnowledge<E>> for AuditList {

@@ -75,7 +75,7 @@ fn checks_next(kind: Kind, table: &[Note], pc: usize, note: &StoredNote, instr: 
         return true;
     }
     match next_note(note, instr) {
-        Some(falling) => is_within(kind, &table[next], &falling),
+        Some(sent) => is_within(kind, &table[next], &sent),
         None => true,
     }
 }

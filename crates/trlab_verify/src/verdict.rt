@@ -39,8 +39,8 @@ fn send_next(notes: &mut [Option<StoredNote>], pc: usize, note: &StoredNote, ins
     if next >= notes.len() {
         return;
     }
-    if let Some(falling) = next_note(note, instr) {
-        add_incoming(notes, next, falling);
+    if let Some(sent) = next_note(note, instr) {
+        add_incoming(notes, next, sent);
     }
 }
 
