@@ -1,5 +1,5 @@
-//! A row has the levels of one variable to all variables, as bits. The rows of all variables are their order; a note
-//! is stored with them.
+//! A row has the levels of one variable to all variables, as bits. A note is stored with the rows of all variables, and
+//! also with the columns, so that the levels of all variables to one are at hand.
 
 ghost use Rattle.std.specs.Prelude.{◌≡◌, ◌↔◌, ℕ, ◌*◌, ◌<◌, ◌≤◌, IsTrue, min, max, nat_eq, if◌then◌else◌, slice_index};
 ghost use Rattle.std.specs.Int.{bit_at};
@@ -92,7 +92,7 @@ impl LevelRow {
         }
     }
 
-    /// Raises each level `AT_MOST` to `BELOW`.
+    /// The row in which each level `AT_MOST` is raised to `BELOW`.
     fn strict(self) -> LevelRow
         ensures { (y : ℕ) → level_in result y ≡ 2 * min (level_in self y) 1 }
     {

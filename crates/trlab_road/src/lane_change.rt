@@ -20,7 +20,7 @@ struct AnsweredLane<'a> {
     from: usize,
 }
 
-/// The place of the k-th car of a list, or the number of cells if there is no k-th car.
+/// The place of the k-th car of a list, or the number of cells, which is past every place, if there is no k-th car.
 fn place_or_end(cars: &[LaneCar], k: usize, cells: u32) -> u32
     ensures here { k < length cars.now → result ≡ place_of cars.now k }
     ensures past { length cars.now ≤ k → result ≡ cells }
@@ -74,8 +74,8 @@ fn run_end(lane: AnsweredLane, crosses: &[bool], begin: usize, due: u32) -> usiz
     end
 }
 
-/// Fills a list with the cars of a lane after the lane change: those that stay, and those that come from the other
-/// lane.
+/// Fills the list `next` with the cars of a lane after the lane change: those of `own` that stay, and those of `coming`,
+/// which come from the other lane.
 fn change_lane(
     next: &mut Vec<LaneCar>,
     cells: u32,

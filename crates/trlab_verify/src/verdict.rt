@@ -70,7 +70,7 @@ pub fn send(notes: &mut [Option<StoredNote>], pc: usize, note: &StoredNote, inst
     send_jump(notes, note, instr);
 }
 
-/// The first rejected instruction, counted from 0, and the first reason there.
+/// A rejection: the first rejected instruction, counted from 0, and the first reason there.
 #[derive(Clone, Copy)]
 pub struct Rejection {
     pub at: u32,
