@@ -16,8 +16,8 @@ use crate::note::{AbstractValue, BELOW, level_between};
 use crate::rows::{LevelRow, StoredNote, with_variable};
 use trlab_code::{Instr, Register, VARIABLES, Variable};
 
-/// The range of the sum of two numbers. Only its smallest number may be too large for a register: it may be above the
-/// largest, in an empty range, which means that control never comes here.
+/// The range of the sum of two numbers. Only its smallest number may be too large for a register, because it is above the
+/// largest in an empty range, which means that control never comes here.
 fn sum(p: AbstractValue, q: AbstractValue) -> AbstractValue
     requires { high p + high q ≤ MAX_NUMBER }
     ensures { result ≡ Between (min (low p + low q) MAX_NUMBER) (high p + high q) }

@@ -225,8 +225,8 @@ fn look_anywhere(cars: &[LaneCar], cells: usize, place: u32, next: usize) -> Sid
     }
 }
 
-/// The surroundings of a place. The index `near` affects only the running time: if the car at this index is at most a
-/// few cars behind the place, no search is needed.
+/// The surroundings of a place. The index `near` affects only the running time: if the first car at the place or past it
+/// is among the five from this index on, usually no other car is compared.
 #[inline(always)]
 pub fn look_beside(cars: &[LaneCar], cells: usize, place: u32, near: usize) -> SideGaps
     requires at_most_max_length { cells ≤ MAX_LENGTH }

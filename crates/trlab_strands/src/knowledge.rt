@@ -37,9 +37,9 @@ pub struct Noted<E> {
     pub event: E,
 }
 
-/// The knowledge of a seat, the right to take atomic steps. A strand knows its parts, the events that it added, and its
-/// clock, which is the smallest number that its next event may have; the keeper knows the whole list. Only contracts use
-/// this type.
+/// The knowledge of a seat, the token with which a thread takes atomic steps. A strand knows its parts, the events that
+/// it added, and its clock, which is the smallest number that its next event may have; the keeper knows the whole list.
+/// Only contracts use this type.
 pub struct StrandKnowledge<E> {
     pub parts: u32,
     pub events: LinkedList<Noted<E>>,

@@ -97,8 +97,8 @@ impl<L: Ledger, E: Drop> Keeper<L, E> {
 
     /// Records an event as the next one of the list, and as the last one of this strand.
     ///
-    /// An atomic step is taken by one seat, but this step changes both the list and the strand. So the strand takes over
-    /// the list for the step, and then returns it to the keeper; `look` and `audit` do so too.
+    /// An atomic step is taken with one seat, but this step changes both the list and the strand. So the strand takes
+    /// over the list for the step, and then returns it to the keeper; `look` and `audit` do so too.
     pub fn note(&mut self, strands: &Strands<L, E>, strand: &mut Strand<L, E>, event: &E)
         ensures list { keeper_list self.new ≡ keeper_list self.old ++ event.now ∷ [] }
         ensures strand { AddsEvent strand.old (keeper_list self.old) event.now strand.new }

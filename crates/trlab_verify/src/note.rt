@@ -72,7 +72,7 @@ fn variables(kind: Kind, form: &Note) -> [AbstractValue; VARIABLES]
 }
 
 /// Whether no known level of the variable with the number x to another is above `BELOW`.
-fn has_levels_from(values: &[AbstractValue; VARIABLES], levels: &[u8; VARIABLES], x: usize) -> bool
+fn are_valid_from(values: &[AbstractValue; VARIABLES], levels: &[u8; VARIABLES], x: usize) -> bool
     requires { x < VARIABLES }
     ensures { IsTrue result ↔ ((y : ℕ) → y < VARIABLES →
         known_level_from values.now x y (slice_index levels.now y) ≤ BELOW) }
@@ -86,11 +86,11 @@ fn has_levels_from(values: &[AbstractValue; VARIABLES], levels: &[u8; VARIABLES]
 }
 
 /// Whether no known level is above `BELOW`, the largest level.
-fn has_levels(values: &[AbstractValue; VARIABLES], levels: &[[u8; VARIABLES]; VARIABLES]) -> bool
+fn are_valid(values: &[AbstractValue; VARIABLES], levels: &[[u8; VARIABLES]; VARIABLES]) -> bool
     ensures { IsTrue result ↔ AreValidLevels values.now levels.now }
 {
     for x in 0..VARIABLES {
-        if !has_levels_from(values, &levels[x], x) {
+        if !are_valid_from(values, &levels[x], x) {
             return false;
         }
     }
@@ -104,7 +104,7 @@ pub fn read(kind: Kind, form: &Note) -> Option<StoredNote>
     ensures stored { IfSome result (λ stored. note_of stored ≡ closure (meaning kind form.now)) }
 {
     let values = variables(kind, form);
-    if !has_levels(&values, &form.levels) {
+    if !are_valid(&values, &form.levels) {
         return None;
     }
     Some(StoredNote::new(values, &form.levels, form.side))
