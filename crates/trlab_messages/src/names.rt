@@ -95,7 +95,8 @@ pub fn count_values(name: LineName) -> Option<usize> {
     }
 }
 
-/// The rest of a line after the word `rule`, if that is one of its first three words.
+/// The rest of a line after the word `rule`, if that is one of its first three words, as in `rule ..` and `at s rule
+/// ..`.
 pub fn after_rule(line: &[u8]) -> Option<&[u8]> {
     let mut left = line;
     for _ in 0..3 {
