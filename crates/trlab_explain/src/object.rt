@@ -60,7 +60,7 @@ impl Object {
         }
     }
 
-    /// Adds a token whose text, if it has one, is plain.
+    /// Adds a token whose text, if it has one, is plain already.
     fn put(&mut self, token: Token<'_>) -> Result<()>
         requires plain { HasPlainText (token_of token) }
         requires printable { IsPrintable (token_of token) }
