@@ -78,7 +78,7 @@ fn push_line_forms(forms: &mut Draft, fault: &Fault<'_>) {
     }
 }
 
-/// Adds the forms that would be valid at a fault, if they tell the reader more than the meaning of the cause.
+/// Adds the forms that would be valid at a fault, if the meaning of the cause does not contain them already.
 fn push_forms(forms: &mut Draft, fault: &Fault<'_>) {
     match fault.cause {
         Cause::Line | Cause::Number | Cause::Key | Cause::Order => match fault.subject {

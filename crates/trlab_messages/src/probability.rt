@@ -7,7 +7,7 @@ use trlab_bounds::programs::CERTAIN;
 /// A probability above 0 and at most this many parts of 2^31 (one in a million) is probably a mistake.
 const SUSPICIOUSLY_SMALL: u32 = 2147;
 
-/// The number of decimals of a printed probability: enough to tell any two of them apart.
+/// The number of decimals of a printed probability: enough to distinguish any two of them.
 const DECIMALS: u32 = 11;
 
 /// Adds a probability p, which the input states as p x 2^31.
