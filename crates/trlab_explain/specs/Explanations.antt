@@ -68,7 +68,7 @@ abbrev pub IsWithinOneEdit : List ℕ → List ℕ → Type 0
 IsWithinOneEdit word name = damerau nat_eq word name ≤ 1
 
 -- the kinds of input that a text with the unknown leading word `word` may be meant as: a job or a sweep if the
--- word is at most one edit away from `road` or `sweep`, and a check in any case
+-- word is at most one edit away from `road` or `sweep`, and always a check
 abbrev pub MayBeMeantAs : List ℕ → Subject → Type 0
 MayBeMeantAs word Job = IsWithinOneEdit word (codes "road")
 MayBeMeantAs word Sweep = IsWithinOneEdit word (codes "sweep")

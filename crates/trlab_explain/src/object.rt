@@ -44,6 +44,7 @@ fn plain_str(bytes: &[u8]) -> &str
 {
     match std::str::from_utf8(bytes) {
         Ok(text) => text,
+        // Plain bytes are ASCII, which is UTF-8.
         Err(_) => unreachable!(),
     }
 }

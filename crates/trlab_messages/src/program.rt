@@ -35,9 +35,11 @@ pub enum ProgramVerdict {
 #[derive(Clone, Copy)]
 pub struct Listing<'a> {
     code: &'a Code,
+    /// The lines of its instructions, in their order.
     lines: &'a [NumberedLine<'a>],
     /// The number of its first line.
     first_line: u32,
+    /// Whether the program is in bytes, on a line `code X`.
     is_in_bytes: bool,
 }
 

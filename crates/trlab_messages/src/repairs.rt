@@ -130,7 +130,7 @@ fn push_deletion(how: &mut Draft, first: u32, lines: &[u8]) {
     }
 }
 
-/// Adds how to edit lines as a whole, or else a part of one.
+/// Adds how to make an edit: of whole lines if possible, and otherwise of a part of one line.
 fn push_edit(how: &mut Draft, place: &Place<'_>, before: usize, edit: &Edit) {
     let number = place.number;
     let length = place.line.unwrap_or(b"").len();

@@ -90,6 +90,7 @@ fn wordless_candidate(list: &mut Candidates, fault: &Fault<'_>) {
         return;
     }
     let mut below = fault.place.below();
+    // There are no more lines than bytes.
     for _ in 0..below.len() {
         match next_line(below) {
             Some((line, rest)) if is_comment(line) || is_blank(line) => {
@@ -108,10 +109,10 @@ fn wordless_candidate(list: &mut Candidates, fault: &Fault<'_>) {
     list.delete_to(fault, mistake, below);
 }
 
-/// Adds a candidate that deletes a comment after words: the first `byte`, everything after it, and the blanks before
+/// Adds a candidate that deletes a comment after words: the first `mark`, everything after it, and the blanks before
 /// it.
-fn comment_candidate(list: &mut Candidates, fault: &Fault<'_>, byte: u8) {
-    let Some((front, _)) = cut(fault.line, byte) else {
+fn comment_candidate(list: &mut Candidates, fault: &Fault<'_>, mark: u8) {
+    let Some((front, _)) = cut(fault.line, mark) else {
         return;
     };
     let end = front
@@ -217,6 +218,7 @@ fn swap_candidate(list: &mut Candidates, fault: &Fault<'_>, word: &[u8]) {
         return;
     };
     let is_wanted = match line_named(head_word(below)) {
+        // A program has more lines, and all of them would have to move.
         None | Some(LineName::Motion | LineName::Change) => false,
         Some(name) => fault.wants(name),
     };

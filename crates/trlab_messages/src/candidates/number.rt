@@ -41,12 +41,15 @@ fn number_above(fault: &Fault<'_>, name: LineName, max: u32) -> u32 {
 
 /// Adds a candidate that replaces the word at the position `at` of the line with the number that it may mean: if it is
 /// at most 1, this part of the fraction's whole, and otherwise the number itself.
-pub fn value_candidates(list: &mut Candidates, at: usize, word: &[u8], part: Option<Fraction>) {
+pub fn value_candidates(list: &mut Candidates, at: usize, word: &[u8], fraction: Option<Fraction>) {
     let Some(value) = value_of(word) else {
         return;
     };
-    let (mistake, number) = match part {
-        Some(part) if value <= 1.0 => (part.mistake, Some(nearest_part(value, part.whole))),
+    let (mistake, number) = match fraction {
+        Some(fraction) if value <= 1.0 => (
+            fraction.mistake,
+            Some(nearest_part(value, fraction.whole)),
+        ),
         _ => (DIGITS_ONLY, whole_number(value)),
     };
     if let Some(number) = number {
@@ -75,7 +78,7 @@ pub fn number_candidates(list: &mut Candidates, fault: &Fault<'_>) {
     let Wanted::Number { word, quantity, .. } = fault.wanted else {
         return;
     };
-    let part = match quantity {
+    let fraction = match quantity {
         Quantity::Probability => Some(PROBABILITY),
         Quantity::Cars { cells } => Some(Fraction {
             mistake: DENSITY,
@@ -84,11 +87,12 @@ pub fn number_candidates(list: &mut Candidates, fault: &Fault<'_>) {
         Quantity::Other => None,
     };
     let (_, at) = word.place();
-    value_candidates(list, at, word.bytes(), part);
+    value_candidates(list, at, word.bytes(), fraction);
 }
 
 /// The value of a whole number whose digits are in groups of three, for example `1,000`, `1_000` or `1'000`.
 fn grouped_of(word: &[u8]) -> Option<f64> {
+    // The comma of `0,500` is a decimal comma.
     if matches!(word.first(), Some(b'0')) {
         return None;
     }
@@ -143,7 +147,7 @@ fn value_of(word: &[u8]) -> Option<f64> {
         return Some(decimal_of(percent)? / 100.0);
     }
     match cut(word, b'/') {
-        Some((over, under)) => Some(decimal_of(over)? / decimal_of(under)?),
+        Some((numerator, denominator)) => Some(decimal_of(numerator)? / decimal_of(denominator)?),
         None => decimal_of(word),
     }
 }

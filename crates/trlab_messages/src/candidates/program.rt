@@ -29,6 +29,7 @@ const WORDS_AFTER_PROGRAMS: [&[u8]; 7] = [
 fn is_like_end(alloc: Global, line: &[u8]) -> Result<bool> {
     let (name, _) = name_and_operands(line);
     let name = name.strip_suffix(b"\r").unwrap_or(name);
+    // The instruction `and` is one edit away from `end`.
     if mnemonic_named(name).is_some() {
         return Ok(false);
     }
@@ -54,6 +55,7 @@ const NOWHERE: EndPlaces = EndPlaces {
 fn end_places(alloc: Global, text: &[u8]) -> Result<EndPlaces> {
     let mut places = NOWHERE;
     let mut left = text;
+    // There are no more lines than bytes.
     for _ in 0..text.len() {
         let Some((line, rest)) = next_line(left) else {
             break;
@@ -134,6 +136,7 @@ fn nearest_label<'a>(alloc: Global, place: &Place<'a>, word: &[u8]) -> Result<Op
     let text = place.text;
     let mut best = NearestName::to(word);
     let mut left = text;
+    // There are no more lines than bytes.
     for _ in 0..text.len() {
         let Some((line, rest)) = next_line(left) else {
             break;

@@ -11,7 +11,7 @@ use std::fmt;
 use trlab_code::{Code, Instr, WORDS};
 use trlab_rules::Rule;
 
-/// A draw of a program.
+/// An instruction `draw` of a program.
 #[derive(Clone, Copy)]
 struct Draw {
     /// The instruction, counted from 0.
@@ -66,7 +66,7 @@ fn push_draws(alloc: Global, facts: &mut Draft, program: Listing<'_>) -> Result<
     Ok(draws)
 }
 
-/// Whether one of these draws uses a random word.
+/// Whether one of these draws uses this random word.
 fn uses(draws: &[Draw], word: u8) -> bool {
     draws.iter().any(|draw| draw.word == word)
 }

@@ -37,7 +37,7 @@ fn push_largest(known: &mut Draft, largest: u64) {
     writeln!(known, "The result may be as large as {largest}.");
 }
 
-/// Adds by how much the known facts fall short for an instruction to be accepted, if that can be said.
+/// Adds why the known facts are not enough to accept an instruction, for the reasons for which one sentence can say it.
 fn push_obstacle(known: &mut Draft, reason: Reason, note: &Note, instr: Instr) {
     match (reason, instr) {
         (Reason::MaybeTooLarge, Instr::Add(_, a, b)) => {
