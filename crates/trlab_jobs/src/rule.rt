@@ -59,12 +59,12 @@ fn code_misplacement(alloc: Global, lanes: Lanes, line: &[u8]) -> Result<Objecti
     match hex::decode(alloc, digits.bytes()) {
         Ok(_) => Ok(lanes.too_few()),
         Err(FromHexError::OutOfMemory) => Err(AllocError),
-        Err(_) => Ok(digits.no_hex()),
+        Err(_) => Ok(digits.not_hexadecimal()),
     }
 }
 
-/// The refusal of a change program on a road with one lane: the missing lane, unless the end of the block, or the words
-/// or hexadecimal digits of the line `code X`, are missing or wrong. The program itself is not read.
+/// The refusal of a change program on a road with one lane. Its cause is the missing lane, unless the block has no line
+/// `end`, or the line `code X` has wrong words or digits. The program itself is not read.
 fn misplacement(alloc: Global, lanes: Lanes, rest: Rest<'_>) -> Refusal<'_>
     ensures { ReportsFault (misplacement rest.entry.number rest.entry.left) result }
 {

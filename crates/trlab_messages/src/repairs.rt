@@ -73,7 +73,7 @@ pub fn command_of(subject: Subject) -> &'static str {
     }
 }
 
-/// The line with the byte at the position `at` of the text, which usually is the line at fault, `error`.
+/// The line with the byte at the position `at` of the text. Usually this is the line at fault, `error`.
 fn place_of<'a>(error: &Place<'a>, at: usize) -> Place<'a> {
     let length = error.line.unwrap_or(b"").len();
     if error.start <= at && at <= error.start.saturating_add(length) {

@@ -7,8 +7,8 @@ use trlab_code::Kind;
 use trlab_notes::Reason;
 use trlab_texts::Cause;
 
-/// Adds the last line of a page on a cause or a reason; `numbers` is the plural of the word. Without the first sentence
-/// if no input has this number.
+/// Adds the last line of a page; `numbers` is `causes` or `reasons`. The advice to explain a file is left out if no
+/// input has this number.
 fn push_end(text: &mut Draft, numbers: &str, can_occur: bool) {
     if can_occur {
         text.push_str("To find it in your file: `trlab explain < FILE`. ");

@@ -191,7 +191,7 @@ impl<'a> Excerpt<'a> {
     }
 
     /// The objection that these bytes are not hexadecimal digits, two per byte.
-    pub fn no_hex(self) -> Objection<'a>
+    pub fn not_hexadecimal(self) -> Objection<'a>
         ensures { result ≡ Cause.Hex }
     {
         Objection::new(Cause::Hex, Wanted::Digits(self))

@@ -61,7 +61,7 @@ pub fn parse_code<'a>(
     match hex::decode(alloc, digits.bytes()) {
         Ok(bytes) => code_of_bytes(alloc, &bytes),
         Err(FromHexError::OutOfMemory) => Err(AllocError),
-        Err(_) => Ok(Err(digits.no_hex())),
+        Err(_) => Ok(Err(digits.not_hexadecimal())),
     }
 }
 

@@ -24,7 +24,7 @@ pub enum Quantity {
 /// The input that a reader wanted when it rejected a file.
 #[derive(Drop)]
 pub enum Wanted<'a> {
-    /// Nothing that the cause does not say already.
+    /// Nothing: the cause already says what is needed.
     Nothing,
     /// One of these lines; `End` inside a program.
     Lines(LineNames),

@@ -33,7 +33,8 @@ pub fn head_word(line: &[u8]) -> &[u8]
     }
 }
 
-/// The value of a word of at most ten decimal digits; `None` for any other word, or if a leading 0 is superfluous.
+/// The value of a word of at most ten decimal digits without a leading 0, except for the word `0`; `None` for any other
+/// word.
 fn number(word: &[u8]) -> Option<u64>
     ensures { MatchOption result
         ((n : ℕ) → n ≤ LONGEST_NUMBER → word.now ≢ decimal n)

@@ -39,8 +39,8 @@ fn number_above(fault: &Fault<'_>, name: LineName, max: u32) -> u32 {
     0
 }
 
-/// Adds a candidate that replaces the word at the position `at` of the line with the number that it may mean: if it is
-/// at most 1, this part of the fraction's whole, and otherwise the number itself.
+/// Adds a candidate that replaces the word at the position `at` of the line with the number that it may mean. If a
+/// fraction is given, a value of at most 1 means this part of its whole; any other value means itself.
 pub fn value_candidates(list: &mut Candidates, at: usize, word: &[u8], fraction: Option<Fraction>) {
     let Some(value) = value_of(word) else {
         return;

@@ -37,7 +37,8 @@ fn push_largest(known: &mut Draft, largest: u64) {
     writeln!(known, "The result may be as large as {largest}.");
 }
 
-/// Adds why the known facts are not enough to accept an instruction, for the reasons for which one sentence can say it.
+/// Adds a sentence on why the known facts are not enough to accept an instruction; only some reasons have such a
+/// sentence.
 fn push_obstacle(known: &mut Draft, reason: Reason, note: &Note, instr: Instr) {
     match (reason, instr) {
         (Reason::MaybeTooLarge, Instr::Add(_, a, b)) => {
