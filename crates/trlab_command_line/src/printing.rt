@@ -101,7 +101,7 @@ fn suggest_redirection<R: AllocGlobal + Eprint>(rt: &R, arguments: &[String]) {
 /// The argument of `explain` whose value is a number, as `clap` shows it.
 const EXPLAIN_NUMBER: &str = "[number]";
 
-/// Its range in words.
+/// The range in words of the number after `explain cause` or `explain reason`.
 const EXPLAIN_NUMBER_RANGE: &str = "0 to 4294967295";
 
 /// The range in words of the option or argument that `clap` shows as `shown`, for example `--every <n>`.
