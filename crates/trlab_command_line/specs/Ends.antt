@@ -68,16 +68,16 @@ status_of_print kind failed = status_of_error kind
 -- the end of a request: `before` and `after` are the reader, `old` and `new` the writer
 pub record RequestEnds {S K : Type 0} (source : Source.Ghosts S) (sink : Sink.Ghosts K)
     (request : Request) (end : End) (before after : S) (old new : K) : Type 0 where
-  -- a request that reads an input: an engine with the outputs of the request has ended so
+  -- for a request that reads an input: this is an end of an engine with the outputs of the request
   pub engine : reads_input request ≡ true → EngineEnds source sink (output_of request) end before after old new
-  -- any other request: its output was written so, whatever there is to read
+  -- for any other request: the writer is left as its output leaves it, whatever text there is to read
   pub page : reads_input request ≡ false
       → (text : List ℕ) → LeavesWriter sink (WroteAtEnd (output_of request text)) end old new
   -- the end is `DeviceFault` exactly if the reader or the writer has failed
   pub device : (end ≡ DeviceFault) ↔ ((source.failed after || sink.failed new) ≡ true)
   -- if an allocation failed, nothing was written, unless the output is written as it is made
   pub kept : writes_at_once request ≡ true → end ≡ Memory → AddsNone (bytes_of sink old) (bytes_of sink new)
-  -- a request that reads no input leaves the reader as it was
+  -- a request that reads no input leaves the reader unchanged
   pub unread : reads_input request ≡ false → after ≡ before
 
 -- `status` is the exit status of a request's end, whichever end that is
@@ -87,9 +87,9 @@ pub record EndsWithStatus {S K : Type 0} (source : Source.Ghosts S) (sink : Sink
   pub status_of : status ≡ status_of_end end
   pub ended : RequestEnds source sink request end before after old new
 
--- the end of a command line that gives no request, because `clap` has an error of this kind: either the
--- kind asks for help or the version, which is written to the writer, or the command line is rejected, and
--- nothing is
+-- the end of a command line that makes no request, because `clap` has an error of this kind: if the kind
+-- asks for help or the version, this is written to the writer; otherwise the command line is rejected, and
+-- nothing is written to the writer
 pub record PrintEnds {K : Type 0} (sink : Sink.Ghosts K)
     (kind : ErrorKind) (status : ℕ) (old new : K) : Type 0 where
   -- the status of a rejected command line is 2, or 3 if an allocation failed while it was read
@@ -103,5 +103,5 @@ pub record PrintEnds {K : Type 0} (sink : Sink.Ghosts K)
   -- help was flushed once if the status is 0
   pub handed : asks_for_help kind ≡ true → status ≡ 0
       → FlushedOnce (sink.is_flushed new) (sink.flushes old) (sink.flushes new)
-  -- for a rejected command line the writer is as it was
+  -- a rejected command line leaves the writer unchanged
   pub silent : asks_for_help kind ≡ false → new ≡ old

@@ -86,6 +86,7 @@ fn request_of(alloc: Global, name: &str, matches: &ArgMatches) -> Result<Request
             has_progress: is_flag_given(matches, "progress"),
         }),
         "explain" => Ok(Request::Explain(explain_request_from_matches(alloc, matches)?)),
+        // No other command gives matches: for `help`, `clap` returns an error with the help text.
         _ => unreachable!(),
     }
 }
@@ -116,6 +117,7 @@ pub fn read_words(alloc: Global, arguments: &[String]) -> Result<Request, Error>
     let matches = command_line(alloc)?.try_get_matches_from(arguments)?;
     match matches.subcommand() {
         Some((name, entered)) => request_of(alloc, name, entered),
+        // The program requires a command.
         None => unreachable!(),
     }
 }

@@ -4,8 +4,8 @@
 pub const ABOUT: &str =
     "Simulates road traffic with cellular automata, and verifies its driver programs";
 
-/// The program's version, and on a second line the logic in which it is proved. Several kits of the toolchain
-/// share one logic.
+/// The program's version, and on a second line the logic in which it is proved. The logic and not the kit of the
+/// toolchain is named, because several kits share one logic.
 pub const VERSION: &str = "0.7.7
 proved in logic dac8208d650f15bf";
 

@@ -50,7 +50,8 @@ fn write_help<K: Sink>(alloc: Global, error: &Error, writer: &mut K) -> End
 /// The commands that read standard input and take no file name.
 const INPUT_COMMANDS: [&[u8]; 4] = [b"check", b"run", b"sweep", b"series"];
 
-/// The options whose value is a number, and its range in words. The value is the next argument, or follows after `=`.
+/// The options whose value is a number, each with the range of its value in words. The value is the next argument, as
+/// in `--every 5`, or comes after `=`, as in `--every=5`.
 const NUMBER_OPTIONS: [(&str, &str); 4] = [
     ("--workers", "1 to 16"),
     ("--runners", "1 to 16"),
@@ -58,7 +59,8 @@ const NUMBER_OPTIONS: [(&str, &str); 4] = [
     ("--from", "0 to 500000"),
 ];
 
-/// The bytes of an argument after the name of an option whose value is a number, if it begins with one.
+/// The bytes of an argument after the name of one of the `NUMBER_OPTIONS`: none for `--every`, and `=5` for
+/// `--every=5`. `None` for any other argument.
 fn after_number_option(word: &[u8]) -> Option<&[u8]> {
     for (option, _) in &NUMBER_OPTIONS {
         if let Some(rest) = word.strip_prefix(option.as_bytes()) {
@@ -68,8 +70,8 @@ fn after_number_option(word: &[u8]) -> Option<&[u8]> {
     None
 }
 
-/// The first of a command's arguments that is neither an option nor an option's value. It is probably a file name.
-/// `None` if an unknown option comes before it, because it may be that option's value.
+/// The first of a command's arguments that is neither an option nor the value of an option, and so is probably the name
+/// of a file. `None` if an unknown option comes before it, because it may be the value of that option.
 fn file_name(arguments: &[String]) -> Option<&str> {
     let mut is_value = false;
     for argument in arguments {
@@ -96,22 +98,28 @@ fn suggest_redirection<R: AllocGlobal + Eprint>(rt: &R, arguments: &[String]) {
     }
 }
 
-/// The argument of `explain` whose value is a number, and its range in words.
-const NUMBER_ARGUMENT: (&str, &str) = ("[number]", "0 to 4294967295");
+/// The argument of `explain` whose value is a number, as `clap` shows it.
+const EXPLAIN_NUMBER: &str = "[number]";
 
-/// The range in words of the option or argument that `clap` shows like this.
+/// The range in words of the number after `explain cause` or `explain reason`.
+const EXPLAIN_NUMBER_RANGE: &str = "0 to 4294967295";
+
+/// The range in words of the option or argument that `clap` shows as `shown`, for example `--every <n>`.
 fn range_of(shown: &str) -> Option<&'static str> {
     for (option, range) in &NUMBER_OPTIONS {
         if shown.starts_with(*option) {
             return Some(*range);
         }
     }
-    let (argument, range) = NUMBER_ARGUMENT;
-    if shown == argument { Some(range) } else { None }
+    if shown == EXPLAIN_NUMBER {
+        Some(EXPLAIN_NUMBER_RANGE)
+    } else {
+        None
+    }
 }
 
-/// Prints on standard error why arguments are rejected, with the range in words if a number is wrong: `clap` writes it
-/// as `1..=16`, or not at all.
+/// Prints on standard error why arguments are rejected. If a number is wrong, the message has its range in words,
+/// because `clap` writes a range as `1..=16`, or not at all.
 fn print_error<R: AllocGlobal + Eprint>(rt: &R, error: &Error) {
     // The text is `error: invalid value 'VALUE' for 'OPTION <n>': REASON`, and VALUE may be any text.
     if error.kind() == ErrorKind::ValueValidation

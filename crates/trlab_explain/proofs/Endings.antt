@@ -4,7 +4,7 @@ use Rattle.std.proofs.Common.{Option, None, Some, Result, Ok, Err, IfOk, MatchOp
 use Rattle.trlab_lines.specs.Lines.{lines_of}
 use Rattle.trlab_bounds.specs.declared.texts.TheConstants.{TEXT_LIMIT}
 use Rattle.trlab_texts.specs.{Reading.LocatedFault, declared.fault.Cause.TheVariants.TooBig}
-use Rattle.trlab_jobs.specs.{Job.Job as JobSaid, Check.Check as CheckSaid, Sweep.Sweep as SweepSaid}
+use Rattle.trlab_jobs.specs.{Job.Job as AbstractJob, Check.Check as AbstractCheck, Sweep.Sweep as AbstractSweep}
 use Rattle.trlab_jobs.specs.{Subjects.subject_named, declared.subject.Subject.Subject}
 use Rattle.trlab_jobs.specs.declared.subject.Subject.TheVariants.{Job, Sweep, Check}
 use Rattle.trlab_campaign.specs.{declared.end.End.End, Device.IsInputOrTooLong, Output.{Outputs, fault_line}}
@@ -53,11 +53,11 @@ big_as Check text head big is = (Err too_big, rw (lt-ltb TEXT_LIMIT (length text
 
 big_head : (subject : Subject) (text : List ℕ) (head : Head) → TEXT_LIMIT < length text → IsHeadAs subject text head → IsBigHead head
 big_head Job text head big told =
-    subst (λ (says : Result JobSaid LocatedFault). IsTextHead text says head) (rw (lt-ltb TEXT_LIMIT (length text) big) at told.1) told.2
+    subst (λ (says : Result AbstractJob LocatedFault). IsTextHead text says head) (rw (lt-ltb TEXT_LIMIT (length text) big) at told.1) told.2
 big_head Sweep text head big told =
-    subst (λ (says : Result SweepSaid LocatedFault). IsTextHead text says head) (rw (lt-ltb TEXT_LIMIT (length text) big) at told.1) told.2
+    subst (λ (says : Result AbstractSweep LocatedFault). IsTextHead text says head) (rw (lt-ltb TEXT_LIMIT (length text) big) at told.1) told.2
 big_head Check text head big told =
-    subst (λ (says : Result CheckSaid LocatedFault). IsCheckHead text says head) (rw (lt-ltb TEXT_LIMIT (length text) big) at told.1) told.2
+    subst (λ (says : Result AbstractCheck LocatedFault). IsCheckHead text says head) (rw (lt-ltb TEXT_LIMIT (length text) big) at told.1) told.2
 
 -- an explanation of the bytes that were read is an explanation of the input
 read_explains : (form : Form) (wanted : Option Subject) (text input : List ℕ) (refused : Bool) (out : List ℕ) → IsInputOrTooLong text input

@@ -2,7 +2,7 @@
 use Rattle.std.proofs.Common.{ℕ, List, [], refl, inl, inr, true, false, Result, Ok, Err, IfOk}
 use Rattle.trlab_verify.proofs.Judged.{accepted_or_refused, some_budget}
 use Rattle.trlab_texts.specs.Reading.{LocatedFault}
-use Rattle.trlab_jobs.specs.{Check.Check as CheckSaid, declared.subject.Subject.TheVariants.{Job, Sweep}}
+use Rattle.trlab_jobs.specs.{Check.Check as AbstractCheck, declared.subject.Subject.TheVariants.{Job, Sweep}}
 use Rattle.trlab_jobs.{specs.declared.subject.Subject.TheVariants.Check, proofs.OneText.something as job_says}
 use Rattle.trlab_jobs.proofs.{OneSweep.something as sweep_says, OneCheck.{HasProgram, says_program}}
 use Rattle.trlab_lines.specs.Lines.{lines_of, line_at}
@@ -18,7 +18,7 @@ text_some : {A : Type 0} (text : List ℕ) (says : Result A LocatedFault) → (h
 text_some text (Ok said) = (record { is_rejected = false; answer = []; quote = []; budget = [] }, (refl, refl, refl, refl))
 text_some text (Err fault) = fault_some text fault
 
-program_some : (check : CheckSaid) → HasProgram check → (head : Head) × IsProgramHead check head
+program_some : (check : AbstractCheck) → HasProgram check → (head : Head) × IsProgramHead check head
 program_some check is = elim (accepted_or_refused check.program.kind check.program) [
   | inl accepted ↦
       let found = some_budget check.program.kind check.program is accepted in
@@ -26,7 +26,7 @@ program_some check is = elim (accepted_or_refused check.program.kind check.progr
   | inr refused ↦ (record { is_rejected = true; answer = rejected_line refused.0 refused.1; quote = []; budget = [] }, (refused.0, refused.1, refused.2, refl, refl))
 ]
 
-check_some : (text : List ℕ) (says : Result CheckSaid LocatedFault) → IfOk says HasProgram → (head : Head) × IsCheckHead text says head
+check_some : (text : List ℕ) (says : Result AbstractCheck LocatedFault) → IfOk says HasProgram → (head : Head) × IsCheckHead text says head
 check_some text (Ok check) is = program_some check is
 check_some text (Err fault) is = fault_some text fault
 

@@ -8,9 +8,9 @@ use Rattle.trlab_lines.specs.{Plain.{quoted, IsPlain}, Lines.{first_word, lines_
 use Rattle.strsim.specs.Edits.{damerau}
 use Rattle.trlab_texts.specs.Reading.{LocatedFault, Reports}
 use Rattle.trlab_texts.specs.declared.fault.TextFault.{TextFault}
-use Rattle.trlab_jobs.specs.{Subjects.subject_named, Sweep.{Sweep as SweepSaid, ParsesAsSweep}}
+use Rattle.trlab_jobs.specs.{Subjects.subject_named, Sweep.{Sweep as AbstractSweep, ParsesAsSweep}}
 use Rattle.trlab_jobs.specs.declared.subject.Subject.{Subject, TheVariants.{Job, Sweep, Check}}
-use Rattle.trlab_jobs.specs.{Job.{Job as JobSaid, ParsesAsJob}, Check.{Check as CheckSaid, ParsesAsCheck}}
+use Rattle.trlab_jobs.specs.{Job.{Job as AbstractJob, ParsesAsJob}, Check.{Check as AbstractCheck, ParsesAsCheck}}
 use Rattle.json.specs.{Print.print, Token.{Token, begin_object, end_object, begin_array, end_array, key}}
 use Rattle.json.specs.Token.{string, number as number_token, boolean, null, bad}
 use Rattle.trlab_verify.specs.Verdict.{IsLongest, IsAccepted, IsRefused}
@@ -68,7 +68,7 @@ abbrev pub IsWithinOneEdit : List ℕ → List ℕ → Type 0
 IsWithinOneEdit word name = damerau nat_eq word name ≤ 1
 
 -- the kinds of input that a text with the unknown leading word `word` may be meant as: a job or a sweep if the
--- word is at most one edit away from `road` or `sweep`, and a check in any case
+-- word is at most one edit away from `road` or `sweep`, and always a check
 abbrev pub MayBeMeantAs : List ℕ → Subject → Type 0
 MayBeMeantAs word Job = IsWithinOneEdit word (codes "road")
 MayBeMeantAs word Sweep = IsWithinOneEdit word (codes "sweep")
@@ -148,7 +148,7 @@ budget_sentence budget = codes "Accepted: a car runs at most " ++ (decimal budge
 -- the head for the program of a check. If the verifier accepts it (`false`): the line `accepted budget B` and
 -- the sentence on this budget, where B is the number of instructions on the program's longest path. If the
 -- verifier rejects it (`true`): the line `refused at N reason R`, and no quote
-abbrev pub IsProgramHeadIf : Bool → CheckSaid → Head → Type 0
+abbrev pub IsProgramHeadIf : Bool → AbstractCheck → Head → Type 0
 IsProgramHeadIf false check head = IsAccepted check.program.kind check.program × ((budget : ℕ)
     × IsLongest check.program.instrs 0 budget × (head.answer ≡ accepted_line budget)
     × (head.budget ≡ budget_sentence budget))
@@ -157,25 +157,25 @@ IsProgramHeadIf true check head =
     × (head.answer ≡ rejected_line at reason) × (head.quote ≡ [])
 
 -- the head for the program of a check, given the verdict of the verifier
-abbrev pub IsProgramHead : CheckSaid → Head → Type 0
+abbrev pub IsProgramHead : AbstractCheck → Head → Type 0
 IsProgramHead check head = IsProgramHeadIf head.is_rejected check head
 
 -- the head for the text of a check, given the result of reading it: for a valid text, the head for its
 -- program; for an invalid text, the head for its fault
-abbrev pub IsCheckHead : List ℕ → Result CheckSaid LocatedFault → Head → Type 0
+abbrev pub IsCheckHead : List ℕ → Result AbstractCheck LocatedFault → Head → Type 0
 IsCheckHead text (Ok check) head = IsProgramHead check head
 IsCheckHead text (Err fault) head = IsFaultHead text fault head
 
 -- the head for a text that is read as a job, a sweep or a check
 abbrev pub IsHeadAs : Subject → List ℕ → Head → Type 0
 IsHeadAs Job text head =
-    (result : Result JobSaid LocatedFault) × ParsesAsJob text result
+    (result : Result AbstractJob LocatedFault) × ParsesAsJob text result
     × IsTextHead text result head
 IsHeadAs Sweep text head =
-    (result : Result SweepSaid LocatedFault) × ParsesAsSweep text result
+    (result : Result AbstractSweep LocatedFault) × ParsesAsSweep text result
     × IsTextHead text result head
 IsHeadAs Check text head =
-    (result : Result CheckSaid LocatedFault) × ParsesAsCheck text result
+    (result : Result AbstractCheck LocatedFault) × ParsesAsCheck text result
     × IsCheckHead text result head
 
 -- a text that is read as a job, a sweep or a check is rejected with `fault`: its first fault, or a

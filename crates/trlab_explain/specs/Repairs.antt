@@ -3,8 +3,8 @@ use Rattle.std.specs.Prelude.{◌≡◌, ℕ, ◌+◌, ◌<◌, List, ◌++◌, 
 use Rattle.std.specs.Prelude.{Ok, Err, ◌≤◌}
 use Rattle.trlab_lines.specs.Lines.{lines_of}
 use Rattle.trlab_texts.specs.Reading.{LocatedFault}
-use Rattle.trlab_jobs.specs.{Job.{Job as JobSaid, ParsesAsJob}, Sweep.{Sweep as SweepSaid, ParsesAsSweep}}
-use Rattle.trlab_jobs.specs.{Check.{Check as CheckSaid, ParsesAsCheck}, declared.subject.Subject.Subject}
+use Rattle.trlab_jobs.specs.{Job.{Job as AbstractJob, ParsesAsJob}, Sweep.{Sweep as AbstractSweep, ParsesAsSweep}}
+use Rattle.trlab_jobs.specs.{Check.{Check as AbstractCheck, ParsesAsCheck}, declared.subject.Subject.Subject}
 use Rattle.trlab_jobs.specs.declared.subject.Subject.TheVariants.{Job, Sweep, Check}
 use Rattle.trlab_messages.specs.declared.repairs.Change.{Change, TheVariants.{Edited, ReadAs}}
 
@@ -24,11 +24,11 @@ first_fault_line (Err fault) = Some fault.line
 -- is valid
 abbrev pub HasFirstFault : Subject → List ℕ → Option ℕ → Type 0
 HasFirstFault Job text line =
-    (result : Result JobSaid LocatedFault) × ParsesAsJob text result × (line ≡ first_fault_line result)
+    (result : Result AbstractJob LocatedFault) × ParsesAsJob text result × (line ≡ first_fault_line result)
 HasFirstFault Sweep text line =
-    (result : Result SweepSaid LocatedFault) × ParsesAsSweep text result × (line ≡ first_fault_line result)
+    (result : Result AbstractSweep LocatedFault) × ParsesAsSweep text result × (line ≡ first_fault_line result)
 HasFirstFault Check text line =
-    (result : Result CheckSaid LocatedFault) × ParsesAsCheck text result × (line ≡ first_fault_line result)
+    (result : Result AbstractCheck LocatedFault) × ParsesAsCheck text result × (line ≡ first_fault_line result)
 
 -- a text with the lines `changed` has no fault; or its first fault is after the line `number`, and fewer
 -- lines come after it than after the line `number` in a text with the lines `lines`. For example, line 4 of

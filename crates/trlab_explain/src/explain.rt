@@ -6,7 +6,7 @@ ghost use Rattle.trlab_campaign.specs.Writers.{AddsNone, bytes_of};
 ghost use Rattle.trlab_campaign.specs.declared.end.End.TheVariants.{DeviceFault, Memory};
 ghost use Rattle.trlab_lines.specs.Plain.{IsPlain};
 ghost use Rattle.trlab_verify.specs.Verified.{IsFaultOf};
-ghost use Rattle.trlab_jobs.specs.Check.{Check as CheckSaid};
+ghost use Rattle.trlab_jobs.specs.Check.{Check as AbstractCheck};
 ghost use Rattle.trlab_explain.specs.Explanations.{quote_line};
 ghost use Rattle.trlab_explain.specs.Explanations.{Explains, HasHead, IsBlankHead, IsRejectedWith, IsHeadAs, IsFaultHead, IsProgramHead, accepted_line, budget_sentence};
 
@@ -146,7 +146,7 @@ fn explain_rejected(
     fault: VerifyFault,
 ) -> Result<()>
     requires { IsBlankHead explanation.old.head }
-    ensures { (check : CheckSaid) → IsFaultOf check.program.kind check.program fault
+    ensures { (check : AbstractCheck) → IsFaultOf check.program.kind check.program fault
         → OnOk result (IsProgramHead check explanation.new.head) }
 {
     let VerifyFault::Why { at, reason } = fault else {
@@ -210,7 +210,7 @@ fn explain_as(explanation: &mut Explanation, subject: Subject, text: &[u8]) -> R
     }
 }
 
-/// A copy of the bytes of a page.
+/// A copy of the bytes of a page, which are plain.
 pub fn plain_bytes(alloc: Global, page: &Page) -> Result<Vec<u8>>
     ensures text { IfOk result (λ bytes. bytes.items ≡ page.now) }
     ensures plain { IfOk result (λ bytes. All IsPlain bytes.items) }
@@ -223,7 +223,7 @@ pub fn plain_bytes(alloc: Global, page: &Page) -> Result<Vec<u8>>
 /// An explanation that is ready to be written.
 #[derive(Drop)]
 pub struct Output {
-    /// Whether the input, its program or the number is rejected.
+    /// Whether the input or its program is rejected, or the number of a cause or reason is unknown.
     pub is_rejected: bool,
     pub bytes: Vec<u8>,
 }
@@ -245,7 +245,7 @@ fn output_in_form(alloc: Global, form: Form, explanation: &Explanation) -> Resul
     })
 }
 
-/// Explains an input, read as `subject`, or if that is `None`, as the kind of input that it is meant to be.
+/// Explains an input. It is read as `subject`; if that is `None`, as the kind of input that it is meant to be.
 fn explain_input(alloc: Global, form: Form, subject: Option<Subject>, text: &[u8]) -> Result<Output>
     ensures { IfOk result (λ output. Explains form subject text.now output.is_rejected output.bytes.items) }
 {
@@ -275,6 +275,7 @@ pub fn write_explanation<K: Sink>(output: Result<Output>, writer: &mut K) -> End
     }
 }
 
+/// The engine of `trlab explain`: explains an input in this form, read as `subject` if there is one.
 #[derive(Drop)]
 struct ExplainEngine {
     form: Form,

@@ -40,7 +40,7 @@ impl Drop for Explanation {
 }
 
 impl Explanation {
-    /// A blank explanation of an input that is not rejected.
+    /// A blank explanation of an input that is read as `subject`, and not rejected so far.
     pub fn new(alloc: Global, subject: Subject) -> Explanation
         ensures { IsBlankHead result.head }
     {

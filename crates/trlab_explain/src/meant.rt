@@ -11,7 +11,7 @@ use trlab_lines::{next_line, up_to_blank, without_indent};
 use trlab_messages::Result;
 use trlab_texts::word::without_prefix;
 
-/// The maximum length of a word that may be a misspelled name.
+/// The maximum length in bytes of a word that is compared with names, which are much shorter.
 const LONGEST_WORD: usize = 16;
 
 /// Whether a word is at most one edit away from a name: a byte inserted, deleted or replaced, or two neighbours

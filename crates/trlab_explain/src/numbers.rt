@@ -12,11 +12,11 @@ use trlab_notes::Reason;
 use trlab_road::RoadFault;
 use trlab_texts::Cause;
 
-/// The difference between the number of a reason's cause and the number of the reason.
+/// If the verifier rejects a program, the number of the cause is this number plus the number of the verifier's reason.
 const REASON_OFFSET: u32 = 40;
 
-/// The causes, except those of the verifier's reasons. No input has the last cause. A cause with a position is listed
-/// with position 0.
+/// The causes, except those of the verifier's reasons. The position of a cause does not change its number, so each
+/// cause is listed once, with the position 0. The last cause can be explained, although no input has it.
 const CAUSES: [Cause; 30] = [
     Cause::Line,
     Cause::Number,

@@ -44,6 +44,7 @@ fn plain_str(bytes: &[u8]) -> &str
 {
     match std::str::from_utf8(bytes) {
         Ok(text) => text,
+        // Plain bytes are ASCII, which is UTF-8.
         Err(_) => unreachable!(),
     }
 }
@@ -60,7 +61,7 @@ impl Object {
         }
     }
 
-    /// Adds a token whose text, if it has one, is plain.
+    /// Adds a token whose text, if it has one, is plain already.
     fn put(&mut self, token: Token<'_>) -> Result<()>
         requires plain { HasPlainText (token_of token) }
         requires printable { IsPrintable (token_of token) }

@@ -1,4 +1,5 @@
-//! Repairs are tried before they are shown: each one lets an input get further than its first error.
+//! The choice of a repair. Each repair is tried before it is shown: it must let the input get further than its first
+//! error.
 
 ghost use Rattle.std.specs.Prelude.{◌≡◌, ◌+◌, ◌≤◌, IfOk, length, IfSome, true};
 ghost use Rattle.trlab_explain.specs.Repairs.{edited, GetsFurther, HasFirstFault, IsLaterOrNone, Helps};
@@ -40,14 +41,16 @@ fn first_fault(alloc: Global, subject: Subject, text: &[u8]) -> Result<Option<u3
     }
 }
 
-/// Whether `changed` has no fault, or its first fault, at `line`, is after line `number` and has fewer lines after it
-/// than `text` has after line `number`.
+/// Whether a changed text gets further than `text`, whose first fault is at the line `number`. `line` is the line of
+/// the first fault of `changed`, and `None` if it has none. Fewer lines must be left after it, so that it does not
+/// count as later only because lines were inserted above it.
 fn is_after(text: &[u8], number: u32, changed: &[u8], line: Option<u32>) -> bool
     ensures { result ≡ true → IsLaterOrNone (lines_of text.now) number (lines_of changed.now) line }
 {
     match line {
         None => true,
         Some(line) => {
+            // Sums instead of differences, which could be negative.
             let left = count_lines(changed) as u128 + u128::from(number);
             number < line && left < count_lines(text) as u128 + u128::from(line)
         }
@@ -81,7 +84,7 @@ fn helps(alloc: Global, fault: Fault<'_>, change: &Change) -> Result<bool>
     }
 }
 
-/// The maximum length in bytes of a text that is read several times, so that no explanation takes long.
+/// The maximum length in bytes (512 KiB) of a text that is read several times, so that no explanation takes long.
 const LONGEST_REREAD: usize = 524288;
 
 /// The most likely repair that helps: with it, the input has no error or its first one is further down. The verifier

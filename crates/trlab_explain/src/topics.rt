@@ -45,7 +45,7 @@ fn push_number(text: &mut Draft, topic: Topic, number: u32) -> bool
     true
 }
 
-/// Adds the start of a page, for example `Cause 5: `.
+/// Adds the beginning of the page on a number, for example `Cause 5: `.
 fn push_topic(page: &mut Page, topic: Topic, number: u32) -> Result<()>
     ensures { OnOk result (page.new ≡ page.old ++ topic_front topic number) }
 {

@@ -29,6 +29,7 @@ impl fmt::Display for Amount {
         if rest != 0 {
             write!(f, ".")?;
         }
+        // Once nothing is left, only zeros would follow: they are not written.
         for _ in 0..self.decimals {
             if rest != 0 {
                 let tenths = rest.saturating_mul(10);

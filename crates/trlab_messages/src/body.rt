@@ -14,9 +14,12 @@ use trlab_texts::Cause;
 /// JSON form.
 #[derive(Clone, Copy)]
 pub struct Number {
+    /// The name of its member in the JSON form.
     pub key: &'static str,
+    /// The phrase before it in the text form.
     pub front: &'static str,
     pub amount: Amount,
+    /// The phrase after it in the text form.
     pub after: &'static str,
 }
 
@@ -50,7 +53,7 @@ pub struct Problem {
     pub expected: Draft,
     /// The problem in words; empty if the meaning of the cause is enough.
     pub found: Draft,
-    /// Where to look if nothing was found and no repair helps; else empty.
+    /// Where to look if nothing was found and no repair helps; otherwise empty.
     pub hint: &'static str,
 }
 
@@ -72,7 +75,7 @@ pub struct Rejection {
 
 /// An instruction of an accepted program, and the facts that are known before it, one per line.
 #[derive(Drop)]
-pub struct Known {
+pub struct InstructionFacts {
     /// The number of its line; 0 for a program in bytes.
     pub line_number: u32,
     pub instruction: Draft,
@@ -93,7 +96,7 @@ pub struct Body {
     pub known: Draft,
     /// The paths to the rejected instruction, or the rules of a valid input, one per line.
     pub facts: Draft,
-    pub table: Vec<Known>,
+    pub table: Vec<InstructionFacts>,
     /// The numbers of a valid input.
     pub numbers: Vec<Number>,
     /// How many of them come above the facts in the text form.
@@ -123,7 +126,7 @@ impl Body {
     }
 
     /// Returns the value, or remembers that its allocation failed.
-    pub fn ok_or_fail<T>(&mut self, value: Result<T>) -> Option<T> {
+    pub fn ok_or_remember_failure<T>(&mut self, value: Result<T>) -> Option<T> {
         self.has_failed |= value.is_err();
         value.ok()
     }
@@ -134,13 +137,15 @@ impl Body {
     }
 
     /// Adds an instruction of an accepted program.
-    pub fn add_known(&mut self, known: Known) {
+    pub fn add_instruction_facts(&mut self, known: InstructionFacts) {
         self.has_failed |= self.table.push(known).is_err();
     }
 
+    /// Reports a failure that the body remembers. Its drafts report their own failures when they are read.
+    ///
     /// # Errors
     ///
-    /// If an allocation failed. Drafts report their own failures.
+    /// If an allocation failed.
     pub fn outcome(&self) -> Result<()> {
         if self.has_failed {
             Err(AllocError)

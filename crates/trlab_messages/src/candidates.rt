@@ -21,25 +21,27 @@ use trlab_code::CodeFault;
 use trlab_road::RoadFault;
 use trlab_texts::{Cause, LineName};
 
+// The mistakes that candidates correct, as an explanation states them.
+
 const MISSPELLED: &str = "probably a misspelling.";
 
-const COMMENT: &str = "comments are allowed only inside programs.";
+const COMMENT_OUTSIDE_PROGRAM: &str = "comments are allowed only inside programs.";
 
-const EMPTY: &str = "empty lines are allowed only inside programs.";
+const EMPTY_OUTSIDE_PROGRAM: &str = "empty lines are allowed only inside programs.";
 
-const COMMENTS_AND_EMPTY: &str = "comments and empty lines are allowed only inside programs.";
+const BOTH_OUTSIDE_PROGRAM: &str = "comments and empty lines are allowed only inside programs.";
 
-const OTHER_COMMENT: &str = "a comment begins with `;`.";
+const FOREIGN_COMMENT: &str = "a comment begins with `;`.";
 
-const DIGITS: &str = "write the number with digits only.";
+const DIGITS_ONLY: &str = "write the number with digits only.";
 
-const END: &str = "the last line of a program is `end` and nothing else.";
+const END_ALONE: &str = "the last line of a program is `end` and nothing else.";
 
-const ENDLESS: &str = "the program has no line `end`.";
+const WITHOUT_END: &str = "the program has no line `end`.";
 
-const LATE: &str = "this line belongs elsewhere, or is a duplicate.";
+const MISPLACED: &str = "this line belongs elsewhere, or is a duplicate.";
 
-const WINDOWS: &str =
+const WINDOWS_LINE_ENDING: &str =
     "the line ends with a carriage return (Windows line ending): use LF only, in all lines.";
 
 /// The maximum number of repairs that are tried. Each trial reads the whole text again.
@@ -58,7 +60,7 @@ pub struct Candidates {
 
 impl Candidates {
     /// Returns the value, or remembers that its allocation failed.
-    pub fn ok_or_fail<T>(&mut self, value: Result<T>) -> Option<T> {
+    pub fn ok_or_remember_failure<T>(&mut self, value: Result<T>) -> Option<T> {
         self.has_failed |= value.is_err();
         value.ok()
     }
@@ -71,9 +73,16 @@ impl Candidates {
         }
     }
 
-    /// Adds a candidate that replaces `removed` bytes of the input, from position `at` on.
-    pub fn edit(&mut self, mistake: &'static str, at: usize, removed: usize, put: Result<Vec<u8>>) {
-        if let Some(inserted) = self.ok_or_fail(put) {
+    /// Adds a candidate that replaces `removed` bytes of the input, from the position `at` on, counted from 0. If the
+    /// replacement could not be allocated, remembers this instead.
+    pub fn edit(
+        &mut self,
+        mistake: &'static str,
+        at: usize,
+        removed: usize,
+        replacement: Result<Vec<u8>>,
+    ) {
+        if let Some(inserted) = self.ok_or_remember_failure(replacement) {
             let edit = Edit {
                 at,
                 removed,
@@ -83,21 +92,27 @@ impl Candidates {
         }
     }
 
-    /// Adds a candidate that replaces bytes of the line at fault, or remembers that an allocation failed.
+    /// Adds a candidate like `edit`, but `at` is a position in the line at fault.
     pub fn rewrite(
         &mut self,
         mistake: &'static str,
         at: usize,
         removed: usize,
-        put: Result<Vec<u8>>,
+        replacement: Result<Vec<u8>>,
     ) {
-        self.edit(mistake, self.start.saturating_add(at), removed, put);
+        self.edit(mistake, self.start.saturating_add(at), removed, replacement);
     }
 
-    /// Adds a candidate that replaces bytes of the line at fault.
-    pub fn edit_in_line(&mut self, mistake: &'static str, at: usize, removed: usize, put: &[u8]) {
-        let put = put.to_vec(self.alloc);
-        self.rewrite(mistake, at, removed, put);
+    /// Adds a candidate like `rewrite`, with a copy of these bytes as the replacement.
+    pub fn edit_in_line(
+        &mut self,
+        mistake: &'static str,
+        at: usize,
+        removed: usize,
+        replacement: &[u8],
+    ) {
+        let replacement = replacement.to_vec(self.alloc);
+        self.rewrite(mistake, at, removed, replacement);
     }
 
     /// Adds a candidate that inserts a line above the one at fault, or at the end of the input.
@@ -111,7 +126,8 @@ impl Candidates {
         self.delete_to(fault, mistake, fault.place.below());
     }
 
-    /// Adds a candidate that deletes the line at fault and all others above `below`, the end of the input.
+    /// Adds a candidate that deletes the lines from the line at fault to the last one above `below`, which is the part
+    /// of the input that is kept.
     pub fn delete_to(&mut self, fault: &Fault<'_>, mistake: &'static str, below: &[u8]) {
         let above = fault.place.text.len().saturating_sub(below.len());
         let removed = above.saturating_sub(self.start);
@@ -120,7 +136,7 @@ impl Candidates {
 
     /// Adds a candidate that replaces a word of the line at fault by the name that was meant, if there is one.
     pub fn fix_spelling(&mut self, at: usize, word: &[u8], meant: Result<Option<&[u8]>>) {
-        if let Some(Some(meant)) = self.ok_or_fail(meant)
+        if let Some(Some(meant)) = self.ok_or_remember_failure(meant)
             && meant != word
         {
             self.edit_in_line(MISSPELLED, at, word.len(), meant);
@@ -131,7 +147,7 @@ impl Candidates {
 /// Adds the candidates for a fault.
 fn add_candidates(list: &mut Candidates, fault: &Fault<'_>) {
     if let Some(front) = fault.line.strip_suffix(b"\r") {
-        list.edit_in_line(WINDOWS, front.len(), 1, b"");
+        list.edit_in_line(WINDOWS_LINE_ENDING, front.len(), 1, b"");
     }
     match fault.cause {
         Cause::Line => line_candidates(list, fault),

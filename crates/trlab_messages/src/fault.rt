@@ -78,7 +78,7 @@ fn push_line_forms(forms: &mut Draft, fault: &Fault<'_>) {
     }
 }
 
-/// Adds the forms that would be valid at a fault, if they say more than the cause.
+/// Adds the forms that would be valid at a fault, if the meaning of the cause does not contain them already.
 fn push_forms(forms: &mut Draft, fault: &Fault<'_>) {
     match fault.cause {
         Cause::Line | Cause::Number | Cause::Key | Cause::Order => match fault.subject {
@@ -98,8 +98,8 @@ fn push_forms(forms: &mut Draft, fault: &Fault<'_>) {
 
 /// Where to look for an error if nothing was found and no repair helps.
 fn hint_of(fault: &Fault<'_>) -> &'static str {
-    let may_begin = fault.wants(LineName::Motion) || fault.wants(LineName::Change);
-    if may_begin && mnemonic_named(name_and_operands(fault.line).0).is_some() {
+    let may_begin_program = fault.wants(LineName::Motion) || fault.wants(LineName::Change);
+    if may_begin_program && mnemonic_named(name_and_operands(fault.line).0).is_some() {
         "the line above. A program begins with `motion` or `change`."
     } else {
         cause_hint(fault.cause)
@@ -132,6 +132,7 @@ fn problem_at(body: &Body, fault: &Fault<'_>) -> Problem {
 
 /// Adds the first error of an input, and a repair if one helps.
 pub fn add_fault(body: &mut Body, fault: &Fault<'_>, repair: Option<Repair>) {
+    // An input that is too large or empty is rejected the same way, whichever command reads it.
     if fault.cause != Cause::TooBig && !fault.place.text.is_empty() {
         body.intro = intro_of(fault.subject);
     }

@@ -3,27 +3,37 @@
 use crate::amount::Amount;
 use crate::body::{Body, Number};
 use crate::lines::UnreadLines;
-use crate::rules::{add_next_rule, count_digits, megabytes};
+use crate::rules::{MEMORY_PER_INPUT_BYTE, add_next_rule, count_digits, megabytes};
 use trlab_jobs::Job;
 use trlab_road::Road;
+
+/// The bytes of a line `step s` besides the digits of s: `step ` and the LF.
+const STEP_LINE_BYTES: u64 = 6;
 
 /// The number of bytes that a run writes without `--every` and `--from`: for each step its line and a row per lane.
 fn output_bytes(road: &Road, steps: u32) -> u64 {
     let rows = u64::from(road.lanes()).saturating_mul(u64::from(road.length()).saturating_add(1));
     let mut bytes = 0u64;
     for step in 0..=steps {
-        let line = count_digits(u64::from(step)).saturating_add(6);
+        let line = count_digits(u64::from(step)).saturating_add(STEP_LINE_BYTES);
         bytes = bytes.saturating_add(line).saturating_add(rows);
     }
     bytes
 }
 
-/// An estimate of the bytes of memory of a run with one worker, fitted to measurements.
+/// The bytes of memory for each car of a run.
+const MEMORY_PER_CAR: u64 = 20;
+
+/// The bytes of memory for the program itself.
+const MEMORY_OF_PROGRAM: u64 = 3_000_000;
+
+/// An estimate of the memory, in bytes, that a run with one worker uses. Its numbers are fitted to measurements; they
+/// are also in docs/RELIABILITY.md.
 fn memory_bytes(text: &[u8], cars: u64) -> u64 {
     (text.len() as u64)
-        .saturating_mul(9)
-        .saturating_add(cars.saturating_mul(20))
-        .saturating_add(3_000_000)
+        .saturating_mul(MEMORY_PER_INPUT_BYTE)
+        .saturating_add(cars.saturating_mul(MEMORY_PER_CAR))
+        .saturating_add(MEMORY_OF_PROGRAM)
 }
 
 /// The numbers of the road of a job.

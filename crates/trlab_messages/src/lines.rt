@@ -42,6 +42,7 @@ impl<'a> UnreadLines<'a> {
 
     /// Reads the lines up to the first one that begins with `word`, and returns that one.
     pub fn read_to(&mut self, word: &[u8]) -> Option<NumberedLine<'a>> {
+        // There are no more lines than bytes.
         for _ in 0..self.unread.len() {
             let line = self.read()?;
             if head_word(line.line) == word {
@@ -58,6 +59,7 @@ impl<'a> UnreadLines<'a> {
         count: usize,
     ) -> Result<Vec<NumberedLine<'a>>> {
         let mut lines = Vec::new(alloc);
+        // There are no more lines than bytes.
         for _ in 0..self.unread.len() {
             if lines.len() >= count {
                 break;

@@ -1,6 +1,6 @@
 //! The JSON form of explanations: the members that describe the input, its error and its work.
 
-use crate::body::{Body, Known, Number, Problem, Rejection};
+use crate::body::{Body, InstructionFacts, Number, Problem, Rejection};
 use crate::causes::cause_meaning;
 use crate::fault::ByteSpan;
 use crate::object_writer::{
@@ -12,7 +12,7 @@ use json::Token;
 use trlab_code::CodeFault;
 use trlab_texts::Cause;
 
-/// The version of the format.
+/// The version of the JSON form, which its first member states.
 const FORMAT: u64 = 1;
 
 /// Adds the first and the last byte of a span, counted from 1.
@@ -82,7 +82,7 @@ fn add_rejection<W: ObjectWriter>(out: &mut W, rejection: &Rejection) {
 }
 
 /// Adds the facts known before each instruction of an accepted program.
-fn add_table<W: ObjectWriter>(out: &mut W, table: &[Known]) {
+fn add_table<W: ObjectWriter>(out: &mut W, table: &[InstructionFacts]) {
     begin_member(out, "known", Token::BeginArray);
     for known in table {
         out.token(Ok(Token::BeginObject));

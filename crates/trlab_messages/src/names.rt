@@ -65,7 +65,7 @@ pub fn line_after(text: &[u8], line: LineName) -> &'static [u8] {
     sample.strip_prefix(b"\n").unwrap_or(sample)
 }
 
-/// Whether a line of any input begins with this word, in any case.
+/// Whether a line of some kind of input begins with this word, in capital or small letters.
 pub fn is_name_of_line(word: &[u8]) -> bool {
     let mut names = LineName::ALL.iter();
     names.any(|name| word.eq_ignore_ascii_case(name.word()))
@@ -95,7 +95,8 @@ pub fn count_values(name: LineName) -> Option<usize> {
     }
 }
 
-/// The rest of a line after the word `rule`, if that is one of its first three words.
+/// The rest of a line after the word `rule`, if that is one of its first three words, as in `rule ..` and `at s rule
+/// ..`.
 pub fn after_rule(line: &[u8]) -> Option<&[u8]> {
     let mut left = line;
     for _ in 0..3 {

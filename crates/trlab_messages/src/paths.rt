@@ -30,7 +30,8 @@ impl Instructions {
     }
 }
 
-/// The instructions on paths that begin at `start`, with `start`.
+/// The instructions on the paths that begin at `start`, with `start` itself. One pass over the program finds them,
+/// because control only goes forward.
 pub fn reached_from(instrs: &[Instr], start: usize) -> Instructions {
     let mut reached = Instructions::only(start);
     for pc in start..instrs.len() {

@@ -5,12 +5,15 @@ use crate::sentence::Draft;
 use trlab_bounds::programs::CERTAIN;
 
 /// A probability above 0 and at most this many parts of 2^31 (one in a million) is probably a mistake.
-const SMALL: u32 = 2147;
+const SUSPICIOUSLY_SMALL: u32 = 2147;
 
-/// Adds a probability, which a file writes as p x 2^31.
+/// The number of decimals of a printed probability: enough to distinguish any two of them.
+const DECIMALS: u32 = 11;
+
+/// Adds a probability p, which the input states as p x 2^31.
 pub fn push_probability(facts: &mut Draft, parts: u32) {
-    let p = Amount::of(u64::from(parts), u64::from(CERTAIN), 11);
-    let warning = if 0 < parts && parts <= SMALL {
+    let p = Amount::of(u64::from(parts), u64::from(CERTAIN), DECIMALS);
+    let warning = if 0 < parts && parts <= SUSPICIOUSLY_SMALL {
         " Warning: less than one in a million. 2147483648 means always."
     } else {
         ""

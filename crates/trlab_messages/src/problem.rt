@@ -25,7 +25,7 @@ pub const WITH_BYTE_ORDER_MARK: &str =
     "the file begins with a byte order mark, which most editors do not show: \
     save it as UTF-8 without a byte order mark, or delete the first three bytes (`tail -c +4 FILE > NEW`).";
 
-/// The number of bytes before the cells in the line of a lane.
+/// The number of bytes before the cells in the line of a lane: those of `lane ` with its space.
 pub const BEFORE_CELLS: usize = 5;
 
 /// Adds the problem with a word that is not a number from `least` to `most`.
@@ -49,7 +49,7 @@ pub fn first_non_hex_digit(word: &[u8]) -> Option<usize> {
     word.iter().position(|byte| !byte.is_ascii_hexdigit())
 }
 
-/// Adds the problem with hexadecimal digits.
+/// Adds the problem with the hexadecimal digits of a key or of a line `code X`.
 fn push_digits_problem(found: &mut Draft, word: &[u8], is_key: bool) {
     let count = word.len();
     if is_key && count != KEY_DIGITS {
@@ -58,11 +58,11 @@ fn push_digits_problem(found: &mut Draft, word: &[u8], is_key: bool) {
     match first_non_hex_digit(word) {
         Some(before) => {
             let digit = Quoted(bytes_at(word, before, 1));
-            let place = before.saturating_add(1);
-            let line = if is_key { "of the key" } else { "after `code`" };
+            let number = before.saturating_add(1);
+            let context = if is_key { "of the key" } else { "after `code`" };
             write!(
                 found,
-                "`{digit}` (character {place} {line}) is not a hexadecimal digit."
+                "`{digit}` (character {number} {context}) is not a hexadecimal digit."
             )
         }
         None => write!(found, "{count} digits, an odd number: each byte takes two."),

@@ -5,7 +5,7 @@ mod register_facts;
 mod rejection;
 
 use crate::Result;
-use crate::body::{Body, Known, Number};
+use crate::body::{Body, InstructionFacts, Number};
 use crate::fault::Fault;
 use crate::lines::{NumberedLine, UnreadLines};
 use crate::program::draws::push_program_draws;
@@ -35,9 +35,11 @@ pub enum ProgramVerdict {
 #[derive(Clone, Copy)]
 pub struct Listing<'a> {
     code: &'a Code,
+    /// The lines of its instructions, in their order.
     lines: &'a [NumberedLine<'a>],
     /// The number of its first line.
     first_line: u32,
+    /// Whether the program is in bytes, on a line `code X`.
     is_in_bytes: bool,
 }
 
@@ -51,10 +53,11 @@ impl<'a> Listing<'a> {
         })
     }
 
-    /// The number of an instruction's line: `in_bytes` for a program in bytes.
-    fn line_number(&self, pc: u32, in_bytes: u32) -> u32 {
+    /// The number of an instruction's line. The instructions of a program in bytes have no lines, so the caller gives
+    /// the number for them.
+    fn line_number(&self, pc: u32, number_in_bytes: u32) -> u32 {
         if self.is_in_bytes {
-            in_bytes
+            number_in_bytes
         } else {
             self.line(pc).number
         }
@@ -74,7 +77,7 @@ impl<'a> Listing<'a> {
 
 /// An instruction of an accepted program, and its note's facts about each register that is set and about the side
 /// cell.
-fn known_before(alloc: Global, program: Listing<'_>, pc: u32, note: &Note) -> Known {
+fn facts_before(alloc: Global, program: Listing<'_>, pc: u32, note: &Note) -> InstructionFacts {
     let mut instruction = Draft::new(alloc);
     program.push_instruction(&mut instruction, pc);
     let mut facts = Draft::new(alloc);
@@ -86,7 +89,7 @@ fn known_before(alloc: Global, program: Listing<'_>, pc: u32, note: &Note) -> Kn
     if note.side {
         facts.push_line("the side cell is empty");
     }
-    Known {
+    InstructionFacts {
         line_number: program.line_number(pc, 0),
         instruction,
         facts,
@@ -95,18 +98,18 @@ fn known_before(alloc: Global, program: Listing<'_>, pc: u32, note: &Note) -> Kn
 
 /// Adds the budget of an accepted program, and the facts known before each instruction.
 fn add_accepted(body: &mut Body, program: Listing<'_>, budget: u32) {
-    // The head has its sentence.
+    // Only the JSON form needs this number: the text form has the sentence in the head.
     body.add_numbers(&[Number::whole("budget", "", u64::from(budget), "")]);
     let pushed = push_program_draws(body.alloc, &mut body.facts, program);
-    body.ok_or_fail(pushed);
-    // The notes of an accepted program are never refused.
+    body.ok_or_remember_failure(pushed);
+    // An accepted program has notes, so making them fails only if an allocation fails.
     let table = notes(body.alloc, program.code).map_err(|_| AllocError);
-    let Some(table) = body.ok_or_fail(table) else {
+    let Some(table) = body.ok_or_remember_failure(table) else {
         return;
     };
     let mut pc = 0u32;
     for note in &table {
-        body.add_known(known_before(body.alloc, program, pc, note));
+        body.add_instruction_facts(facts_before(body.alloc, program, pc, note));
         pc = pc.saturating_add(1);
     }
 }
@@ -137,12 +140,12 @@ fn instruction_lines<'a>(
 /// Adds the verdict on a program; `place` is its first line.
 fn add_verdict(body: &mut Body, code: &Code, place: &Place<'_>, verdict: ProgramVerdict) {
     let canonical = canonical_form(body.alloc, code, place.line.unwrap_or(b""));
-    let Some(canonical) = body.ok_or_fail(canonical) else {
+    let Some(canonical) = body.ok_or_remember_failure(canonical) else {
         return;
     };
     let below = UnreadLines::below(place.number, place.below());
     let lines = instruction_lines(body.alloc, code, &canonical, below);
-    let Some(lines) = body.ok_or_fail(lines) else {
+    let Some(lines) = body.ok_or_remember_failure(lines) else {
         return;
     };
     let program = Listing {

@@ -27,7 +27,8 @@ impl Drop for Edit {
 }
 
 impl Edit {
-    /// Two neighbouring lines in their new order, if the edit swaps them.
+    /// Two neighbouring lines in their new order, if the edit swaps them. No other edit both removes bytes and inserts
+    /// an LF.
     pub fn swapped_lines(&self) -> Option<(&[u8], &[u8])> {
         if self.removed == 0 {
             None
@@ -37,7 +38,7 @@ impl Edit {
     }
 }
 
-/// A change by a repair.
+/// The change that a repair makes.
 #[derive(Drop)]
 pub enum Change {
     /// The input is edited.
@@ -72,7 +73,7 @@ pub fn command_of(subject: Subject) -> &'static str {
     }
 }
 
-/// The line with the byte at `at`: usually the line at fault.
+/// The line with the byte at the position `at` of the text. Usually this is the line at fault, `error`.
 fn place_of<'a>(error: &Place<'a>, at: usize) -> Place<'a> {
     let length = error.line.unwrap_or(b"").len();
     if error.start <= at && at <= error.start.saturating_add(length) {
@@ -118,8 +119,8 @@ fn removed_lines<'a>(text: &'a [u8], edit: &Edit) -> &'a [u8] {
 
 /// Adds how to delete lines, from the line `first` on.
 fn push_deletion(how: &mut Draft, first: u32, lines: &[u8]) {
-    let ends = lines.iter().filter(|byte| **byte == b'\n').count();
-    let last = u32::try_from(ends)
+    let line_ends = lines.iter().filter(|byte| **byte == b'\n').count();
+    let last = u32::try_from(line_ends)
         .unwrap_or(u32::MAX)
         .saturating_add(first);
     if last == first {
@@ -129,7 +130,7 @@ fn push_deletion(how: &mut Draft, first: u32, lines: &[u8]) {
     }
 }
 
-/// Adds how to edit lines as a whole, or else a part of one.
+/// Adds how to make an edit: of whole lines if possible, and otherwise of a part of one line.
 fn push_edit(how: &mut Draft, place: &Place<'_>, before: usize, edit: &Edit) {
     let number = place.number;
     let length = place.line.unwrap_or(b"").len();

@@ -1,4 +1,4 @@
-//! The rules of a valid input with their probabilities, and two helpers for sizes.
+//! The rules of a valid input with their probabilities, and the sizes that jobs and sweeps have in common.
 
 use crate::body::Body;
 use crate::lines::UnreadLines;
@@ -39,13 +39,16 @@ pub fn add_next_rule(body: &mut Body, lines: &mut UnreadLines<'_>, name: &[u8], 
     let words = after_rule(found.line).unwrap_or(b"");
     if words == b"own".as_slice() {
         let pushed = push_rule_draws(body.alloc, &mut body.facts, lines, rule);
-        body.ok_or_fail(pushed);
+        body.ok_or_remember_failure(pushed);
     } else {
         push_probabilities(&mut body.facts, words);
     }
 }
 
-/// Bytes in millions, rounded up.
+/// The bytes of memory for each byte of a job or a sweep.
+pub const MEMORY_PER_INPUT_BYTE: u64 = 9;
+
+/// The number of megabytes, 1,000,000 bytes each, rounded up.
 pub fn megabytes(bytes: u64) -> u64 {
     bytes.saturating_add(999_999) / 1_000_000
 }

@@ -103,7 +103,7 @@ impl fmt::Display for Draft {
     }
 }
 
-/// Adds the byte of a character.
+/// Adds a character as a byte, or `?` for a character above U+00FF; an LF ends the line.
 fn push_character(page: &mut Page, character: char) -> Result<()> {
     match u8::try_from(character) {
         Ok(b'\n') => page.end_line(),

@@ -2,7 +2,7 @@
 
 use crate::body::{Body, Number};
 use crate::lines::UnreadLines;
-use crate::rules::{add_next_rule, count_digits, megabytes};
+use crate::rules::{MEMORY_PER_INPUT_BYTE, add_next_rule, count_digits, megabytes};
 use trlab_jobs::Sweep;
 use trlab_jobs::limits::MAX_CARS_IN_MEMORY;
 
@@ -33,7 +33,7 @@ impl CarCounts {
 
 /// How many of these cars start on lane 0 of two lanes: the cars are spread evenly over the cells, and the cells
 /// alternate between the lanes.
-fn cars_of_first_lane(cells: u64, cars: u32) -> u64 {
+fn cars_on_lane_0(cells: u64, cars: u32) -> u64 {
     let mut first = 0u64;
     for car in 0..cars {
         let cell = u64::from(car).saturating_mul(cells) / u64::from(cars).max(1);
@@ -44,19 +44,20 @@ fn cars_of_first_lane(cells: u64, cars: u32) -> u64 {
     first
 }
 
-/// Adds how many of these cars start on lane 0.
+/// Adds how many of these cars start on lane 0, with this key in the JSON form.
 fn add_start(body: &mut Body, key: &'static str, cells: u64, cars: u32) {
-    let first = cars_of_first_lane(cells, cars);
+    let first = cars_on_lane_0(cells, cars);
     body.add_numbers(&[
         Number::whole("", "With ", u64::from(cars), " cars, "),
         Number::whole(key, "", first, " start on lane 0."),
     ]);
 }
 
-/// An upper bound on the bytes of the heading of a table, which are 47.
+/// An upper bound on the number of bytes of a table's heading, which has 47.
 const HEADING_BYTES: u64 = 49;
 
-/// The bytes of a row besides its whole numbers: the commas, the end and the longest flow.
+/// The maximum number of bytes of a row besides the first six numbers: 6 commas, an LF, and a flow of 8 digits, because
+/// a flow is at most 35,000,000 millionths.
 const ROW_BYTES: u64 = 15;
 
 /// The maximum number of bytes of the table of a sweep.
@@ -66,9 +67,10 @@ fn output_bytes(sweep: &Sweep) -> u64 {
     let mut bytes = HEADING_BYTES;
     for count in &sweep.cars {
         let cars = u64::from(*count);
-        let times = cars.saturating_mul(measure);
-        let moves = times.saturating_mul(u64::from(sweep.limit));
-        for number in &[cars, cells, measure, moves, times, times] {
+        // Neither the stopped cars nor the lane changes of all steps are more than the car-steps.
+        let car_steps = cars.saturating_mul(measure);
+        let max_distance = car_steps.saturating_mul(u64::from(sweep.limit));
+        for number in &[cars, cells, measure, max_distance, car_steps, car_steps] {
             bytes = bytes.saturating_add(count_digits(*number));
         }
         bytes = bytes.saturating_add(ROW_BYTES);
@@ -76,7 +78,18 @@ fn output_bytes(sweep: &Sweep) -> u64 {
     bytes
 }
 
-/// An estimate of the memory, in bytes, that a sweep with one runner uses, fitted to measurements.
+/// The bytes of memory for each car that is kept.
+const MEMORY_PER_CAR: u64 = 26;
+
+/// The bytes of memory for each step of each point.
+const MEMORY_PER_STEP: u64 = 64;
+
+/// The bytes of memory for the program itself.
+const MEMORY_OF_PROGRAM: u64 = 4_000_000;
+
+/// An estimate of the memory, in bytes, that a sweep with one runner uses. Its numbers are fitted to measurements; they
+/// are also in docs/RELIABILITY.md. The cars of all points are kept, but not more than `MAX_CARS_IN_MEMORY` at once,
+/// and the runner has those of one road again: at most the cars of the point with the most.
 fn memory_bytes(text: &[u8], cars: &CarCounts, steps: u64) -> u64 {
     let most = u64::from(cars.most);
     let kept_cars = cars
@@ -84,10 +97,10 @@ fn memory_bytes(text: &[u8], cars: &CarCounts, steps: u64) -> u64 {
         .min(u64::from(MAX_CARS_IN_MEMORY))
         .saturating_add(most);
     (text.len() as u64)
-        .saturating_mul(9)
-        .saturating_add(kept_cars.saturating_mul(26))
-        .saturating_add(steps.saturating_mul(64))
-        .saturating_add(4_000_000)
+        .saturating_mul(MEMORY_PER_INPUT_BYTE)
+        .saturating_add(kept_cars.saturating_mul(MEMORY_PER_CAR))
+        .saturating_add(steps.saturating_mul(MEMORY_PER_STEP))
+        .saturating_add(MEMORY_OF_PROGRAM)
 }
 
 /// Adds the roads of a sweep, and how their cars start if they have two lanes.

@@ -12,11 +12,11 @@ fn push_problem(text: &mut Draft, problem: &Problem) {
     let number = problem.cause.number();
     let meaning = cause_meaning(problem.cause);
     writeln!(text, "Cause {number}: {meaning}");
-    let later = match problem.cause {
+    let before_others = match problem.cause {
         Cause::Program(_) => "",
         _ => "or ",
     };
-    text.push_lines("Expected: ", later, &problem.expected);
+    text.push_lines("Expected: ", before_others, &problem.expected);
     match problem.cause {
         Cause::Code(CodeFault::Opcode(pc) | CodeFault::Field(pc)) => {
             writeln!(text, "Instruction {pc}, counted from 0.")

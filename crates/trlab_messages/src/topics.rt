@@ -7,12 +7,13 @@ use trlab_code::Kind;
 use trlab_notes::Reason;
 use trlab_texts::Cause;
 
-/// Adds the last line of a page; without the first sentence if no input has this number.
-fn push_end(text: &mut Draft, all: &str, can_occur: bool) {
+/// Adds the last line of a page; `numbers` is `causes` or `reasons`. The advice to explain a file is left out if no
+/// input has this number.
+fn push_end(text: &mut Draft, numbers: &str, can_occur: bool) {
     if can_occur {
         text.push_str("To find it in your file: `trlab explain < FILE`. ");
     }
-    writeln!(text, "All {all}: docs/ERRORS.md.");
+    writeln!(text, "All {numbers}: docs/ERRORS.md.");
 }
 
 fn push_advice(text: &mut Draft, reason: Reason) {

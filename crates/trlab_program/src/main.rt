@@ -21,7 +21,7 @@ use trlab_command_line::{
     status_of_end,
 };
 
-/// The number of bytes of output that are gathered before they are written.
+/// The number of bytes of output that are gathered before they are written, so that few calls of the system are needed.
 const BUFFER_SIZE: usize = 65536;
 
 fn main(rt: HostRuntime) -> ExitCode {
@@ -34,7 +34,7 @@ fn main(rt: HostRuntime) -> ExitCode {
                     let is_typed = input.is_terminal();
                     let mut reader = Watched::new(input);
                     let mut writer = Watched::new(out);
-                    act(&rt, &arguments, request, is_typed, &mut reader, &mut writer)
+                    execute_or_report(&rt, &arguments, request, is_typed, &mut reader, &mut writer)
                 }
                 Err(_) => status_of_end(End::Memory),
             }
@@ -48,7 +48,8 @@ fn main(rt: HostRuntime) -> ExitCode {
     ExitCode::from(status)
 }
 
-/// Whether each line of the output is written as soon as it is complete.
+/// Whether each line of the output is written as soon as it is complete: the rows of a series can be followed while it
+/// runs.
 fn is_live(request: &Result<Request, Error>) -> bool {
     matches!(request, Ok(Request::Series { .. }))
 }
@@ -113,7 +114,7 @@ fn reads_input(request: Request) -> bool
 
 /// Executes the request of the arguments, or prints help or the error of `clap`. Returns the exit status. If the
 /// request reads input and it `is_typed`, a line on standard error first explains how to end the input.
-fn act<R: AllocGlobal + Threads + Wait + Sync + Eprint, S: Source, K: Sink>(
+fn execute_or_report<R: AllocGlobal + Threads + Wait + Sync + Eprint, S: Source, K: Sink>(
     rt: &R,
     arguments: &[String],
     request: Result<Request, Error>,

@@ -75,7 +75,8 @@ fn explain_request(
     }
 }
 
-/// The message for arguments of `explain` that do not go together; `what` is the first argument.
+/// The message for arguments of `explain` that do not go together, as `explain_request` found; `what` is the first
+/// argument.
 fn error_text(alloc: Global, kind: ErrorKind, what: &str) -> Result<String, AllocError> {
     match kind {
         ErrorKind::UnknownArgument => { format!(in alloc; "`explain {what}` takes no number") }

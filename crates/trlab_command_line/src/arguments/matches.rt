@@ -19,6 +19,7 @@ pub fn option_number(matches: &ArgMatches, option: &str) -> u32
 {
     match matches.get_one::<u32>(option) {
         Some(number) => number,
+        // The option has a default.
         None => unreachable!(),
     }
 }

@@ -1,7 +1,7 @@
 //! Candidates for keys, programs in bytes and lanes.
 
 use crate::Result;
-use crate::candidates::{Candidates, DIGITS};
+use crate::candidates::{Candidates, DIGITS_ONLY};
 use crate::fault::Fault;
 use crate::problem::{BEFORE_CELLS, KEY_DIGITS, first_non_hex_digit};
 use std::alloc::Global;
@@ -24,13 +24,13 @@ pub fn hex_candidates(list: &mut Candidates, fault: &Fault<'_>) {
     let (_, at) = digits.place();
     let word = digits.bytes();
     if word.starts_with(b"0x") {
-        list.edit_in_line(DIGITS, at, 2, b"");
+        list.edit_in_line(DIGITS_ONLY, at, 2, b"");
     }
     if let Some(place) = first_non_hex_digit(word) {
         let digit_at = at.saturating_add(place);
         match word.get(place) {
-            Some(b'o' | b'O') => list.edit_in_line(DIGITS, digit_at, 1, b"0"),
-            Some(b'l' | b'I') => list.edit_in_line(DIGITS, digit_at, 1, b"1"),
+            Some(b'o' | b'O') => list.edit_in_line(DIGITS_ONLY, digit_at, 1, b"0"),
+            Some(b'l' | b'I') => list.edit_in_line(DIGITS_ONLY, digit_at, 1, b"1"),
             _ => {}
         }
     } else if fault.cause == Cause::Key && word.len() < KEY_DIGITS {
@@ -42,15 +42,17 @@ pub fn hex_candidates(list: &mut Candidates, fault: &Fault<'_>) {
 /// Adds a candidate that writes version 1, because no instruction of the program needs version 2.
 pub fn version_candidate(list: &mut Candidates, fault: &Fault<'_>) {
     if let Some(space) = fault.line.iter().rposition(|byte| *byte == b' ') {
+        // The version is the fifth byte: a space and the 8 digits of the first four bytes come before it.
         let mistake = "the version is 1 if no instruction reads `headspeed`.";
         list.edit_in_line(mistake, space.saturating_add(9), 2, b"01");
     }
 }
 
-/// The maximum length of a lane for which an empty second lane is inserted.
+/// The maximum length of a lane for which an empty second lane is inserted, because the explanation shows the whole
+/// line.
 const LONGEST_LANE: usize = 100;
 
-/// Adds a candidate that writes a capital letter in a cell as a small one.
+/// Adds a candidate that writes a capital letter in a cell as a lower-case letter.
 pub fn cell_candidate(list: &mut Candidates, fault: &Fault<'_>, cell: u32) {
     let at = BEFORE_CELLS.saturating_add(cell as usize);
     let mistake = "a car is a digit or a lower-case letter.";

@@ -4,7 +4,9 @@ use crate::Result;
 use crate::alike::{NearestName, nearest_word};
 use crate::candidates::number::density_candidate;
 use crate::candidates::program::end_candidates;
-use crate::candidates::{COMMENT, COMMENTS_AND_EMPTY, Candidates, EMPTY, LATE};
+use crate::candidates::{
+    BOTH_OUTSIDE_PROGRAM, COMMENT_OUTSIDE_PROGRAM, Candidates, EMPTY_OUTSIDE_PROGRAM, MISPLACED,
+};
 use crate::fault::Fault;
 use crate::lines::UnreadLines;
 use crate::names::{CHECK_NAMES, RULE_NAMES, after_rule, belongs_in, is_name_of_line, line_named};
@@ -17,10 +19,10 @@ use trlab_lines::{cut, name_and_operands, next_line, without_indent};
 use trlab_texts::LineName;
 use trlab_texts::word::{head_word, without_prefix};
 
-/// The maximum length of a line that is rewritten, in bytes.
+/// The maximum length in bytes of a line that is rewritten, because the explanation shows the whole new line.
 const LONGEST_LINE: usize = 120;
 
-/// Words of other programs, and the lines that they mean.
+/// Words that other simulators use, and the lines that they mean.
 const OTHER_WORDS: [(&[u8], LineName); 14] = [
     (b"density", LineName::Cars),
     (b"count", LineName::Cars),
@@ -38,7 +40,7 @@ const OTHER_WORDS: [(&[u8], LineName); 14] = [
     (b"sample", LineName::Measure),
 ];
 
-/// The words of a line with a separator between each two, or a space if there is a comma already.
+/// Joins the words of a line with this separator; after a word that ends with a comma, only with a space.
 pub fn joined(alloc: Global, words: &[u8], separator: &[u8]) -> Result<Vec<u8>> {
     let mut bytes = Vec::new(alloc);
     let mut is_after_blank = false;
@@ -88,6 +90,7 @@ fn wordless_candidate(list: &mut Candidates, fault: &Fault<'_>) {
         return;
     }
     let mut below = fault.place.below();
+    // There are no more lines than bytes.
     for _ in 0..below.len() {
         match next_line(below) {
             Some((line, rest)) if is_comment(line) || is_blank(line) => {
@@ -99,17 +102,17 @@ fn wordless_candidate(list: &mut Candidates, fault: &Fault<'_>) {
         }
     }
     let mistake = match (has_comment, has_blank) {
-        (true, true) => COMMENTS_AND_EMPTY,
-        (true, false) => COMMENT,
-        (false, _) => EMPTY,
+        (true, true) => BOTH_OUTSIDE_PROGRAM,
+        (true, false) => COMMENT_OUTSIDE_PROGRAM,
+        (false, _) => EMPTY_OUTSIDE_PROGRAM,
     };
     list.delete_to(fault, mistake, below);
 }
 
-/// Adds a candidate that deletes a comment after words: the first `byte`, everything after it, and the blanks before
+/// Adds a candidate that deletes a comment after words: the first `mark`, everything after it, and the blanks before
 /// it.
-fn comment_candidate(list: &mut Candidates, fault: &Fault<'_>, byte: u8) {
-    let Some((front, _)) = cut(fault.line, byte) else {
+fn comment_candidate(list: &mut Candidates, fault: &Fault<'_>, mark: u8) {
+    let Some((front, _)) = cut(fault.line, mark) else {
         return;
     };
     let end = front
@@ -118,11 +121,12 @@ fn comment_candidate(list: &mut Candidates, fault: &Fault<'_>, byte: u8) {
     if let Some(end) = end {
         let kept = end.saturating_add(1);
         let removed = fault.line.len().saturating_sub(kept);
-        list.edit_in_line(COMMENT, kept, removed, b"");
+        list.edit_in_line(COMMENT_OUTSIDE_PROGRAM, kept, removed, b"");
     }
 }
 
-/// Adds candidates that delete a byte order mark, if the line at fault begins with one, and also a carriage return.
+/// Adds candidates for a byte order mark at the start of the line at fault: one that deletes it, and if the line also
+/// ends with a carriage return, one that deletes both, because deleting only one of them would not help.
 fn mark_candidates(list: &mut Candidates, fault: &Fault<'_>) {
     if let Some(line) = without_prefix(BYTE_ORDER_MARK, fault.line) {
         let mistake = "no file may begin with a byte order mark.";
@@ -135,8 +139,8 @@ fn mark_candidates(list: &mut Candidates, fault: &Fault<'_>) {
     }
 }
 
-/// Adds candidates for characters that are not allowed in any line.
-fn odd_candidates(list: &mut Candidates, fault: &Fault<'_>) {
+/// Adds candidates for a byte order mark, comments, empty lines and superfluous blanks, whatever the line should be.
+fn stray_character_candidates(list: &mut Candidates, fault: &Fault<'_>) {
     mark_candidates(list, fault);
     wordless_candidate(list, fault);
     blanks_candidate(list, fault);
@@ -155,7 +159,7 @@ fn nearest_wanted(alloc: Global, fault: &Fault<'_>, word: &[u8]) -> Result<Optio
     Ok(best.found)
 }
 
-/// Adds the names of valid lines that the first word may mean.
+/// Adds candidates that replace the first word with the name of a valid line that it may mean.
 fn name_candidates(list: &mut Candidates, fault: &Fault<'_>, word: &[u8]) {
     list.fix_spelling(0, word, nearest_wanted(list.alloc, fault, word));
     if word.eq_ignore_ascii_case(b"density") && fault.wants(LineName::Cars) {
@@ -168,7 +172,7 @@ fn name_candidates(list: &mut Candidates, fault: &Fault<'_>, word: &[u8]) {
     }
 }
 
-/// Adds the name of a rule that the word after `rule` may mean.
+/// Adds a candidate that replaces the word after `rule` with the name of a rule that it may mean.
 fn rule_candidate(list: &mut Candidates, fault: &Fault<'_>) {
     if let Some(rest) = after_rule(fault.line) {
         let name = head_word(rest);
@@ -191,7 +195,8 @@ fn lane_candidate(list: &mut Candidates, fault: &Fault<'_>) {
     }
 }
 
-/// Whether the line at fault, which begins with this word, may belong further down: no line above it has its name.
+/// Whether the line at fault, which begins with this word, may belong further down: lines of this name belong in the
+/// input, and none is above it.
 fn may_belong_below(fault: &Fault<'_>, word: &[u8]) -> bool {
     let mut above = UnreadLines::below(0, fault.place.above());
     matches!(line_named(word), Some(name) if belongs_in(name, fault.subject))
@@ -213,6 +218,7 @@ fn swap_candidate(list: &mut Candidates, fault: &Fault<'_>, word: &[u8]) {
         return;
     };
     let is_wanted = match line_named(head_word(below)) {
+        // A program has more lines, and all of them would have to move.
         None | Some(LineName::Motion | LineName::Change) => false,
         Some(name) => fault.wants(name),
     };
@@ -225,7 +231,8 @@ fn swap_candidate(list: &mut Candidates, fault: &Fault<'_>, word: &[u8]) {
     }
 }
 
-/// Adds a candidate that inserts a valid line, for each one except `at` lines and those of programs.
+/// Adds a candidate for each line that would be valid here: it inserts an example of this line. `at` lines are never
+/// missing, because a job needs none, and an example of a program would be no help.
 fn missing_candidates(list: &mut Candidates, fault: &Fault<'_>, mistake: &'static str) {
     for line in &LineName::ALL {
         match line {
@@ -236,7 +243,7 @@ fn missing_candidates(list: &mut Candidates, fault: &Fault<'_>, mistake: &'stati
     }
 }
 
-/// Adds the command for an input with this first word, if it is another command.
+/// Adds a candidate that reads the input with another command, if this first word belongs to an input of that command.
 fn command_candidate(list: &mut Candidates, fault: &Fault<'_>, word: &[u8]) {
     match subject_named(word) {
         Some(other) if fault.place.number == 1 && other != fault.subject => {
@@ -255,7 +262,7 @@ fn word_candidates(list: &mut Candidates, fault: &Fault<'_>, word: &[u8]) {
         swap_candidate(list, fault, word);
         let missing = "a line is missing above this one, for example this one.";
         missing_candidates(list, fault, missing);
-        list.delete_line(fault, LATE);
+        list.delete_line(fault, MISPLACED);
     }
 }
 
@@ -275,12 +282,12 @@ pub fn line_candidates(list: &mut Candidates, fault: &Fault<'_>) {
             }
         }
     } else {
-        odd_candidates(list, fault);
+        stray_character_candidates(list, fault);
         command_candidate(list, fault, word);
         if fault.subject == Subject::Check {
             let meant = nearest_word(list.alloc, word, &CHECK_NAMES);
             list.fix_spelling(0, word, meant);
-            list.delete_line(fault, LATE);
+            list.delete_line(fault, MISPLACED);
         } else {
             word_candidates(list, fault, word);
         }

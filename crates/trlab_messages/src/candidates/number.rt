@@ -1,6 +1,6 @@
 //! Candidates for numbers that are written as fractions, with a sign, in groups of digits or with a power of ten.
 
-use crate::candidates::{Candidates, DIGITS};
+use crate::candidates::{Candidates, DIGITS_ONLY};
 use crate::fault::Fault;
 use std::num::{nearest_u64_to_f64, saturating_f64_to_u64};
 use trlab_bounds::programs::CERTAIN;
@@ -24,14 +24,14 @@ pub const PROBABILITY: Fraction = Fraction {
 const DENSITY: &str =
     "`cars` takes a number of cars, not a density; this is that density on this road.";
 
-/// The number in the first line with this name above the fault, or 0.
-fn number_above(fault: &Fault<'_>, name: LineName, most: u32) -> u32 {
+/// The number, from 1 to `max`, in the first line with this name above the fault; 0 if there is none.
+fn number_above(fault: &Fault<'_>, name: LineName, max: u32) -> u32 {
     let mut left = fault.place.above();
     for _ in 0..fault.place.number {
         let Some((line, rest)) = next_line(left) else {
             break;
         };
-        if let Ok(number) = Excerpt::number_after(name, 1, most, line) {
+        if let Ok(number) = Excerpt::number_after(name, 1, max, line) {
             return number;
         }
         left = rest;
@@ -39,15 +39,18 @@ fn number_above(fault: &Fault<'_>, name: LineName, most: u32) -> u32 {
     0
 }
 
-/// Adds the number that the word after `at` bytes of the line may mean: this fraction of the whole, or the
-/// number itself.
-pub fn value_candidates(list: &mut Candidates, at: usize, word: &[u8], part: Option<Fraction>) {
+/// Adds a candidate that replaces the word at the position `at` of the line with the number that it may mean. If a
+/// fraction is given, a value of at most 1 means this part of its whole; any other value means itself.
+pub fn value_candidates(list: &mut Candidates, at: usize, word: &[u8], fraction: Option<Fraction>) {
     let Some(value) = value_of(word) else {
         return;
     };
-    let (mistake, number) = match part {
-        Some(part) if value <= 1.0 => (part.mistake, Some(nearest_part(value, part.whole))),
-        _ => (DIGITS, whole_number(value)),
+    let (mistake, number) = match fraction {
+        Some(fraction) if value <= 1.0 => (
+            fraction.mistake,
+            Some(nearest_part(value, fraction.whole)),
+        ),
+        _ => (DIGITS_ONLY, whole_number(value)),
     };
     if let Some(number) = number {
         let digits = format!(in list.alloc; "{number}");
@@ -69,12 +72,13 @@ pub fn density_candidate(list: &mut Candidates, fault: &Fault<'_>) {
     }
 }
 
-/// Adds the number that the word at fault in a job or sweep may mean: a part of 2^31 or of the cells, or as it is.
+/// Adds the number that the word at fault in a job or sweep may mean: a fraction of 2^31 for a probability, a fraction
+/// of the cells for a number of cars, or the word's own value.
 pub fn number_candidates(list: &mut Candidates, fault: &Fault<'_>) {
     let Wanted::Number { word, quantity, .. } = fault.wanted else {
         return;
     };
-    let part = match quantity {
+    let fraction = match quantity {
         Quantity::Probability => Some(PROBABILITY),
         Quantity::Cars { cells } => Some(Fraction {
             mistake: DENSITY,
@@ -83,11 +87,12 @@ pub fn number_candidates(list: &mut Candidates, fault: &Fault<'_>) {
         Quantity::Other => None,
     };
     let (_, at) = word.place();
-    value_candidates(list, at, word.bytes(), part);
+    value_candidates(list, at, word.bytes(), fraction);
 }
 
 /// The value of a whole number whose digits are in groups of three, for example `1,000`, `1_000` or `1'000`.
 fn grouped_of(word: &[u8]) -> Option<f64> {
+    // The comma of `0,500` is a decimal comma.
     if matches!(word.first(), Some(b'0')) {
         return None;
     }
@@ -142,7 +147,7 @@ fn value_of(word: &[u8]) -> Option<f64> {
         return Some(decimal_of(percent)? / 100.0);
     }
     match cut(word, b'/') {
-        Some((over, under)) => Some(decimal_of(over)? / decimal_of(under)?),
+        Some((numerator, denominator)) => Some(decimal_of(numerator)? / decimal_of(denominator)?),
         None => decimal_of(word),
     }
 }

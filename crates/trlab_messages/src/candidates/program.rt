@@ -4,7 +4,7 @@ use crate::Result;
 use crate::alike::{NearestName, edits_within, nearest_name};
 use crate::candidates::line::joined;
 use crate::candidates::number::{PROBABILITY, value_candidates};
-use crate::candidates::{Candidates, END, ENDLESS, OTHER_COMMENT};
+use crate::candidates::{Candidates, END_ALONE, FOREIGN_COMMENT, WITHOUT_END};
 use crate::fault::{ByteSpan, Fault};
 use crate::instruction::{OperandWord, operand_at_fault, start_of_name};
 use std::alloc::Global;
@@ -20,8 +20,8 @@ use trlab_texts::word::{head_word, without_prefix};
 /// The first words of the lines after which a program begins.
 const PROGRAM_HEADS: [&[u8]; 3] = [b"motion", b"change", b"notes"];
 
-/// The first words of the lines that may follow a program of a job or sweep.
-const FOLLOWING: [&[u8]; 7] = [
+/// The first words of the lines that may come after a program of a job or sweep.
+const WORDS_AFTER_PROGRAMS: [&[u8]; 7] = [
     b"steps", b"at", b"change", b"warm", b"measure", b"motion", b"code",
 ];
 
@@ -29,6 +29,7 @@ const FOLLOWING: [&[u8]; 7] = [
 fn is_like_end(alloc: Global, line: &[u8]) -> Result<bool> {
     let (name, _) = name_and_operands(line);
     let name = name.strip_suffix(b"\r").unwrap_or(name);
+    // The instruction `and` is one edit away from `end`.
     if mnemonic_named(name).is_some() {
         return Ok(false);
     }
@@ -44,14 +45,17 @@ struct EndPlaces {
     next: Option<usize>,
 }
 
+/// No place is found yet.
 const NOWHERE: EndPlaces = EndPlaces {
     like_end: None,
     next: None,
 };
 
+/// The places for a missing line `end`: those of an earlier program are forgotten when a later one begins.
 fn end_places(alloc: Global, text: &[u8]) -> Result<EndPlaces> {
     let mut places = NOWHERE;
     let mut left = text;
+    // There are no more lines than bytes.
     for _ in 0..text.len() {
         let Some((line, rest)) = next_line(left) else {
             break;
@@ -62,7 +66,7 @@ fn end_places(alloc: Global, text: &[u8]) -> Result<EndPlaces> {
         } else if places.like_end.is_none() && is_like_end(alloc, line)? {
             let length = line.len();
             places.like_end = Some(ByteSpan { start, length });
-        } else if places.next.is_none() && FOLLOWING.contains(&head_word(line)) {
+        } else if places.next.is_none() && WORDS_AFTER_PROGRAMS.contains(&head_word(line)) {
             places.next = Some(start);
         }
         left = rest;
@@ -73,24 +77,29 @@ fn end_places(alloc: Global, text: &[u8]) -> Result<EndPlaces> {
 /// Adds candidates with the line `end` in the last program of an input that has ended.
 pub fn end_candidates(list: &mut Candidates, fault: &Fault<'_>) {
     let places = end_places(list.alloc, fault.place.text);
-    let EndPlaces { like_end, next } = list.ok_or_fail(places).unwrap_or(NOWHERE);
+    let EndPlaces { like_end, next } = list.ok_or_remember_failure(places).unwrap_or(NOWHERE);
     if let Some(line) = like_end {
-        list.edit(END, line.start, line.length, b"end".to_vec(list.alloc));
+        list.edit(
+            END_ALONE,
+            line.start,
+            line.length,
+            b"end".to_vec(list.alloc),
+        );
     }
     if let Some(at) = next {
-        list.edit(ENDLESS, at, 0, b"end\n".to_vec(list.alloc));
+        list.edit(WITHOUT_END, at, 0, b"end\n".to_vec(list.alloc));
     }
-    list.insert_above(fault, ENDLESS, LineName::End);
+    list.insert_above(fault, WITHOUT_END, LineName::End);
 }
 
 /// Adds candidates that write `;` instead of the comment mark of other languages.
 fn other_comment_candidates(list: &mut Candidates, fault: &Fault<'_>) {
     let line = without_comment(fault.line);
     if let Some((front, _)) = cut(line, b'#') {
-        list.edit_in_line(OTHER_COMMENT, front.len(), 1, b";");
+        list.edit_in_line(FOREIGN_COMMENT, front.len(), 1, b";");
     }
     match cut(line, b'/') {
-        Some((front, [b'/', ..])) => list.edit_in_line(OTHER_COMMENT, front.len(), 2, b";"),
+        Some((front, [b'/', ..])) => list.edit_in_line(FOREIGN_COMMENT, front.len(), 2, b";"),
         _ => {}
     }
 }
@@ -101,7 +110,7 @@ fn like_end_candidate(list: &mut Candidates, fault: &Fault<'_>) {
         let mistake = "`trlab check` takes no line `end`: the program ends where the input ends.";
         list.delete_line(fault, mistake);
     } else {
-        list.edit_in_line(END, 0, fault.line.len(), b"end");
+        list.edit_in_line(END_ALONE, 0, fault.line.len(), b"end");
     }
 }
 
@@ -110,10 +119,10 @@ pub fn unknown_word_candidates(list: &mut Candidates, fault: &Fault<'_>) {
     other_comment_candidates(list, fault);
     let (label, _) = label_and_rest(without_comment(fault.line));
     let (name, _) = name_and_operands(fault.line);
-    if fault.subject != Subject::Check && FOLLOWING.contains(&name) {
-        list.insert_above(fault, ENDLESS, LineName::End);
+    if fault.subject != Subject::Check && WORDS_AFTER_PROGRAMS.contains(&name) {
+        list.insert_above(fault, WITHOUT_END, LineName::End);
     }
-    if let Some(true) = list.ok_or_fail(is_like_end(list.alloc, fault.line)) {
+    if let Some(true) = list.ok_or_remember_failure(is_like_end(list.alloc, fault.line)) {
         like_end_candidate(list, fault);
     }
     if !matches!(label, Some(label) if !is_label(label)) {
@@ -127,6 +136,7 @@ fn nearest_label<'a>(alloc: Global, place: &Place<'a>, word: &[u8]) -> Result<Op
     let text = place.text;
     let mut best = NearestName::to(word);
     let mut left = text;
+    // There are no more lines than bytes.
     for _ in 0..text.len() {
         let Some((line, rest)) = next_line(left) else {
             break;
@@ -150,13 +160,14 @@ fn nearest_label<'a>(alloc: Global, place: &Place<'a>, word: &[u8]) -> Result<Op
 pub fn label_candidate(list: &mut Candidates, fault: &Fault<'_>) {
     if let Some(OperandWord { at, word, .. }) = operand_at_fault(fault.line, Why::NoLabel) {
         let meant = nearest_label(list.alloc, &fault.place, word);
-        if let Some(Some(label)) = list.ok_or_fail(meant) {
+        if let Some(Some(label)) = list.ok_or_remember_failure(meant) {
             list.edit_in_line("probably a misspelled label.", at, word.len(), label);
         }
     }
 }
 
-/// Adds the operand that a word may mean. A number, also after `r`, is not a misspelled name.
+/// Adds candidates that replace a wrong operand with the one that it may mean. A number, also after `r`, is not taken
+/// for a misspelled name.
 fn word_candidate(list: &mut Candidates, found: OperandWord<'_>) {
     let OperandWord { operand, at, word } = found;
     let is_number = is_numeral(without_prefix(b"r", word).unwrap_or(word));

@@ -12,7 +12,7 @@ use trlab_lines::{Oddity, name_and_operands, oddity_of};
 use trlab_texts::word::head_word;
 use trlab_texts::{LineName, LineNames};
 
-/// The problem with the first line of an input that begins like no job, sweep or program.
+/// The problem with the first line of an input that begins neither like a job nor like a sweep or a program.
 const FIRST_LINE: &str = "the first line must be `road 1` (a job), `sweep 1` (a sweep), \
     or `motion` or `change` (a program).";
 
@@ -21,19 +21,19 @@ fn push_rule_problem(problem: &mut Draft, words: &[u8]) {
     let rule = head_word(words);
     let count = words.iter().filter(|byte| **byte == b' ').count();
     let name = Quoted(rule);
-    let takes = match count_probabilities(rule) {
+    let wanted = match count_probabilities(rule) {
         None => {
             return write!(
                 problem,
                 "unknown rule `{name}`. The rules are nasch, vdr, rickert and own."
             );
         }
-        Some(takes) if takes == count => return,
+        Some(wanted) if wanted == count => return,
         Some(0) => "no values",
         Some(1) => "one value",
         Some(_) => "two values",
     };
-    write!(problem, "`rule {name}` takes {takes}, found {count}.");
+    write!(problem, "`rule {name}` takes {wanted}, found {count}.");
 }
 
 /// Adds the problem with a line whose first word is not valid there.
@@ -48,6 +48,7 @@ fn push_name_problem(problem: &mut Draft, subject: Subject, word: &[u8]) {
             let word = Quoted(word);
             write!(problem, "a `{word}` line {belongs}.");
         }
+        // For an unknown word, the lines that were expected are enough.
         None if word != b"code".as_slice() && word != b"end".as_slice() => {}
         _ if subject == Subject::Check => {}
         _ => problem.push_str(
@@ -58,7 +59,7 @@ fn push_name_problem(problem: &mut Draft, subject: Subject, word: &[u8]) {
 
 /// Adds the problem with the values of a line whose name is valid there.
 fn push_values_problem(problem: &mut Draft, line: &[u8], name: LineName) {
-    let Some(takes) = count_values(name) else {
+    let Some(wanted) = count_values(name) else {
         return;
     };
     let words = line
@@ -68,10 +69,14 @@ fn push_values_problem(problem: &mut Draft, line: &[u8], name: LineName) {
     let count = words.saturating_sub(1);
     if matches!(name, LineName::Road | LineName::Sweep) {
         problem.push_str("the format version must be 1.");
-    } else if count != takes {
+    } else if count != wanted {
         let word = Quoted(name.word());
-        let takes = if takes == 0 { "no values" } else { "one value" };
-        write!(problem, "`{word}` takes {takes}, found {count}.");
+        let wanted = if wanted == 0 {
+            "no values"
+        } else {
+            "one value"
+        };
+        write!(problem, "`{word}` takes {wanted}, found {count}.");
         if name == LineName::Lane && count > 1 {
             problem.push_str(" Write an empty cell as `.`.");
         }
@@ -89,10 +94,11 @@ fn is_foreign(line: &[u8]) -> bool {
 /// Adds the problem with a line by its first word.
 fn push_word_problem(problem: &mut Draft, fault: &Fault<'_>, names: LineNames) {
     let word = head_word(fault.line);
-    let is_program = names.has(LineName::Motion) || names.has(LineName::Change);
+    let may_begin_program = names.has(LineName::Motion) || names.has(LineName::Change);
     match line_named(word) {
         Some(name) if names.has(name) => push_values_problem(problem, fault.line, name),
-        None if is_program && word == b"code".as_slice() => {}
+        None if may_begin_program && word == b"code".as_slice() => {}
+        // No line may come here at all.
         _ if names.is_empty() => {}
         None if begins_check(fault) && is_foreign(fault.line) => problem.push_str(FIRST_LINE),
         _ => push_name_problem(problem, fault.subject, word),

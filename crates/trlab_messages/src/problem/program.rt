@@ -78,7 +78,7 @@ pub fn push_program_problem(problem: &mut Draft, line: &[u8], why: Why) {
     }
 }
 
-/// An invalid label, or else the name of the instruction.
+/// The bytes of an invalid label, or otherwise of the instruction's name; `None` if the line has neither.
 pub fn word_span(line: &[u8]) -> Option<ByteSpan> {
     let (start, length) = match label_and_rest(without_comment(line)) {
         (Some(label), _) if !is_label(label) => (0, label.len()),

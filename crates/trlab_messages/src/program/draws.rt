@@ -11,7 +11,7 @@ use std::fmt;
 use trlab_code::{Code, Instr, WORDS};
 use trlab_rules::Rule;
 
-/// A draw of a program.
+/// An instruction `draw` of a program.
 #[derive(Clone, Copy)]
 struct Draw {
     /// The instruction, counted from 0.
@@ -66,13 +66,14 @@ fn push_draws(alloc: Global, facts: &mut Draft, program: Listing<'_>) -> Result<
     Ok(draws)
 }
 
-/// Whether one of these draws uses a random word.
+/// Whether one of these draws uses this random word.
 fn uses(draws: &[Draw], word: u8) -> bool {
     draws.iter().any(|draw| draw.word == word)
 }
 
-/// Adds the draws of a program that use a random word, and that a car may run in the same step as another one that
-/// uses it. `is_used_elsewhere`: whether the other program of the rule uses the word.
+/// Adds to `repeated` each draw of a program with this random word, if a car may run another draw with the same word in
+/// the same step: one on the same path, or any in the other program of the rule if that also uses the word
+/// (`is_used_elsewhere`).
 fn add_repeated(
     repeated: &mut Vec<Draw>,
     draws: &[Draw],
@@ -110,7 +111,7 @@ fn push_warning(facts: &mut Draft, word: u8, draws: &[Draw]) {
     facts.push_line("they see the same random number. Use a different word for each decision.");
 }
 
-/// Adds a warning for each random word of which a car may use two draws in a step. The car may run both programs.
+/// Adds a warning for each random word that a car may draw twice in a step, because the car may run both programs.
 fn push_repeated_words(
     alloc: Global,
     facts: &mut Draft,

@@ -17,7 +17,8 @@ fn variable_text(variable: usize) -> &'static [u8] {
     }
 }
 
-/// The level of a number of at most `high` to a variable, as far as their ranges determine it.
+/// The level of a number of at most `high` to a variable, as far as their ranges determine it: 2 if it must be below
+/// the variable, 1 if it must be at most the variable, and otherwise 0.
 fn level_of_ranges(note: &Note, inputs: &[AbstractValue], variable: usize, high: u32) -> u8 {
     let value = match note.regs.get(variable) {
         Some(Mark::Num(low, most)) => AbstractValue::Between(*low, *most),
@@ -32,11 +33,12 @@ fn level_of_ranges(note: &Note, inputs: &[AbstractValue], variable: usize, high:
 
 /// Adds the variables that bound a register from above, unless the bound follows from the ranges.
 fn push_orders(fact: &mut Draft, note: &Note, register: Register, high: u32) {
-    let own = register.number();
+    let bounded = register.number();
+    // A change program has all inputs, and a motion program's inputs have the same ranges in it.
     let inputs = entry_values(Kind::Change);
     for variable in 0..VARIABLES {
-        let level = note.levels[own][variable];
-        if variable == own || level <= level_of_ranges(note, &inputs, variable, high) {
+        let level = note.levels[bounded][variable];
+        if variable == bounded || level <= level_of_ranges(note, &inputs, variable, high) {
             continue;
         }
         let order = if level == 1 { "at most" } else { "below" };

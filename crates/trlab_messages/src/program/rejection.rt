@@ -37,7 +37,8 @@ fn push_largest(known: &mut Draft, largest: u64) {
     writeln!(known, "The result may be as large as {largest}.");
 }
 
-/// Adds by how much the known facts fall short for an instruction to be accepted, if that can be said.
+/// Adds a sentence on why the known facts are not enough to accept an instruction; only some reasons have such a
+/// sentence.
 fn push_obstacle(known: &mut Draft, reason: Reason, note: &Note, instr: Instr) {
     match (reason, instr) {
         (Reason::MaybeTooLarge, Instr::Add(_, a, b)) => {
@@ -70,7 +71,7 @@ fn push_obstacle(known: &mut Draft, reason: Reason, note: &Note, instr: Instr) {
 }
 
 /// Whether control can pass from one instruction to another.
-fn is_followed(program: Listing<'_>, from: u32, to: u32) -> bool {
+fn leads_to(program: Listing<'_>, from: u32, to: u32) -> bool {
     match program.code.instrs().get(from as usize) {
         Some(instr) => {
             let continues = instr.falls() && from.checked_add(1) == Some(to);
@@ -82,13 +83,13 @@ fn is_followed(program: Listing<'_>, from: u32, to: u32) -> bool {
 
 /// Adds the instructions from which control can pass to the rejected one, if there are several.
 fn push_paths(facts: &mut Draft, program: Listing<'_>, rejected: u32) {
-    let paths = (0..rejected).filter(|pc| is_followed(program, *pc, rejected));
+    let paths = (0..rejected).filter(|pc| leads_to(program, *pc, rejected));
     if paths.count() < 2 {
         return;
     }
     facts.push_line("Several paths lead here; only facts that hold on all of them are kept:");
     for pc in 0..rejected {
-        if is_followed(program, pc, rejected) {
+        if leads_to(program, pc, rejected) {
             program.push_instruction(facts, pc);
             facts.push_str("\n");
         }
@@ -133,7 +134,7 @@ fn add_reason(body: &mut Body, program: Listing<'_>, notes: &[Note], pc: u32, re
 /// Adds why a program is rejected at an instruction.
 pub fn add_rejection(body: &mut Body, program: Listing<'_>, pc: u32, reason: Reason) {
     let notes = notes_of_rejected(body.alloc, program.code);
-    if let Some(Some(notes)) = body.ok_or_fail(notes) {
+    if let Some(Some(notes)) = body.ok_or_remember_failure(notes) {
         add_reason(body, program, &notes, pc, reason);
     }
 }
