@@ -133,7 +133,7 @@ module _ (history later past : List Event) (book : BookState) (made : Event) (le
 
 -- the calls of a runner, one after another
 
-is_prop : (lease : ℕ) (found : Option JobState) → IsProp (MatchOption found ⊥ (λ (job : JobState). is_out lease job.out ≡ false))
+is_prop : (lease : ℕ) (found : Option JobState) → IsProp (MatchOption found ⊥ (λ (job : JobState). is_out lease job.lease_out ≡ false))
 is_prop lease None = hlevel props
 is_prop lease (Some job) = hlevel props
 

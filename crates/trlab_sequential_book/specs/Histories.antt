@@ -202,7 +202,7 @@ Offers made lease same =
 
 -- the job of the lease exists, and this lease is not out for it
 abbrev pub IsNotOut : BookState → LeaseState → Type 0
-IsNotOut book lease = MatchOption (slice_get book.jobs lease.job) ⊥ (λ job. is_out lease.number job.out ≡ false)
+IsNotOut book lease = MatchOption (slice_get book.jobs lease.job) ⊥ (λ job. is_out lease.number job.lease_out ≡ false)
 
 -- in a history that replays, a lease went out and ran only steps that the book ordered. If the book refuses
 -- its order or its return, with the correct verdict on it, then it is not out: another call has ended it

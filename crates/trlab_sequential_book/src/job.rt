@@ -33,7 +33,7 @@ pub(crate) struct JobRecord {
     done: u32,
     cancelled: bool,
     /// The number of the lease that is out.
-    out: Option<u32>,
+    lease_out: Option<u32>,
     /// The road at the steps done.
     road: SharedRoad,
     tally: StepTally,
@@ -49,7 +49,7 @@ impl Drop for JobRecord {
             high: _high,
             done: _done,
             cancelled: _cancelled,
-            out: _out,
+            lease_out: _lease_out,
             road: _road,
             tally: _tally,
         } = self;
@@ -69,7 +69,7 @@ impl Model for JobRecord {
       high = job.high;
       done = job.done;
       cancelled = job.cancelled;
-      out = job.out;
+      lease_out = job.lease_out;
     } };
 
     ghost invariant = { λ job. IsJob
@@ -80,7 +80,7 @@ impl Model for JobRecord {
           high = job.high;
           done = job.done;
           cancelled = job.cancelled;
-          out = job.out;
+          lease_out = job.lease_out;
         })
         job.road job.tally };
 }
@@ -106,7 +106,7 @@ impl JobRecord {
             high: 0,
             done: 0,
             cancelled: false,
-            out: None,
+            lease_out: None,
             road,
             tally: no_tally(),
         })
@@ -145,10 +145,10 @@ impl JobRecord {
         ensures reply { done_reply result ≡ (revoke_outcome self.old).reply }
         ensures job { self.new ≡ (revoke_outcome self.old).job }
     {
-        if self.out.is_none() {
+        if self.lease_out.is_none() {
             return Err(BookFault::StrangerLease);
         }
-        self.out = None;
+        self.lease_out = None;
         Ok(())
     }
 
@@ -161,7 +161,7 @@ impl JobRecord {
             return Err(BookFault::Ended);
         }
         self.cancelled = true;
-        self.out = None;
+        self.lease_out = None;
         Ok(())
     }
 
@@ -169,7 +169,7 @@ impl JobRecord {
     pub fn is_free(&self) -> bool
         ensures { result ≡ is_free self.now }
     {
-        self.out.is_none() && !self.cancelled && self.done < self.steps
+        self.lease_out.is_none() && !self.cancelled && self.done < self.steps
     }
 
     /// Lends the job. `index` is the job's number, `number` the lease's.
@@ -182,7 +182,7 @@ impl JobRecord {
         let road = Arc::new(alloc, copy)?;
         let base_road = self.road.share()?;
         let seed = self.seed.get();
-        self.out = Some(number);
+        self.lease_out = Some(number);
         Ok(Lease {
             job: index,
             number,
@@ -221,7 +221,7 @@ impl JobRecord {
     fn accepts_lease(&self, lease: &Lease, runs_its_road: bool) -> bool
         ensures { result ≡ accepts_lease (offered lease.now runs_its_road) self.now }
     {
-        match self.out {
+        match self.lease_out {
             Some(number) => {
                 number == lease.number()
                     && lease.base_step() == self.done
@@ -295,7 +295,7 @@ impl JobRecord {
         self.tally = self.tally_with(&lease);
         self.done = lease.step();
         self.road.come_to(lease.into_road());
-        self.out = None;
+        self.lease_out = None;
         Ok(())
     }
 
