@@ -201,7 +201,7 @@ pub record IsPut (s t : BookState) (call : Call) (said : Reply) (history items :
   pub leads : LeadsAs ran_out s call t
   pub items_are : MatchBool (is_event said) (items ≡ history ++ event call said ∷ []) (items ≡ history)
 
--- `put_event` establishes it
+-- `append_event` establishes it
 pub put : {s t : BookState} {call noted : Call} {told said : Reply} {history items : List Event} (ran_out : Bool) → (ran_out ≡ true → has_full_history s ≡ false)
     → (ran_out ≡ true → said ≡ Refused Memory) → RepliesAs ran_out said s call → LeadsAs ran_out s call t → noted ≡ call → told ≡ said
     → MatchBool (is_event told) (items ≡ history ++ event noted told ∷ []) (items ≡ history) → IsPut s t call said history items

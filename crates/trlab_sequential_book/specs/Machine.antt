@@ -14,7 +14,8 @@ use Rattle.trlab_sequential_book.specs.declared.event.Call.TheVariants as call
 use Rattle.trlab_sequential_book.specs.declared.event.Reply.TheVariants as reply
 
 -- a job: its seed and its sheet, the number of its steps, of steps ever ordered (`high`) and of steps done,
--- whether it was cancelled, and the number of the lease that is out, if one is. For example, with `high` 5
+-- whether it was cancelled, and the number of the lease that is out, if one is. Steps below `high` keep the
+-- rules under which they were ordered, even if their lease is revoked. For example, with `high` 5
 -- and `done` 3 the steps 0 to 2 are done, and steps 3 and 4 are ordered but not done
 pub record JobState : Type 0 where
   pub seed : Seed

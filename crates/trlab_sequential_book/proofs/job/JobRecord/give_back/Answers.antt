@@ -31,7 +31,7 @@ invariant_of-self c =
     let state = job_state j.seed j.sheet j.steps j.high j.done j.cancelled j.lease_out in
     let own : accepts_lease (offered lease c.args.runs_its_road) c.args.self.now ≡ true = sym c.accepts_lease.ensures ∙ c.if-not-accepts_lease.false in
     let parts = own_parts (offered lease c.args.runs_its_road) state (subst (λ (s : JobState). accepts_lease (offered lease c.args.runs_its_road) s ≡ true) (sym c.self.view_is) own) in
-    rw (c.step-self-inside.ensures.value, c.come_to.ensures, c.into_road.ensures) (record {
+    rw (c.step-self-inside.ensures.value, c.advance_to.ensures, c.into_road.ensures) (record {
       ordered = parts.1;
       within = c.self.invariant.within;
       begin = c.self.invariant.begin;
