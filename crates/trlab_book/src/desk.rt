@@ -241,8 +241,8 @@ impl<L: Ledger> SharedBook<L> {
         answer
     }
 
-    /// The fault of a call for which an allocation failed before the lock was taken: `HistoryFull` if the history is full,
-    /// and `Memory` otherwise.
+    /// The fault of a call for which an allocation failed before the lock was taken: `HistoryFull` if the history is
+    /// full, and `Memory` otherwise.
     fn refuse_without_memory<R: Wait>(&self, rt: &R, desk: &mut Desk<L>) -> BookFault
         ensures none { is_event (Refused result) ≡ false }
         ensures desk { (part_count desk.new ≡ part_count desk.old) × MakesNoEvent desk.old (Refused result) desk.new }

@@ -93,8 +93,8 @@ impl Kept {
         answer
     }
 
-    /// Replaces the rule of a job. The history keeps `call`, which `replace_call` makes before the lock of a shared book is
-    /// taken.
+    /// Replaces the rule of a job. The history keeps `call`, which `replace_call` makes before the lock of a shared
+    /// book is taken.
     pub(crate) fn replace(&mut self, job: u32, rule: Rule, call: Call) -> Result<u32, BookFault>
         requires { call ≡ Replace job rule }
         ensures made { Records self.old (Replace job rule) (number_reply result) self.new }
@@ -124,8 +124,8 @@ impl Kept {
         answer
     }
 
-    /// Orders the next step of a lease. As in `Book::order`, the allocator is not used: the order shares its rule with the
-    /// sheet, and the history grows with its own allocator.
+    /// Orders the next step of a lease. As in `Book::order`, the allocator is not used: the order shares its rule with
+    /// the sheet, and the history grows with its own allocator.
     ///
     /// # Errors
     ///

@@ -70,8 +70,8 @@ pub fn run_jobs<L: Ledger + Send + Sync, R: Threads + Wait + Sync, G: Gate + Syn
     }
 }
 
-/// `run_jobs`, with the desk and the result as a pair. It starts a thread for one runner, which gets one part of the desk,
-/// and calls itself for the other runners with the rest. The last runner runs on the calling thread.
+/// `run_jobs`, with the desk and the result as a pair. It starts a thread for one runner, which gets one part of the
+/// desk, and calls itself for the other runners with the rest. The last runner runs on the calling thread.
 fn run_all<L: Ledger + Send + Sync, R: Threads + Wait + Sync, G: Gate + Sync>(
     rt: &R,
     alloc: Global,

@@ -204,13 +204,13 @@ impl Book {
         found.is_run_by(lease)
     }
 
-    /// Orders a lease's next step, and returns the rule in force there. It takes an allocator, as `lease` and `read` do,
-    /// but needs none: the order shares the rule with the job's sheet.
+    /// Orders a lease's next step, and returns the rule in force there. It takes an allocator, as `lease` and `read`
+    /// do, but needs none: the order shares the rule with the job's sheet.
     ///
     /// # Errors
     ///
-    /// `HistoryFull`, `NoSuchJob`, `Ended` or `StrangerLease`; `Memory` only if the rule has so many owners that one more
-    /// cannot be counted.
+    /// `HistoryFull`, `NoSuchJob`, `Ended` or `StrangerLease`; `Memory` only if the rule has so many owners that one
+    /// more cannot be counted.
     pub fn order(&mut self, _: Global, lease: &Lease) -> Result<Order, BookFault>
         ensures reply { (runs_its_road : Bool) → (IsTrue runs_its_road ↔ RunsRoadOfItsJob self.old.jobs lease.now)
             → RepliesAs (is_memory result) (order_reply result) self.old (OrderCall (offered lease.now runs_its_road)) }
@@ -224,8 +224,8 @@ impl Book {
         self.order_as(lease, runs_its_road)
     }
 
-    /// `order`, for callers that already have the result of `lease_runs_its_road(lease)`, so that the roads are compared
-    /// once.
+    /// `order`, for callers that already have the result of `lease_runs_its_road(lease)`, so that the roads are
+    /// compared once.
     ///
     /// # Errors
     ///

@@ -13,8 +13,8 @@ pub struct Offered {
     pub base: u32,
     /// The next step of the lease.
     pub step: u32,
-    /// Whether the lease runs the road of its job: with the same key and road number, from the same road, under the same
-    /// rules.
+    /// Whether the lease runs the road of its job: with the same key and road number, from the same road, under the
+    /// same rules.
     pub same: bool,
 }
 

@@ -22,13 +22,14 @@ use trlab_rules::Rule;
 use trlab_step::{StepRoom, StepTally, no_tally, suits, tally_sum};
 use trlab_words::Key;
 
-/// A job. Contracts do not see its road and its tally, because these follow from the seed, the sheet and the steps done.
+/// A job. Contracts do not see its road and its tally, because these follow from the seed, the sheet and the steps
+/// done.
 pub(crate) struct JobRecord {
     seed: SharedSeed,
     sheet: Sheet,
     steps: u32,
-    /// The number of steps that were ever ordered. It never falls, so an ordered step keeps its rule, even if its lease is
-    /// revoked before it is run.
+    /// The number of steps that were ever ordered. It never falls, so an ordered step keeps its rule, even if its lease
+    /// is revoked before it is run.
     high: u32,
     /// The number of steps done: those of the leases that were given back.
     done: u32,
@@ -218,8 +219,8 @@ impl JobRecord {
             .are_in_force(lease.base_step(), lease.applied(), lease.is_steady())
     }
 
-    /// Whether a lease may be ordered or given back: it is the one that is out for this job, begins at the steps done, has
-    /// run no step that was not ordered, and runs the job's road (`runs_its_road`).
+    /// Whether a lease may be ordered or given back: it is the one that is out for this job, begins at the steps done,
+    /// has run no step that was not ordered, and runs the job's road (`runs_its_road`).
     fn accepts_lease(&self, lease: &Lease, runs_its_road: bool) -> bool
         ensures { result ≡ accepts_lease (offered lease.now runs_its_road) self.now }
     {
@@ -264,7 +265,8 @@ impl JobRecord {
         })
     }
 
-    /// The job's tally plus the tallies of the steps that a lease has run. Steps before the seed's `warm` are not counted.
+    /// The job's tally plus the tallies of the steps that a lease has run. Steps before the seed's `warm` are not
+    /// counted.
     fn tally_with(&self, lease: &Lease) -> StepTally
         requires base { lease.now.base.step ≡ self.now.done }
         requires own { RunsRoadOfJob self.now lease.now }

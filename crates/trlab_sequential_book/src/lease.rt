@@ -73,8 +73,8 @@ pub struct Lease {
     pub(crate) road: Arc<Road, Global>,
     /// The steps that were run, in order.
     pub(crate) applied: Vec<ExecutedStep>,
-    /// If true, all steps that were run had the same rule, so one comparison shows that it was in force in all of them; if
-    /// false, they may have had several.
+    /// If true, all steps that were run had the same rule, so one comparison shows that it was in force in all of them;
+    /// if false, they may have had several.
     pub(crate) is_steady: bool,
     /// Memory that is reused by each step.
     pub(crate) room: StepRoom,
@@ -202,7 +202,8 @@ impl Lease {
         self.road
     }
 
-    /// Runs the ordered step. The executor computes the answers of the cars; the next road is the same for every executor.
+    /// Runs the ordered step. The executor computes the answers of the cars; the next road is the same for every
+    /// executor.
     ///
     /// # Errors
     ///

@@ -153,8 +153,8 @@ impl Sheet {
     }
 }
 
-/// Makes room for an entry that begins at the step `from`, where no entry begins later. Drops the last entry if it begins
-/// at the same step, because the new entry replaces it.
+/// Makes room for an entry that begins at the step `from`, where no entry begins later. Drops the last entry if it
+/// begins at the same step, because the new entry replaces it.
 fn make_room(entries: &mut Vec<(u32, SharedRule)>, from: u32) -> Result<(), BookFault>
     requires sheet { IsBookSheet entries.old.items }
     requires begin { BeginBy from entries.old.items }
