@@ -7,7 +7,7 @@ use Rattle.trlab_step.proofs.RunLaws.{run_comes_to_road, road_at_is_one}
 use Rattle.trlab_jobs.specs.{Job.{Job, seed_of, sheet_of}, Stored.IsStoredJob}
 use Rattle.trlab_campaign.specs.{Output.{IsOutputForJob, shown_text, steps_text}, Ending.WroteAll}
 use Rattle.trlab_campaign.specs.{Ending.{WroteByResult, WrotePrefix}, Writers.{HasWritten, AddsByResult}}
-use Rattle.trlab_campaign.{specs.Writers.{AddsPrefix, SinkBytes}, proofs.{Sheets.plain_sheet, Owed.Owes}}
+use Rattle.trlab_campaign.{specs.Writers.{AddsPrefix, SinkBytes}, proofs.{Sheets.stored_sheet, Owed.Owes}}
 use Rattle.trlab_campaign.proofs.Owed.{owes_all, owes_less, owes_prefix, owes_none}
 
 -- the text of a number of steps, of those that are shown
@@ -52,7 +52,7 @@ Writes shown steps start step left run old now = (job : Job) → Begins job step
 -- a job that was read has a road at each step of its run
 pub roads_of : (job : Job) → IsStoredJob job → (roads : ℕ → Cells) × Roads job roads
 roads_of job plain =
-    let at = λ (s : ℕ). run_comes_to_road (seed_of job) (sheet_of job) s plain.legal (plain_sheet job plain) in
+    let at = λ (s : ℕ). run_comes_to_road (seed_of job) (sheet_of job) s plain.legal (stored_sheet job plain) in
     (λ s. (at s).0, λ s. ((at s).1, (at s).2))
 
 -- before the first step

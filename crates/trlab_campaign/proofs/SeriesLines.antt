@@ -9,7 +9,7 @@ use Rattle.trlab_jobs.specs.{Job.{Job, seed_of, sheet_of}, Stored.IsStoredJob}
 use Rattle.trlab_campaign.specs.{Ending.{WroteByResult, WrotePrefix}, SeriesOutput.{IsCourse, IsSeries}}
 use Rattle.trlab_campaign.specs.SeriesOutput.{IsSeriesOutputForJob, first_windows, nth_window, window_of}
 use Rattle.trlab_campaign.specs.Writers.{HasWritten, AddsByResult, AddsPrefix, SinkBytes}
-use Rattle.trlab_campaign.proofs.{Courses.course_of, WrittenBytes.adds_more, Sheets.plain_sheet, Owed.Owes}
+use Rattle.trlab_campaign.proofs.{Courses.course_of, WrittenBytes.adds_more, Sheets.stored_sheet, Owed.Owes}
 use Rattle.trlab_campaign.proofs.Owed.{owes_all, owes_prefix, owes_less}
 
 -- the lines of `count` windows from window k on
@@ -55,7 +55,7 @@ then_wrote (Err e) first rest old mid new a b =
 module _ (job : Job) (every from count steps : ℕ) (run : Progress) (stored : IsStoredJob job) (starts : run ≡ at_start (seed_of job) (sheet_of job)) (ends : steps ≡ job.steps)
     (whole : (k : ℕ) → (k < count) ↔ (from + (k + 1) * every ≤ steps)) where
   job_course : (roads : ℕ → Cells) × (tallies : ℕ → StepTally) × IsCourse (seed_of job) (sheet_of job) roads tallies
-  job_course = course_of (seed_of job) (sheet_of job) stored.legal (plain_sheet job stored)
+  job_course = course_of (seed_of job) (sheet_of job) stored.legal (stored_sheet job stored)
 
   run_course : IsCourse run.seed run.sheet job_course.0 job_course.1
   run_course = subst (λ (r : Progress). IsCourse r.seed r.sheet job_course.0 job_course.1) (sym starts) job_course.2

@@ -28,7 +28,7 @@ pub trait Account {
     // The possible whole outputs for a job, each marked as a rejection or not.
     ghost outputs: { Self → Told → Outputs };
 
-    /// The number of steps by which it advances a job's run, for reports of progress.
+    /// The number of steps by which `write_job` advances a job's run, for reports of progress.
     fn steps(&self, job: &Job) -> u32;
 
     /// Runs a job and writes the output, without flushing the writer.
