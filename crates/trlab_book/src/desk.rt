@@ -132,10 +132,10 @@ impl<L: Ledger> SharedBook<L> {
     /// The same book and the desk, if events were made at other desks that were not gathered into this one. The desk
     /// has then seen that it lacks events. A desk with all parts always closes the book.
     pub fn close(self, desk: Desk<L>) -> Result<(Book, Vec<Event>), (SharedBook<L>, Desk<L>)>
-        ensures order { IfOk result (λ r. IsLinearization r.1.items (subhistory_of desk)) }
-        ensures replays { IfOk result (λ r. ∥ Replays r.1.items r.0 ∥₁) }
-        ensures err { IfErr result (λ r. LacksEvents desk r.1) }
-        ensures book { IfErr result (λ r. IsSameBook self r.0) }
+        ensures order { IfOk result (λ closed. IsLinearization closed.1.items (subhistory_of desk)) }
+        ensures replays { IfOk result (λ closed. ∥ Replays closed.1.items closed.0 ∥₁) }
+        ensures err { IfErr result (λ returned. LacksEvents desk returned.1) }
+        ensures book { IfErr result (λ returned. IsSameBook self returned.0) }
         ensures whole { part_count desk ≡ ALL_PARTS → IsOk result }
     {
         let SharedBook { lock, strands } = self;
@@ -179,14 +179,14 @@ impl<L: Ledger> SharedBook<L> {
             strand,
         } = one;
         let Desk {
-            parts: more,
-            count: others,
-            strand: joined,
+            parts: other_parts,
+            count: other_count,
+            strand: other_strand,
         } = other;
-        let strand = self.strands.gather(strand, joined);
+        let strand = self.strands.gather(strand, other_strand);
         Desk {
-            parts: parts + more,
-            count: count.saturating_add(others),
+            parts: parts + other_parts,
+            count: count.saturating_add(other_count),
             strand,
         }
     }

@@ -50,9 +50,9 @@ impl Kept {
     fn make_room(&mut self) -> Result<(), BookFault>
         ensures unchanged { IsUnchanged self.old self.new }
         ensures room { OnOk result (vec_len self.new.history < vec_capacity self.new.history) }
-        ensures none { IfErr result (λ f. is_event (Refused f) ≡ false) }
-        ensures full_history { IfErr result (λ f.
-            (Refused f ≡ Refused HistoryFull) ↔ (has_full_history self.old.book ≡ true)) }
+        ensures none { IfErr result (λ fault. is_event (Refused fault) ≡ false) }
+        ensures full_history { IfErr result (λ fault.
+            (Refused fault ≡ Refused HistoryFull) ↔ (has_full_history self.old.book ≡ true)) }
     {
         if self.history.reserve(1).is_err() {
             return Err(self.fault_without_memory());
@@ -114,7 +114,7 @@ impl Kept {
     /// Those of `Book::lease`; `Memory` also if the history cannot grow.
     pub fn lease(&mut self, alloc: Global) -> Result<Option<Lease>, BookFault>
         ensures made { Records self.old LeaseCall (lease_reply result) self.new }
-        ensures lent { IfOk result (λ o. IsFreshIfLent self.old.book.jobs self.old.book.next o) }
+        ensures lent { IfOk result (λ lent. IsFreshIfLent self.old.book.jobs self.old.book.next lent) }
         ensures full_history { RefusesIfFull self.old (lease_reply result) }
     {
         self.make_room()?;
@@ -133,8 +133,8 @@ impl Kept {
     pub fn order(&mut self, _: Global, lease: &Lease) -> Result<Order, BookFault>
         ensures made { (runs_its_road : Bool) → (IsTrue runs_its_road ↔ RunsRoadOfItsJob self.old.book.jobs lease.now)
             → Records self.old (OrderCall (offered lease.now runs_its_road)) (order_reply result) self.new }
-        ensures rule { IfOk result (λ o. HasRuleInForce self.old.book.jobs o) }
-        ensures fits { IfOk result (λ o. FitsOrder lease.now o) }
+        ensures rule { IfOk result (λ order. HasRuleInForce self.old.book.jobs order) }
+        ensures fits { IfOk result (λ order. FitsOrder lease.now order) }
         ensures full_history { RefusesIfFull self.old (order_reply result) }
         ensures noted { (runs_its_road : Bool)
             × OnTrue (is_event (order_reply result))
@@ -215,7 +215,7 @@ impl Kept {
     /// Those of `Book::read`; `Memory` also if the history cannot grow.
     pub fn read(&mut self, alloc: Global, job: u32) -> Result<Snapshot, BookFault>
         ensures made { Records self.old (Read job) (read_reply result) self.new }
-        ensures seen { IfOk result (λ s. ShowsJob self.old.book.jobs job s) }
+        ensures seen { IfOk result (λ snapshot. ShowsJob self.old.book.jobs job snapshot) }
         ensures full_history { RefusesIfFull self.old (read_reply result) }
     {
         self.make_room()?;

@@ -60,8 +60,8 @@ pub fn run_jobs<L: Ledger + Send + Sync, R: Threads + Wait + Sync, G: Gate + Syn
     requires workers { (0 < workers) × (workers ≤ MAX_WORKERS) }
     requires runners { (0 < runners) × (runners ≤ MAX_RUNNERS) × (runners ≤ part_count desk) }
     ensures { MatchResult result
-        (λ d. HasEnded runners (Ok tt) desk d)
-        (λ e. HasEnded runners (Err e.1) desk e.0) }
+        (λ ended_desk. HasEnded runners (Ok tt) desk ended_desk)
+        (λ failed. HasEnded runners (Err failed.1) desk failed.0) }
 {
     let (desk, ended) = run_all(rt, alloc, book, desk, runners, workers, gate);
     match ended {

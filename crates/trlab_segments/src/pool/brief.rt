@@ -61,13 +61,14 @@ pub fn brief_of<A, P: Asked<A> + Drop>(
     workers: u32,
 ) -> Result<(Brief<P>, Drawer), AllocError>
     requires { (0 < workers) × (workers ≤ MAX_WORKERS) }
-    ensures asked { IfOk result (λ r. IsBriefOf program.now dice.now road.old r.0) }
-    ensures cut { IfOk result (λ r. CoversAllCars r.0) }
-    ensures new { IfOk result (λ r. HasDrawnNone r.0.tickets r.1) }
+    ensures asked { IfOk result (λ begun. IsBriefOf program.now dice.now road.old begun.0) }
+    ensures cut { IfOk result (λ begun. CoversAllCars begun.0) }
+    ensures new { IfOk result (λ begun. HasDrawnNone begun.0.tickets begun.1) }
     ensures unchanged { OnErr result (road.new ≡ road.old) }
 {
     let count = segments_for(road.cars(), workers);
-    // An empty road: one lane of one cell, maximum speed 1, no cars.
+    // The road that takes its place, because a reference cannot be left without a value: one lane of one cell, with
+    // maximum speed 1 and no cars.
     let Ok(empty) = Road::even(alloc, 1, 1, 1, 0) else {
         return Err(AllocError);
     };

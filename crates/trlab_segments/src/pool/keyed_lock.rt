@@ -43,8 +43,7 @@ impl<T, K> Play<Option<T>, K> for Release {
     ghost then = { λ state before found after. Unit {0} };
 }
 
-/// A lock around a value that fits a key. Its one word is 0 while the value is in its slot, and 1 while a thread has
-/// it.
+/// A lock around a value that fits a key. Its one word is 0 if the value is free to take, and 1 if a thread has it.
 #[derive(Drop)]
 pub struct KeyedLock<T: Keyed<K>, K> {
     pub table: Table<Option<T>, K, K, LockRule<T, K>, Global>,
