@@ -128,7 +128,7 @@ pub fn first_fault(one: Result<(), RunFault>, other: Result<(), RunFault>) -> Re
 /// job, and few steps are lost with a lease that is revoked.
 const STEPS_PER_TURN: u32 = 32;
 
-/// Runs jobs until none is free. The workers live as long as the runner.
+/// Runs jobs with one runner until no job is free. Its workers live as long as the runner.
 fn run_one<L: Ledger, R: Threads + Wait + Sync, G: Gate + Sync>(
     rt: &R,
     alloc: Global,

@@ -15,8 +15,8 @@ use trlab_sequential_book::{Lease, LeaseFault, Order};
 use trlab_step::{Caller, Executor, StepObserver};
 use trlab_verify::{Change, Motion};
 
-/// A single worker and its gate. It asks all cars of a phase at once, but first passes the gate once for each segment
-/// that a crew of one worker would draw.
+/// A single worker and its gate. It asks all cars of a phase at once. Before, it passes the gate once for each segment
+/// that a crew of one worker would draw, because a gate may count the steps or hold the worker up.
 #[derive(Drop)]
 struct OneWorker<'a, G> {
     gate: &'a G,

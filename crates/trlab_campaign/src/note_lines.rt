@@ -105,6 +105,7 @@ pub fn push_notes(alloc: Global, out: &mut Vec<u8>, code: &Code) -> Result<(), A
     match notes(alloc, code) {
         Ok(table) => push_table(alloc, out, &table),
         Err(NotesFault::Memory) => Err(AllocError),
+        // The program is accepted, by the precondition.
         Err(NotesFault::Refused) => unreachable!(),
     }
 }

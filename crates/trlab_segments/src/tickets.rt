@@ -155,7 +155,7 @@ impl Tickets {
         ensures ended { HasAllPasses self drawer → is_ended drawer ≡ true → IsOk result }
     {
         let mut drawer = drawer;
-        // Reads the counter, by the step that is fixed for this call: a `fetch_add` of 0.
+        // A `fetch_add` of 0 only reads the counter, which the law of its step (`ReadCounter`) states.
         let next = self
             .table
             .shared

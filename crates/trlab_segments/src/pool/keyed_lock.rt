@@ -85,6 +85,7 @@ impl<K, T: Keyed<K> + Drop> KeyedLock<T, K> {
         for _ in rt.forever() {
             let (found, mut seat) = shared.swap_new_seat::<Acquire<T, K>>(0, 1);
             if found == 0 {
+                // The slot has a value, because the word was 0.
                 let value = shared.exchange(&mut seat, 0, None).unwrap();
                 return (value, Guard { seat });
             }
