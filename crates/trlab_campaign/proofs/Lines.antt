@@ -25,7 +25,7 @@ next_number f n count old new inside added =
     let left : count - n ≡ suc (count - (n + 1)) = omega arith in
     rw (added, left) (simp append_assoc)
 
--- the same pieces, one by one
+-- if two functions have the same pieces, one by one, the texts of all pieces are the same
 pub pieces_agree : (f g : ℕ → List ℕ) (from count : ℕ) → ((n : ℕ) → n < from + count → f n ≡ g n)
     → flat_map f (range_with_len from count) ≡ flat_map g (range_with_len from count)
 pieces_agree f g from zero same = refl

@@ -14,7 +14,7 @@ use Rattle.trlab_campaign.specs.{Laws.SeriesHasSomeOutput, SeriesOutput.{IsCours
 use Rattle.trlab_campaign.specs.SeriesOutput.{IsSeriesOutputForJob, first_windows, nth_window, window_of}
 use Rattle.trlab_campaign.proofs.{Courses.{course_of, one_tally, whole_windows}, Sheets.stored_sheet}
 
--- lists of the same values
+-- functions that agree on all numbers map a list to the same list
 same_map : {X : Type 0} (f g : ℕ → X) (xs : List ℕ) → ((n : ℕ) → f n ≡ g n) → map f xs ≡ map g xs
 same_map f g [] same = refl
 same_map f g (x ∷ xs) same =
@@ -43,7 +43,7 @@ module _ (seed : Seed) (sheet : Sheet) (roads others : ℕ → Cells) (tallies c
   same_windows every from count =
       same_map (nth_window roads tallies every from) (nth_window others counts every from) (range_with_len 0 count) (λ k. same_window (from + k * every) every)
 
--- this number of windows is complete
+-- m and n are equal if the same numbers are below both
 same_count : (P : ℕ → Type 0) (m n : ℕ) → ((k : ℕ) → (k < m) ↔ P k) → ((k : ℕ) → (k < n) ↔ P k) → m ≡ n
 same_count P m n p q = elim (cases_lt m n) [
   | inl below ↦ let bad : m < m = (p m).1 ((q m).0 below) in absurd (omega (arith, bad))

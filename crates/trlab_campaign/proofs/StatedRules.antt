@@ -16,7 +16,7 @@ use Rattle.trlab_jobs.proofs.SweepLines.{after_key, after_limit, after_rule, aft
 use Rattle.trlab_asm.specs.Operands.{map_ok}
 use Rattle.trlab_campaign.specs.SweepOutput.{stated_rule}
 
--- the parts of a result
+-- equal results have equal parts
 ok_parts : {A B : Type 0} (x y : A) (a b : B) → ◌≡◌ {A = Result (A × B) LocatedFault} (Ok (x, a)) (Ok (y, b)) → (x ≡ y) × (a ≡ b)
 ok_parts {A = A} {B = B} x y a b h = let e : ◌≡◌ {A = A × B} (x, a) (y, b) = cc h in (ap (λ (p : A × B). p.0) e, ap (λ (p : A × B). p.1) e)
 

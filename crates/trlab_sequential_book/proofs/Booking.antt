@@ -28,7 +28,7 @@ abbrev pub job_state : Seed → Sheet → ℕ → ℕ → ℕ → Bool → Optio
 job_state seed sheet steps high done cancelled out =
     record { seed = seed; sheet = sheet; steps = steps; high = high; done = done; cancelled = cancelled; lease_out = out }
 
--- a job that exists
+-- if index i is in range, a lookup of job i finds it
 pub found : (jobs : List JobState) (i : ℕ) (j : JobState) → i < length jobs → j ≡ slice_index_or jobs i j → slice_get jobs i ≡ Some j
 found jobs i j h e = slice_get-get_or jobs i j h ∙ sym (ap Some e)
 
@@ -119,7 +119,7 @@ lease_lent s now i j lease view h e job fresh =
     let P : Option JobState → Type 0 = λ o. MatchOption o ⊥ (λ k. IsFresh k s.next lease) in
     subst (λ (t : BookState). IsFreshIfLent t.jobs t.next (Some lease)) view (subst P (sym here) fresh)
 
--- the parts of `accepts_lease`
+-- a lease that a job accepts begins at the steps done, has run no step that was not ordered, and runs the job's road
 pub own_parts : (lease : Offered) (job : JobState) → accepts_lease lease job ≡ true → (lease.base ≡ job.done) × (lease.step ≤ job.high) × (lease.same ≡ true)
 own_parts lease job h =
     let a = (and_parts (is_out lease.number job.lease_out) ((lease.base == job.done) && (not (ltb job.high lease.step) && lease.same)) h).1 in
@@ -231,7 +231,7 @@ counted s now false call told jobs count view room next more made put =
     let by : ℕ → BookState = λ n. record { count = n; next = s.next; jobs = jobs } in
     ap by more ∙ leads_made s now false call told jobs view room refl next made put
 
--- replies that lend nothing
+-- replies that lend nothing keep the number of the next lease
 pub next_number : (next : ℕ) (answer : Result ℕ BookFault) → next_after next (number_reply answer) ≡ next
 next_number next (Ok number) = refl
 next_number next (Err fault) = refl

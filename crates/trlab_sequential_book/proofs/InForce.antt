@@ -69,7 +69,7 @@ pub record FirstInForce (sheet : Sheet) (step : ℕ) (applied : List ExecutedSte
 one_ran : {a b : ExecutedStep} → Some a ≡ Some b → a ≡ b
 one_ran e = cc
 
--- one more of them
+-- if the first i steps were run under the rules in force, and the next step too, so were the first i + 1
 pub one_more_in_force : (sheet : Sheet) (step : ℕ) (applied : List ExecutedStep) (i : ℕ) (item : ExecutedStep) → FirstInForce sheet step applied i → i < length applied → item ≡ get_or applied i item
     → in_force sheet (step + i) ≡ Some item.rule → FirstInForce sheet step applied (i + 1)
 one_more_in_force sheet step applied i item before h e here = record {
@@ -84,7 +84,7 @@ one_more_in_force sheet step applied i item before h e here = record {
       ]);
 }
 
--- all of them
+-- if all steps were run under the rules in force, they were run under the sheet
 pub all_in_force : (sheet : Sheet) (step : ℕ) (applied : List ExecutedStep) (count : ℕ) → FirstInForce sheet step applied count → length applied ≤ count → RanUnderSheet sheet step applied
 all_in_force sheet step applied count first all k ran at = first.each k ran (within applied k ran count at all) at
   where

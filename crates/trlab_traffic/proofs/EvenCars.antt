@@ -74,7 +74,7 @@ module _ (cells n : ℕ) (lane : Lane) (even : IsEvenlySpacedLane 1 cells n 0 la
         stopped = (some_pair_parts number number speed 0 (sym here ∙ sym (ap (at lane) to) ∙ stands number is.numbered)).1;
       }
 
-  -- up to this distance ahead of a car there is no other
+  -- the gap of each car is at least cells / n - 1
   pub gap_low : (x number speed : ℕ) → at lane x ≡ Some (number, speed) → cells / n ≤ gap lane x + 1
   gap_low x number speed here =
       let i = number in

@@ -57,7 +57,7 @@ behind_ahead n x low =
 pub ahead_behind : (n x : ℕ) → x < n → behind n (ahead n x 1) 1 ≡ x
 ahead_behind n x low = ahead_swap n x 1 (n - 1) ∙ behind_ahead n x low
 
--- a number that passes is at most the largest that does
+-- each number up to n that passes a test is at most the largest one that does
 at_least : (test : ℕ → Bool) (n g : ℕ) → g ≤ n → test g ≡ true → g ≤ largest test n
 at_least test zero g low passes = low
 at_least test (suc n) g low passes =
@@ -69,7 +69,7 @@ at_least test (suc n) g low passes =
       ])
     ]
 
--- the largest is within the bound
+-- the largest number up to n that passes a test is at most n
 greatest_within : (test : ℕ → Bool) (n : ℕ) → largest test n ≤ n
 greatest_within test zero = omega arith
 greatest_within test (suc n) =
