@@ -25,7 +25,7 @@ use Rattle.trlab_traffic.proofs.Capacities.{distance_uncounted, middle_cells, ne
 use Rattle.trlab_traffic.proofs.{Capacities.speeds_total, FreeFlow.one_rule, Courses.run_like}
 use Rattle.trlab_traffic.proofs.{Courses.sum_of_standing, DetectingRuns.{counted_so, uncounted_so}}
 
--- a sum of sums
+-- the sum of two functions over the cars is the sum of their two sums
 sum_two : (f g : Car → ℕ) (xs : List Car) → sum_by (λ (c : Car). f c + g c) xs ≡ sum_by f xs + sum_by g xs
 sum_two f g [] = refl
 sum_two f g (x ∷ xs) =
@@ -35,7 +35,7 @@ sum_two f g (x ∷ xs) =
     let c = sum_by-cons g x xs in
     omega (arith, rest, a, b, c)
 
--- one car
+-- the speed of one car, plus 1 if it brakes at random, is at most the limit
 by_limit_each : (b : Bool) (s limit : ℕ) → 1 ≤ limit → s ≤ limit → brake b s + cond b 1 0 ≤ limit
 by_limit_each true s limit some low = omega (arith, some, low)
 by_limit_each false s limit some low = omega (arith, low)

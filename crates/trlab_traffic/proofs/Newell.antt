@@ -30,7 +30,7 @@ smallest_least f (suc n) j low =
       | inr before ↦ let rest = smallest_least f n j before in omega (arith, rest)
     ]
 
--- and equals one of them
+-- the smallest of the numbers f 0 to f n is one of them: f j
 record Attains (f : ℕ → ℕ) (n j : ℕ) : Type 0 where
   low : j ≤ n
   is : smallest_to n f ≡ f j

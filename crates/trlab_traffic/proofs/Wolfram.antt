@@ -59,7 +59,7 @@ gap_none lane x next there =
       | inr none ↦ omega (arith, none)
     ]
 
--- and a car in front of an empty cell has one
+-- a car with an empty cell ahead has a gap
 pub gap_some : (lane : Lane) (x : ℕ) (car : ℕ × ℕ) → at lane x ≡ Some car → at lane (ahead (length lane) x 1) ≡ None → 1 ≤ gap lane x
 gap_some lane x car here free =
     let low = inside lane x car here in
