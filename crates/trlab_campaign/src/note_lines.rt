@@ -44,7 +44,11 @@ fn push_mark(
             push_entry(out, register, range.as_bytes())
         }
         Mark::Flag(implies_side) => {
-            let value: &[u8] = if implies_side || side { b"side" } else { b"flag" };
+            let value: &[u8] = if implies_side || side {
+                b"side"
+            } else {
+                b"flag"
+            };
             push_entry(out, register, value)
         }
     }
