@@ -125,7 +125,7 @@ module _ {L : Type 0} {ledger : Ghosts L} where
           }
       by_event false same none = stays a b same (is_none a b told none)
 
-  -- so is an order, for any value of `same`
+  -- an order is one more call of a runner, for any value of `same`
   pub orders_on : (Holds : Bool → BookState → Type 0) (a b c : Desk L ledger) (lease : LeaseState) (told : Reply) → AddsRunnerCalls a b
       → (same : Bool) × MakesCallOn (Holds same) b (OrderCall (offered lease same)) told c → AddsRunnerCalls a c
   orders_on Holds a b c lease told on made = goes_on a b c on (makes_goes (Holds made.0) b c (OrderCall (offered lease made.0)) told made.1 refl)
@@ -175,7 +175,7 @@ module _ {L : Type 0} {ledger : Ghosts L} where
         (made.noted.1, omega (arith, made.noted.3), of_runner);
   }
 
-  -- it leads to the next stage
+  -- one event of a runner leads it from one state to the next
   goes_one : (from to : RunnerState) (a b : Desk L ledger) (call : Call) (told : Reply) (book : BookState) → part_count b ≡ part_count a → MakesEvent a call told b book
       → is_runner_call call ≡ true → stage_after (stage_of from) (event call told) ≡ stage_of to → CallsAs from book (event call told) to → Goes from to a b
   goes_one from to a b call told book same made of_runner next calls = record {

@@ -152,7 +152,7 @@ step_on shown steps step left start run next old a b writes road text on job beg
     let at = driven_road job step run run.road here.1 road in
     (went_on shown job step left old b (wrote shown job step (left + 1) run.road old a b here.0 at text), drive_on job step run next here.1 on)
 
--- it stops within the text of a step of the run
+-- if writing stops within the text of the step that a run has reached, a prefix of an output for its job has been written
 pub step_stops : (shown : ℕ → Bool) (steps step left : ℕ) (start run : Progress) (old a b : SinkBytes) → Writes shown steps start step left run old a
     → IsRoadAt run.seed run.sheet run.step run.road → AddsPrefix a b (shown_text shown step run.road) → (job : Job) → Begins job steps start → WrotePrefix (IsOutputForJob shown job) old b
 step_stops shown steps step left start run old a b writes road text job begins =

@@ -21,7 +21,7 @@ next_line : (roads : ℕ → Cells) (tallies : ℕ → StepTally) (every from k 
     → lines_from roads tallies every from k (left + 1) ≡ window_text (nth_window roads tallies every from k) ++ lines_from roads tallies every from (k + 1) left
 next_line roads tallies every from k left = rw (add-one left) refl
 
--- one line is written
+-- once the line of window k is written, the lines of the later windows are owed
 pub line_on : (roads : ℕ → Cells) (tallies : ℕ → StepTally) (every from k left step : ℕ) (whole : List ℕ) (old a b : SinkBytes) → step ≡ from + k * every
     → Owes whole (lines_from roads tallies every from k (left + 1)) old a → HasWritten a b (window_text (window_of roads tallies step every))
     → Owes whole (lines_from roads tallies every from (k + 1) left) old b
@@ -29,7 +29,7 @@ line_on roads tallies every from k left step whole old a b is owes text =
     owes_less whole (window_text (nth_window roads tallies every from k)) (lines_from roads tallies every from (k + 1) left) old a b
     (rw (next_line roads tallies every from k left) at owes) (rw is at text)
 
--- or a prefix of it
+-- if only a prefix of the line of window k is written, a prefix of all lines has been written
 pub line_stops : (roads : ℕ → Cells) (tallies : ℕ → StepTally) (every from k left step : ℕ) (whole : List ℕ) (old a b : SinkBytes) → step ≡ from + k * every
     → Owes whole (lines_from roads tallies every from k (left + 1)) old a → AddsPrefix a b (window_text (window_of roads tallies step every)) → AddsPrefix old b whole
 line_stops roads tallies every from k left step whole old a b is owes text =

@@ -141,7 +141,7 @@ steady_in_force sheet step n entry ran (x ∷ more) is at long come steady begin
     one_of (y ∷ more) zero other P all at = subst P (one_ran at) (all 0 y (omega arith))
     one_of (y ∷ more) (suc k) other P all at = one_of more k other P (λ i d h. all (suc i) d (omega arith)) at
 
--- the converse
+-- if all steps were run under the sheet, the first of them was run under the last entry, which is in force by then
 pub first_in_force : (sheet : Sheet) (step n : ℕ) (entry : ℕ × Programs) (ran : ExecutedStep) (applied : List ExecutedStep) → IsSheet sheet
     → slice_get sheet n ≡ Some entry → length sheet ≡ suc n → entry.0 ≤ step
     → slice_get applied 0 ≡ Some ran → RanUnderSheet sheet step applied → entry.1 ≡ ran.rule

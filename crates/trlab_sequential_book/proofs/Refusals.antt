@@ -120,7 +120,7 @@ ordered_by false false job now told said other is = absurd (other fault.Stranger
 not_ordered : (order : Order) (why : BookFault) → reply.Refused why ≡ order_reply (Ok order) → ⊥
 not_ordered order why h = cc
 
--- the lease after the step
+-- the lease after one more step; it still runs the road of its job if the step's rule is the one in force
 module _ (old : LeaseState) (rule : Programs) (tally : StepTally) (road : Cells) where
   abbrev stepped : LeaseState
   stepped = with_executed_step old rule tally road
