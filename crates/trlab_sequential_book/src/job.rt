@@ -22,20 +22,23 @@ use trlab_rules::Rule;
 use trlab_step::{StepRoom, StepTally, no_tally, suits, tally_sum};
 use trlab_words::Key;
 
-/// A job. Contracts do not see its road and its tally, which follow from the seed, the sheet and the steps done.
+/// A job. Contracts do not see its road and its tally, because these follow from the seed, the sheet and the steps
+/// done.
 pub(crate) struct JobRecord {
     seed: SharedSeed,
     sheet: Sheet,
     steps: u32,
-    /// The number of steps that were ever ordered.
+    /// The number of steps that were ever ordered. It never falls, so an ordered step keeps its rule, even if its lease
+    /// is revoked before it is run.
     high: u32,
-    /// The number of steps done.
+    /// The number of steps done: those of the leases that were given back.
     done: u32,
     cancelled: bool,
-    /// The number of the lease that is out.
-    out: Option<u32>,
-    /// The road at the steps done.
+    /// The number of the lease that is out; `None` if the job is not leased.
+    lease_out: Option<u32>,
+    /// The road after the steps done.
     road: SharedRoad,
+    /// The sums over the steps done, from the seed's `warm` on.
     tally: StepTally,
 }
 
@@ -49,7 +52,7 @@ impl Drop for JobRecord {
             high: _high,
             done: _done,
             cancelled: _cancelled,
-            out: _out,
+            lease_out: _lease_out,
             road: _road,
             tally: _tally,
         } = self;
@@ -69,7 +72,7 @@ impl Model for JobRecord {
       high = job.high;
       done = job.done;
       cancelled = job.cancelled;
-      out = job.out;
+      lease_out = job.lease_out;
     } };
 
     ghost invariant = { λ job. IsJob
@@ -80,7 +83,7 @@ impl Model for JobRecord {
           high = job.high;
           done = job.done;
           cancelled = job.cancelled;
-          out = job.out;
+          lease_out = job.lease_out;
         })
         job.road job.tally };
 }
@@ -106,7 +109,7 @@ impl JobRecord {
             high: 0,
             done: 0,
             cancelled: false,
-            out: None,
+            lease_out: None,
             road,
             tally: no_tally(),
         })
@@ -145,10 +148,10 @@ impl JobRecord {
         ensures reply { done_reply result ≡ (revoke_outcome self.old).reply }
         ensures job { self.new ≡ (revoke_outcome self.old).job }
     {
-        if self.out.is_none() {
+        if self.lease_out.is_none() {
             return Err(BookFault::StrangerLease);
         }
-        self.out = None;
+        self.lease_out = None;
         Ok(())
     }
 
@@ -161,7 +164,7 @@ impl JobRecord {
             return Err(BookFault::Ended);
         }
         self.cancelled = true;
-        self.out = None;
+        self.lease_out = None;
         Ok(())
     }
 
@@ -169,7 +172,7 @@ impl JobRecord {
     pub fn is_free(&self) -> bool
         ensures { result ≡ is_free self.now }
     {
-        self.out.is_none() && !self.cancelled && self.done < self.steps
+        self.lease_out.is_none() && !self.cancelled && self.done < self.steps
     }
 
     /// Lends the job. `index` is the job's number, `number` the lease's.
@@ -182,7 +185,7 @@ impl JobRecord {
         let road = Arc::new(alloc, copy)?;
         let base_road = self.road.share()?;
         let seed = self.seed.get();
-        self.out = Some(number);
+        self.lease_out = Some(number);
         Ok(Lease {
             job: index,
             number,
@@ -216,12 +219,12 @@ impl JobRecord {
             .are_in_force(lease.base_step(), lease.applied(), lease.is_steady())
     }
 
-    /// Whether a lease is out for this job, and may be ordered or given back. It must run the job's road
-    /// (`runs_its_road`), from the steps done, and at most up to the last ordered step.
+    /// Whether a lease may be ordered or given back: it is the one that is out for this job, begins at the steps done,
+    /// has run no step that was not ordered, and runs the job's road (`runs_its_road`).
     fn accepts_lease(&self, lease: &Lease, runs_its_road: bool) -> bool
         ensures { result ≡ accepts_lease (offered lease.now runs_its_road) self.now }
     {
-        match self.out {
+        match self.lease_out {
             Some(number) => {
                 number == lease.number()
                     && lease.base_step() == self.done
@@ -262,7 +265,8 @@ impl JobRecord {
         })
     }
 
-    /// The job's tally plus those of a lease's steps. Steps before the seed's `warm` are not counted.
+    /// The job's tally plus the tallies of the steps that a lease has run. Steps before the seed's `warm` are not
+    /// counted.
     fn tally_with(&self, lease: &Lease) -> StepTally
         requires base { lease.now.base.step ≡ self.now.done }
         requires own { RunsRoadOfJob self.now lease.now }
@@ -282,7 +286,11 @@ impl JobRecord {
         sum
     }
 
-    /// Gives the job the road and the step of its lease.
+    /// Ends a lease: its road and its tallies become the job's, and its steps are done.
+    ///
+    /// # Errors
+    ///
+    /// `StrangerLease`, with the lease, if the job does not accept it.
     pub fn give_back(&mut self, lease: Lease, runs_its_road: bool) -> Result<(), (Lease, BookFault)>
         requires { IsTrue runs_its_road → RunsRoadOfJob self.old lease }
         ensures reply { give_back_reply result ≡ (give_back_outcome (offered lease runs_its_road) self.old).reply }
@@ -294,8 +302,8 @@ impl JobRecord {
         }
         self.tally = self.tally_with(&lease);
         self.done = lease.step();
-        self.road.come_to(lease.into_road());
-        self.out = None;
+        self.road.advance_to(lease.into_road());
+        self.lease_out = None;
         Ok(())
     }
 
