@@ -114,6 +114,15 @@ class OnPage(Base):
         """The fundamental diagram has this number of points of one sweep; the run may have added its own."""
         self.hold(lambda: self.page.js("return lab.marks.some(it => it.points.length === arguments[0])", count))
 
+    def wait_until_written(self) -> None:
+        """Wait until the page has written the job file of its controls."""
+        self.hold(lambda: not self.page.js("return window.lab.isWriting"))
+
+    def is_visible(self, name: str) -> bool:
+        """Whether the page shows an element."""
+        visible: bool = self.page.js("return document.getElementById(arguments[0]).checkVisibility()", name)
+        return visible
+
     def turn(self, words: str) -> None:
         """Click on the button that plays and pauses, if it has this text: in one script, because a run may end between
         two."""
@@ -136,13 +145,13 @@ class OnPage(Base):
 
     def pause(self) -> None:
         """Pause, and wait until the page shows the step at which it has paused."""
-        self.hold(lambda: not self.page.js("return window.lab.isWriting"))
+        self.wait_until_written()
         self.turn("Pause")
         self.hold(lambda: self.page.js(IS_PAUSED))
 
     def run_to(self, step: int) -> None:
         """Play fast to a step at least, and pause."""
-        self.hold(lambda: not self.page.js("return window.lab.isWriting"))
+        self.wait_until_written()
         # In one script, because the cars drive on between two scripts.
         self.page.later("""const it = lab.player, rate = document.getElementById('rate');
             rate.value = 100;

@@ -9,6 +9,7 @@ import json
 import os
 import re
 import signal
+import socket
 import subprocess
 import sys
 import tempfile
@@ -22,22 +23,45 @@ from tests.waiting import LIMIT, holds
 from trlab import Job, Nasch, Snapshot, Snapshots, RejectedInputError
 from trlab.lab import Lab, page_of, server
 from trlab.lab.__main__ import fragment, main
+from trlab.lab.export import exported
 from trlab._rules.functions import rules_in
 from trlab._runs.calls import ask
 
 TOP = Path(__file__).resolve().parents[2]
 EXAMPLES = TOP / "examples"
-LONG = "road 1\nkey " + "0" * 64 + "\nlimit 5\nlane 0" + "." * 999 + "\nrule nasch 0\nsteps 500000\n"
-SILENT = "sweep 1\nkey " + "0" * 64 + "\nlimit 5\nlength 100000\nlanes 1\nrule nasch 0\nwarm 0\nmeasure 5000\n" + "cars 50000\n" * 100
+# A run whose output no test reads to its end.
+LONG = f"road 1\nkey {64 * '0'}\nlimit 5\nlane 0{999 * '.'}\nrule nasch 0\nsteps 500000\n"
+# A sweep that computes for long before it prints its first line.
+SILENT = f"""sweep 1
+key {64 * '0'}
+limit 5
+length 100000
+lanes 1
+rule nasch 0
+warm 0
+measure 5000
+""" + 100 * "cars 50000\n"
 
 
 def children(process):
-    """The processes that a process has started."""
-    return [child for task in Path(f"/proc/{process}/task").iterdir() for child in (task / "children").read_text().split()]
+    """The numbers of the processes that a process has started, with any of its threads."""
+    threads = Path(f"/proc/{process}/task").iterdir()
+    return [child for thread in threads for child in (thread / "children").read_text().split()]
+
+
+def state(process):
+    """The state of a process, for example R if it runs and S if it sleeps."""
+    after_the_name = Path(f"/proc/{process}/stat").read_text().rpartition(")")[2]
+    return after_the_name.split()[0]
+
+
+def sha256(text):
+    """The SHA-256 of a text in base 64, as a Content-Security-Policy has it."""
+    return base64.b64encode(hashlib.sha256(text.encode()).digest()).decode()
 
 
 class Serving(unittest.TestCase):
-    def setUp(self):
+    def setUp(self) -> None:
         self.lab = Lab()
         self.thread = threading.Thread(target=self.lab.serve_forever, kwargs={"poll_interval": 0.02})
         self.thread.start()
@@ -46,51 +70,56 @@ class Serving(unittest.TestCase):
         self.addCleanup(self.lab.shutdown)
 
     def ask(self, name="", body=None, method=None, token=None, origin=True, host=None):
-        """The response to a request, which has an Origin if it has a body."""
-        netloc = f"127.0.0.1:{self.lab.server_port}"
-        talk = http.client.HTTPConnection(netloc, timeout=LIMIT)
-        headers = {"Host": host or netloc}
-        if origin is not True or body is not None:
-            headers["Origin"] = f"http://{netloc}" if origin is True else origin
-        headers = {key: value for key, value in headers.items() if value is not None}
+        """The response to a request. A request with a body has an Origin: that of the server's page, another one, or none if
+        `origin` is None. `response.leave()` closes the connection, like a user who closes the page."""
+        server_address = f"127.0.0.1:{self.lab.server_port}"
+        connection = http.client.HTTPConnection(server_address, timeout=LIMIT)
+        headers = {"Host": host or server_address}
+        if origin is True and body is not None:
+            headers["Origin"] = f"http://{server_address}"
+        elif isinstance(origin, str):
+            headers["Origin"] = origin
         path = f"/{self.lab.token if token is None else token}/{name}"
-        talk.request(method or ("GET" if body is None else "POST"), path, body, headers)
-        answer = talk.getresponse()
-        answer.leave = lambda: (answer.close(), talk.close())
-        self.addCleanup(answer.leave)
-        return answer
+        connection.request(method or ("GET" if body is None else "POST"), path, body, headers)
+        response = connection.getresponse()
+        response.leave = lambda: (response.close(), connection.close())
+        self.addCleanup(response.leave)
+        return response
 
     def text(self, name, body):
-        got = self.ask(name, body)
-        self.assertEqual(got.status, 200)
-        return got.read().decode()
+        """The text of the response to a request that the server accepts."""
+        response = self.ask(name, body)
+        self.assertEqual(response.status, 200)
+        return response.read().decode()
 
 
 class Pages(Serving):
-    def test_the_page_and_its_files(self):
+    def test_the_page_and_its_files(self) -> None:
         page = self.ask().read().decode()
         self.assertIn("<!doctype html>", page)
         for name, (file, kind) in server.FILES.items():
-            got = self.ask(name)
-            self.assertEqual((got.status, got.headers["Content-Type"]), (200, f"{kind}; charset=utf-8"))
-            self.assertEqual(got.read(), (server.HERE / file).read_bytes())
-            policy = got.headers["Content-Security-Policy"]
+            response = self.ask(name)
+            self.assertEqual((response.status, response.headers["Content-Type"]), (200, f"{kind}; charset=utf-8"))
+            self.assertEqual(response.read(), (server.HERE / file).read_bytes())
+            policy = response.headers["Content-Security-Policy"]
             self.assertIn("default-src 'none'; script-src 'self'; style-src 'self'; connect-src 'self'", policy)
             self.assertNotIn("unsafe", policy)
 
-    def test_no_file_comes_from_elsewhere(self):
+    def test_no_file_comes_from_elsewhere(self) -> None:
         for file in server.HERE.glob("*.*"):
             if file.suffix in {".html", ".css", ".js"}:
-                addresses = set(re.findall(r"(?:https?:)?//[\w.]+[^\s\"'`]*", file.read_text())) - {"http://www.w3.org/2000/svg"}
+                addresses = set(re.findall(r"https?://[\w.]+[^\s\"'`]*", file.read_text())) - {"http://www.w3.org/2000/svg"}
                 # Links to papers lead elsewhere, but only if you click them.
-                self.assertEqual([address for address in addresses if address.startswith("http") and not address.startswith("https://doi.org/")], [], file.name)
+                loaded = [address for address in addresses if not address.startswith("https://doi.org/")]
+                self.assertEqual(loaded, [], file.name)
 
-    def test_the_examples(self):
-        expected = {path.name: path.read_text() for path in EXAMPLES.iterdir() if path.suffix in {".job", ".sweep", ".rule", ".py"}}
+    def test_the_examples(self) -> None:
+        suffixes = {".job", ".sweep", ".rule", ".py"}
+        expected = {path.name: path.read_text() for path in EXAMPLES.iterdir() if path.suffix in suffixes}
         self.assertEqual(server.examples(), expected)
         self.assertEqual(self.ask("examples").status, 200)
 
-    def test_no_other_path(self):
+    def test_no_other_path(self) -> None:
         for name in "nothing", "../server.py", "%2e%2e/server.py", "server.py", "page.html", "run":
             self.assertEqual(self.ask(name).status, 404, name)
         for name in "", "page.css", "help", "--help", "check", "explain/cause", "run/--workers":
@@ -98,7 +127,7 @@ class Pages(Serving):
 
 
 class Answers(Serving):
-    def test_every_example(self):
+    def test_every_example(self) -> None:
         for name, text in server.examples().items():
             if name.endswith(".py"):
                 continue
@@ -106,15 +135,15 @@ class Answers(Serving):
             self.assertEqual(self.text(f"explain/{kind}", text), ask(["explain", "--json", kind], text), name)
             if kind == "check":
                 continue
-            output = self.text(kind, text)
-            lines = output.splitlines(True)
-            self.assertEqual("".join(line for line in lines if not line.startswith("trlab: ")), ask([kind], text), name)
+            response = self.text(kind, text)
+            output = "".join(line for line in response.splitlines(True) if not line.startswith("trlab: "))
+            self.assertEqual(output, ask([kind], text), name)
             if kind == "run":
                 self.assertEqual(self.text("explain", text), ask(["explain", "run"], text), name)
                 self.assertEqual(self.text("series", text), ask(["series"], text), name)
-            self.assertEqual(kind == "sweep", "trlab: 100 % (" in output)
+            self.assertEqual("trlab: 100 % (" in response, kind == "sweep")  # only sweeps report progress
 
-    def test_a_part_of_a_run(self):
+    def test_a_part_of_a_run(self) -> None:
         text = (EXAMPLES / "overtaking.job").read_text()
         whole = ask(["run"], text)
         for skip in 0, 1, 500, len(whole) - 1, len(whole), len(whole) + 5:
@@ -122,7 +151,7 @@ class Answers(Serving):
         for skip in "", "-1", "1e3", "9" * 16, "1&skip=2":
             self.assertEqual(self.text(f"run?skip={skip}", text), whole)
 
-    def test_a_rejected_input(self):
+    def test_a_rejected_input(self) -> None:
         self.assertEqual(self.text("run", "road 2\n"), "fault line 1 cause 1\n")
         self.assertIn("fault line 1 cause 1\n", self.text("explain", "road 2\n"))
         self.assertEqual(json.loads(self.text("explain/run", "road 2\n"))["answer"], "fault line 1 cause 1")
@@ -132,26 +161,29 @@ class Rules(Serving):
     """The rules of the Python editor."""
 
     def rules(self, text, chosen={}, values={}):
+        """The server's answer about a file of rules, in which the user has chosen rules and values of their parameters."""
         return json.loads(self.text("rules", json.dumps({"text": text, "chosen": chosen, "values": values})))
 
-    def test_programs_and_parameters(self):
+    def test_programs_and_parameters(self) -> None:
         text = (EXAMPLES / "overtake.py").read_text()
         answer = self.rules(text, values={"drive": {"p": 0.5, "gone": 1}})
         self.assertEqual(answer["names"], {"motion": ["drive"], "change": ["overtake"]})
         self.assertEqual(answer["motion"], rules_in(text)["drive"](p=0.5))
         self.assertEqual(answer["change"], rules_in(text)["overtake"]())
         self.assertEqual(answer["budgets"]["drive"], rules_in(text)["drive"]().budget)
-        sliders = [(slider["rule"], slider["name"], slider["value"], slider["most"], slider["step"]) for slider in answer["parameters"]]
-        self.assertEqual(sliders, [("drive", "p", 0.5, 1, 0.01), ("overtake", "p", 0.5, 1, 0.01), ("overtake", "ahead", 2, 10, 1)])
+        fields = "rule", "name", "value", "most", "step"
+        sliders = [tuple(slider[field] for field in fields) for slider in answer["parameters"]]
+        expected = [("drive", "p", 0.5, 1, 0.01), ("overtake", "p", 0.5, 1, 0.01), ("overtake", "ahead", 2, 10, 1)]
+        self.assertEqual(sliders, expected)
 
-    def test_a_choice_among_rules(self):
+    def test_a_choice_among_rules(self) -> None:
         text = (EXAMPLES / "published_rules.py").read_text()
         self.assertEqual(self.rules(text)["motion"], rules_in(text)["nasch"]())
         answer = self.rules(text, {"motion": "comfortable", "change": "gone"})
         self.assertEqual(answer["motion"], rules_in(text)["comfortable"]())
         self.assertEqual(answer["change"], rules_in(text)["symmetric"]())
 
-    def test_errors_have_their_line(self):
+    def test_errors_have_their_line(self) -> None:
         text = "@motion\ndef f(car, g):\n    return car.gap\n"
         self.assertEqual(self.rules(text)["line"], 0)
         self.assertIn("missing a required argument", self.rules(text)["message"])
@@ -163,95 +195,110 @@ class Rules(Serving):
         # The text is read, and not run.
         self.assertEqual(self.rules("import os\nos.abort()\n" + text, values={"f": {"g": 1}})["line"], 5)
 
-    def test_requests_of_another_form(self):
+    def test_requests_of_another_form(self) -> None:
         for body in b"{", b"[]", b"\xff", b"null", b'{"text": 1}', b"[" * 100000:
             self.assertEqual(self.ask("rules", body).status, 400, body[:9])
 
 
 class Refusals(Serving):
-    def test_other_pages(self):
+    def test_other_pages(self) -> None:
         port = self.lab.server_port
-        for origin in None, "null", "http://evil.example", "http://127.0.0.1", f"https://127.0.0.1:{port}", f"http://localhost:{port}":
-            got = self.ask("explain/check", b"motion\ngo r0\n", origin=origin)
-            self.assertEqual(got.status, 403, origin)
-            self.assertNotIn(b"refused", got.read())
+        others = "http://evil.example", "http://127.0.0.1", f"https://127.0.0.1:{port}", f"http://localhost:{port}"
+        for origin in None, "null", *others:
+            response = self.ask("explain/check", b"motion\ngo r0\n", origin=origin)
+            self.assertEqual(response.status, 403, origin)
+            self.assertNotIn(b"fault", response.read())  # the program has not run
         self.assertEqual(self.ask(origin="http://evil.example").status, 403)
         for host in "evil.example", f"evil.example:{port}", "127.0.0.1", f"127.0.0.1.evil.example:{port}":
             self.assertEqual(self.ask(host=host).status, 403, host)
         local = f"localhost:{port}"
         self.assertEqual(self.ask("explain/check", b"", host=local, origin=f"http://{local}").status, 200)
 
-    def test_other_tokens(self):
+    def test_other_tokens(self) -> None:
         good = self.lab.token
-        for token in "", "x", good[:-1], good + "x", good.swapcase(), "%" + good, good * 1000, "\xe9" * 32:
+        for token in "", "x", good[:-1], good + "x", good.swapcase(), "%" + good, good * 1000:
             with self.subTest(token=token[:40]):
-                try:
-                    self.assertEqual(self.ask(token=token.encode("latin-1").decode("latin-1")).status, 403)
-                except (UnicodeEncodeError, ValueError):  # http.client sends no such path
-                    pass
-        self.assertNotEqual(Lab.address.fget(self.lab), Lab.address.fget(other := Lab()))
-        other.close()
+                self.assertEqual(self.ask(token=token).status, 403)
         self.assertGreaterEqual(len(good), 32)
 
-    def test_other_methods(self):
-        for method in "PUT", "DELETE", "OPTIONS", "TRACE":
-            got = self.ask(method=method)
-            self.assertEqual((got.status, got.headers["Connection"]), (501, "close"))
-            self.assertIsNone(got.headers["Access-Control-Allow-Origin"])
+    def test_a_token_that_is_not_ascii(self) -> None:
+        # http.client rejects such a path, so that the request is written by hand.
+        request = b"GET /" + 32 * b"\xe9" + b"/ HTTP/1.1\r\nHost: 127.0.0.1:%d\r\n\r\n" % self.lab.server_port
+        with socket.create_connection(("127.0.0.1", self.lab.server_port), timeout=LIMIT) as connection:
+            connection.sendall(request)
+            status_line = connection.makefile("rb").readline()
+        self.assertTrue(status_line.startswith(b"HTTP/1.1 403 "), status_line)
 
-    def test_long_inputs(self):
-        self.assertEqual(json.loads(self.text("explain/check", b"a" * server.MAX_BYTES))["answer"], "fault line 1 cause 1")
+    def test_each_server_has_its_own_token(self) -> None:
+        with contextlib.closing(Lab()) as other:
+            self.assertNotEqual(self.lab.token, other.token)
+            self.assertNotEqual(self.lab.address, other.address)
+
+    def test_other_methods(self) -> None:
+        for method in "PUT", "DELETE", "OPTIONS", "TRACE":
+            response = self.ask(method=method)
+            self.assertEqual((response.status, response.headers["Connection"]), (501, "close"))
+            self.assertIsNone(response.headers["Access-Control-Allow-Origin"])
+
+    def test_long_inputs(self) -> None:
+        longest = json.loads(self.text("explain/check", b"a" * server.MAX_BYTES))
+        self.assertEqual(longest["answer"], "fault line 1 cause 1")
         for length, status in ("4194305", 413), ("9" * 18, 413), ("9" * 30, 411), ("-1", 411), ("x", 411), (None, 411):
-            talk = http.client.HTTPConnection("127.0.0.1", self.lab.server_port, timeout=LIMIT)
-            talk.putrequest("POST", f"/{self.lab.token}/explain")  # the input itself is never sent
-            talk.putheader("Origin", f"http://127.0.0.1:{self.lab.server_port}")
+            connection = http.client.HTTPConnection("127.0.0.1", self.lab.server_port, timeout=LIMIT)
+            connection.putrequest("POST", f"/{self.lab.token}/explain")  # the input itself is never sent
+            connection.putheader("Origin", f"http://127.0.0.1:{self.lab.server_port}")
             if length:
-                talk.putheader("Content-Length", length)
-            talk.endheaders()
-            self.assertEqual(talk.getresponse().status, status, length)
-            talk.close()
+                connection.putheader("Content-Length", length)
+            connection.endheaders()
+            self.assertEqual(connection.getresponse().status, status, length)
+            connection.close()
 
 
 class Processes(Serving):
-    def running(self):
-        return len(self.lab.children)
+    def wait_for_running(self, count, message=None):
+        """Wait until this number of processes runs for the server."""
+        self.assertTrue(holds(lambda: len(self.lab.children) == count), message)
 
-    def test_one_run_per_processor(self):
+    def test_one_run_per_processor(self) -> None:
         processors = len(os.sched_getaffinity(0))
         runs = [self.ask("run", LONG) for _ in range(processors)]
-        self.assertTrue(holds(lambda: self.running() == processors))
+        self.wait_for_running(processors)
         with mock.patch.object(server, "SLOT_TIMEOUT", 0.1):
-            got = self.ask("run", LONG)
-        self.assertEqual(got.status, 503)
-        self.assertIn(b"Every processor is in use", got.read())
+            response = self.ask("run", LONG)
+        self.assertEqual(response.status, 503)
+        self.assertIn(b"Every processor is in use", response.read())
         self.assertEqual(self.ask("explain/run", LONG).status, 200)
         runs[0].leave()
-        self.assertTrue(holds(lambda: self.running() == processors - 1))
-        with mock.patch.object(server, "SLOT_TIMEOUT", LIMIT):  # the turn is free a little later than the process ends
+        self.wait_for_running(processors - 1)
+        with mock.patch.object(server, "SLOT_TIMEOUT", LIMIT):  # the slot is free a little later than the process ends
             self.assertEqual(self.ask("run", LONG).status, 200)
 
-    def test_a_run_ends_with_its_page(self):
+    def test_a_run_ends_with_its_page(self) -> None:
         for name, text in ("run", LONG), ("sweep", SILENT), ("series", LONG):
-            got = self.ask(name, text)
-            self.assertTrue(holds(lambda: self.running() == 1), name)
+            response = self.ask(name, text)
+            self.wait_for_running(1, name)
             [child] = self.lab.children
             if name != "sweep":  # which is silent for long
-                got.read(100)
+                response.read(100)
                 # The output fills the sockets, and the program sleeps.
-                self.assertTrue(holds(lambda: Path(f"/proc/{child.pid}/stat").read_text().rpartition(")")[2].split()[0] == "S"))
-            got.leave()
-            self.assertTrue(holds(lambda: self.running() == 0), name)
+                self.assertTrue(holds(lambda: state(child.pid) == "S"), name)
+            response.leave()
+            self.wait_for_running(0, name)
             self.assertIsNotNone(child.returncode)
 
-    def test_a_cut_run_is_not_a_whole_one(self):
-        got = self.ask("run", LONG)
-        self.assertTrue(holds(lambda: self.running() == 1))
-        next(iter(self.lab.children)).kill()
-        self.assertRaises(http.client.IncompleteRead, got.read)
+    def test_a_cut_run_is_not_a_whole_one(self) -> None:
+        response = self.ask("run", LONG)
+        self.wait_for_running(1)
+        [child] = self.lab.children
+        child.kill()
+        self.assertRaises(http.client.IncompleteRead, response.read)
 
-    def test_closing_ends_every_run(self):
-        runs = [self.ask("run", LONG), self.ask("sweep", SILENT)] if len(os.sched_getaffinity(0)) > 1 else [self.ask("run", LONG)]
-        self.assertTrue(holds(lambda: self.running() == len(runs)))
+    def test_closing_ends_every_run(self) -> None:
+        self.ask("run", LONG)
+        has_second_processor = len(os.sched_getaffinity(0)) > 1
+        if has_second_processor:
+            self.ask("sweep", SILENT)
+        self.wait_for_running(2 if has_second_processor else 1)
         processes = list(self.lab.children)
         self.lab.shutdown()
         self.lab.close()
@@ -261,7 +308,9 @@ class Processes(Serving):
 
 class Command(unittest.TestCase):
     def start(self, *words, folder):
-        environment = {**os.environ, "TMPDIR": folder, "HOME": folder, "PYTHONPATH": str(TOP / "python"), "PYTHONDONTWRITEBYTECODE": "1"}
+        """The running command, which can leave files only in a folder."""
+        folders = {"TMPDIR": folder, "HOME": folder, "PYTHONPATH": str(TOP / "python")}
+        environment = {**os.environ, **folders, "PYTHONDONTWRITEBYTECODE": "1"}
         running = subprocess.Popen(
             [sys.executable, "-m", "trlab.lab", "--no-browser", *words], stdout=subprocess.PIPE, stderr=subprocess.PIPE,
             text=True, env=environment, cwd=folder, start_new_session=True,
@@ -272,14 +321,14 @@ class Command(unittest.TestCase):
         self.addCleanup(running.kill)
         return running
 
-    def test_it_ends_with_no_process_left_and_no_file(self):
+    def test_it_ends_with_no_process_left_and_no_file(self) -> None:
         for ending in signal.SIGINT, signal.SIGTERM, signal.SIGHUP, signal.SIGQUIT:
             with tempfile.TemporaryDirectory() as folder, self.subTest(ending=ending.name):
                 running = self.start(folder=folder)
                 address = re.fullmatch(r"http://(127\.0\.0\.1:\d+)(/[\w-]{32}/)\n", running.stdout.readline())
-                talk = http.client.HTTPConnection(address[1], timeout=LIMIT)
-                talk.request("POST", address[2] + "run", LONG, {"Origin": f"http://{address[1]}"})
-                self.assertEqual(talk.getresponse().status, 200)
+                connection = http.client.HTTPConnection(address[1], timeout=LIMIT)
+                connection.request("POST", address[2] + "run", LONG, {"Origin": f"http://{address[1]}"})
+                self.assertEqual(connection.getresponse().status, 200)
                 self.assertTrue(holds(lambda: len(children(running.pid)) == 1))
                 [child] = children(running.pid)
                 running.send_signal(ending)
@@ -287,70 +336,72 @@ class Command(unittest.TestCase):
                 self.assertEqual(running.stderr.read(), "")
                 self.assertTrue(holds(lambda: not Path(f"/proc/{child}").exists()))
                 self.assertEqual(os.listdir(folder), [])
-                talk.close()
+                connection.close()
 
-    def test_a_port_in_use(self):
+    def test_a_port_in_use(self) -> None:
         with contextlib.closing(Lab()) as lab, tempfile.TemporaryDirectory() as folder:
             running = self.start("--port", str(lab.server_port), folder=folder)
             self.assertEqual(running.wait(LIMIT), 1)
-            message = f"trlab-lab: cannot listen on port {lab.server_port}: Address already in use; choose another with --port\n"
-            self.assertEqual(running.stderr.read(), message)
+            reason = f"cannot listen on port {lab.server_port}: Address already in use"
+            self.assertEqual(running.stderr.read(), f"trlab-lab: {reason}; choose another with --port\n")
 
-    def test_it_opens_a_job(self):
+    def test_it_opens_a_job(self) -> None:
         path = EXAMPLES / "jams.job"
-        part = fragment(str(path))
-        packed = part[len("#job=") :]
-        text = zlib.decompress(base64.urlsafe_b64decode(packed + "=" * (-len(packed) % 4)), -15)
+        link = fragment(str(path))
+        packed = link[len("#job=") :]
+        padding = "=" * (-len(packed) % 4)
+        text = zlib.decompress(base64.urlsafe_b64decode(packed + padding), wbits=-15)  # negative: without a header
         self.assertEqual(text, path.read_bytes())
-        self.assertEqual(fragment("http://127.0.0.1:1/x/" + part), part)
+        self.assertEqual(fragment("http://127.0.0.1:1/x/" + link), link)
         with mock.patch.object(Lab, "serve_forever", side_effect=KeyboardInterrupt):
             with contextlib.redirect_stdout(io.StringIO()) as output, mock.patch("signal.signal"):
                 main([str(path), "--no-browser"])
-        self.assertTrue(output.getvalue().endswith("/" + part + "\n"))
+        self.assertTrue(output.getvalue().endswith(f"/{link}\n"))
 
-    def test_bad_words(self):
+    def test_bad_words(self) -> None:
         for words in ["--port", "70000"], ["nothing.job"], ["--export", "x", "y"]:
             with contextlib.redirect_stderr(io.StringIO()), self.assertRaises(SystemExit) as raised:
                 main(words)
             self.assertNotIn(raised.exception.code, (0, None))
 
 
-def parts_of(page):
-    """The snapshots, the scripts and the style of an exported page, and the sums of its policy."""
-    scripts = re.findall(r"<script[^>]*>(.*?)</script>", page, re.S)
-    sums = re.findall(r"'sha256-([^']+)'", page)
-    return gzip.decompress(base64.b64decode(scripts[1])).decode(), scripts[2], re.search("<style>(.*?)</style>", page, re.S)[1], sums
+class ExportedPage:
+    """An exported page: its snapshots, its script and style, and the sums that its policy has of these."""
+
+    def __init__(self, page):
+        _, run, self.script = re.findall(r"<script[^>]*>(.*?)</script>", page, re.S)
+        self.run = gzip.decompress(base64.b64decode(run)).decode()
+        self.style = re.search("<style>(.*?)</style>", page, re.S)[1]
+        self.sums = re.findall(r"'sha256-([^']+)'", page)
 
 
 class Exports(unittest.TestCase):
-    def test_the_snapshots_are_those_of_the_run(self):
+    def test_the_snapshots_are_those_of_the_run(self) -> None:
         for path in sorted(EXAMPLES.glob("*.job")):
             text = path.read_text()
             with tempfile.TemporaryDirectory() as folder:
                 page = Path(folder) / "page.html"
                 with mock.patch("sys.stdin", io.TextIOWrapper(io.BytesIO(text.encode()))):
                     main(["--export", str(page)])
-                run, script, style, sums = parts_of(page.read_text())
-            self.assertEqual(run, ask(["run"], text), path.name)
-            self.assertEqual(sums, [base64.b64encode(hashlib.sha256(source.encode()).digest()).decode() for source in (script, style)])
-            self.assertIsNone(re.search(r"^(import|export)\b", script, re.M))
+                film = ExportedPage(page.read_text())
+            self.assertEqual(film.run, ask(["run"], text), path.name)
+            self.assertEqual(film.sums, [sha256(film.script), sha256(film.style)])
+            self.assertIsNone(re.search(r"^(import|export)\b", film.script, re.M))
 
-    def test_pictures(self):
+    def test_pictures(self) -> None:
         job = Job(limit=5, length=50, density=0.2, rule=Nasch(0.25), steps=20)
         page = job.run().html(title="A <ring>")
-        self.assertEqual(parts_of(page)[0], ask(["run"], job.text()))
+        self.assertEqual(ExportedPage(page).run, ask(["run"], job.text()))
         self.assertIn("<title>A &lt;ring&gt;</title>", page)
         self.assertIn("10 cars on a ring of 50 cells, at most 5 cells per step", page_of(job.run(), 5))
         self.assertEqual(page, job.run().html(title="A <ring>"))
 
-    def test_errors(self):
+    def test_errors(self) -> None:
         job = Job(limit=5, length=50, density=0.2, rule=Nasch(0.25), steps=20)
         self.assertRaises(ValueError, Snapshots().html)
         self.assertRaises(ValueError, job.run()[5:].html)
         with mock.patch("trlab.lab.export.MAX_BYTES", 500):
             self.assertRaises(ValueError, job.run().html)
-        from trlab.lab.export import exported
-
         self.assertRaises(RejectedInputError, exported, "road 2\n")
         self.assertIn("0 cars on two rings of 2 cells", page_of(Snapshots([Snapshot(0, ("..", ".."))])))
 

@@ -3,12 +3,12 @@ import unittest
 
 import trlab
 from tests.browsers import missing
-from tests.lab_pages import OnPage
-from trlab import Job, Nasch, Rickert, SlowToStart, Snapshots
-from trlab._runs.calls import ask
-from trlab._results.written import snapshots_in
+from tests.lab_pages import OnPage, snapshots
+from trlab import Job, Nasch, Rickert, SlowToStart
 
-OTHER = "const {film} = lab.comparison; return film && film.snapshots.map(it => [it.step, String.fromCharCode(...it.cells)])"
+# The snapshots of the second model that the page keeps: step and cells.
+OTHER = """const {film} = lab.comparison;
+return film && film.snapshots.map(it => [it.step, String.fromCharCode(...it.cells)])"""
 ROAD = {"limit": 3, "length": 60, "cars": 24, "start": trlab.random_cells(3), "key": 5, "steps": 4000}
 
 
@@ -16,27 +16,28 @@ class Compared(OnPage):
     """The tests, in one browser."""
 
     def show_job(self, **changes):
+        """Open a job on the road, with changes."""
         text = Job(**{**ROAD, "rule": Nasch("1/4"), **changes}).text()
         self.open(text)
         self.has_job(text)
         self.hold(lambda: self.page.js("return lab.player.film.length") == 60 and self.page.step() >= 0)
 
     def agrees(self, rule, **changes):
-        """The second model has come to the shown step, and its snapshots are those of its own job."""
+        """Wait until the second model has come to the shown step. Its snapshots must be those of its own job."""
         self.hold(lambda: self.page.js("return lab.comparison.film?.has(lab.player.step)"))
         shots = self.page.js(OTHER)
-        text = Job(**{**ROAD, "rule": rule, **changes, "steps": shots[-1][0]}).text()
-        expected = [[snapshot.step, "".join(snapshot.lanes)] for snapshot in Snapshots(snapshots_in(ask(["run"], text).splitlines(True)))]
-        self.assertEqual(shots, expected[shots[0][0]:])
+        (first, _), (last, _) = shots[0], shots[-1]
+        run = snapshots(Job(**{**ROAD, "rule": rule, **changes, "steps": last}).text())
+        self.assertEqual(shots, [[snapshot.step, "".join(snapshot.lanes)] for snapshot in run[first:]])
 
-    def test_the_same_road_and_random_numbers(self):
+    def test_the_same_road_and_random_numbers(self) -> None:
         self.show_job()
         self.pause()
-        self.assertFalse(self.page.js("return document.getElementById('other').checkVisibility()"))
+        self.assertFalse(self.is_visible("other"))
         self.page.set("against", "vdr")
         self.run_to(50)
         self.agrees(SlowToStart(0.25, 0.5))
-        self.assertTrue(self.page.js("return document.getElementById('other').checkVisibility()"))
+        self.assertTrue(self.is_visible("other"))
         self.hold(lambda: self.page.text("compared").startswith("Slow to start: flow 0."))
         self.page.set("againstq", "3/4")
         self.run_to(self.page.step() + 20)
@@ -53,9 +54,9 @@ class Compared(OnPage):
         self.agrees(SlowToStart(0.1, 0.75), key=9)
         self.page.set("against", "")
         self.has(None, lambda: self.page.js(OTHER))
-        self.assertFalse(self.page.js("return document.getElementById('other').checkVisibility()"))
+        self.assertFalse(self.is_visible("other"))
 
-    def test_the_same_model_is_the_same(self):
+    def test_the_same_model_is_the_same(self) -> None:
         """With the same model and probability both diagrams are equal, dot by dot."""
         self.show_job()
         self.page.set("against", "nasch")
@@ -66,17 +67,17 @@ class Compared(OnPage):
             return [one.width === other.width && one.width > 300, left.every((dot, k) => dot === right[k])]"""
         self.assertEqual(self.page.js(same), [True, True])
 
-    def test_two_lanes(self):
+    def test_two_lanes(self) -> None:
         self.show_job(lanes=2, cars=48)
         self.page.set("against", "rickert")
         self.run_to(40)
         self.agrees(Rickert(0.25, 0.5), lanes=2, cars=48)
         self.page.set("lanes", "1")
-        self.hold(lambda: not self.page.js("return lab.isWriting"))
+        self.wait_until_written()
         self.has(None, lambda: self.page.js(OTHER))
         self.assertTrue(self.page.js("return document.querySelector('#against [value=rickert]').hidden"))
 
-    def test_a_paused_run_ends_and_goes_on(self):
+    def test_a_paused_run_ends_and_goes_on(self) -> None:
         self.show_job()
         self.page.set("against", "vdr")
         self.run_to(20)

@@ -11,20 +11,31 @@ from trlab._runs.calls import ask
 class Controls(OnPage):
     """The tests, in one browser."""
 
-    def test_every_control(self):
+    def test_every_control(self) -> None:
         page = self.page
         self.pause()
         page.click("again")
+        # A control, its new value, and the parameters of the job that are then not those of the first job.
         changes = [
-            ("density", "0.3", {"cars": 300}), ("cars", "151", {"cars": 151}), ("limit", "7", {"cars": 151, "limit": 7}),
-            ("limit", "35", {"cars": 151, "limit": 35}), ("limit", "5", {"cars": 151}),
-            ("start", "even", {"cars": 151, "start": trlab.even}), ("start", "jam", {"cars": 151, "start": trlab.jammed}),
-            ("start", "random", {"cars": 151}), ("key", "77", {"cars": 151, "key": 77, "start": trlab.random_cells(77)}),
+            ("density", "0.3", {"cars": 300}),
+            ("cars", "151", {"cars": 151}),
+            ("limit", "7", {"cars": 151, "limit": 7}),
+            ("limit", "35", {"cars": 151, "limit": 35}),
+            ("limit", "5", {"cars": 151}),
+            ("start", "even", {"cars": 151, "start": trlab.even}),
+            ("start", "jam", {"cars": 151, "start": trlab.jammed}),
+            ("start", "random", {"cars": 151}),
+            ("key", "77", {"cars": 151, "key": 77, "start": trlab.random_cells(77)}),
             ("key", "1", {"cars": 151}),
-            ("p", "0.5", {"cars": 151, "rule": Nasch(0.5)}), ("p", "0.123456789", {"cars": 151, "rule": Nasch(0.123456789)}),
-            ("p", "0.25", {"cars": 151}), ("stepcount", "60", {"cars": 151, "steps": 60}), ("stepcount", "5000", {"cars": 151}),
-            ("model", "vdr", {"cars": 151, "rule": SlowToStart(0.25, 0.5)}), ("q", "0.75", {"cars": 151, "rule": SlowToStart(0.25, 0.75)}),
-            ("model", "nasch", {"cars": 151}), ("length", "500", {"cars": 76, "length": 500}),
+            ("p", "0.5", {"cars": 151, "rule": Nasch(0.5)}),
+            ("p", "0.123456789", {"cars": 151, "rule": Nasch(0.123456789)}),
+            ("p", "0.25", {"cars": 151}),
+            ("stepcount", "60", {"cars": 151, "steps": 60}),
+            ("stepcount", "5000", {"cars": 151}),
+            ("model", "vdr", {"cars": 151, "rule": SlowToStart(0.25, 0.5)}),
+            ("q", "0.75", {"cars": 151, "rule": SlowToStart(0.25, 0.75)}),
+            ("model", "nasch", {"cars": 151}),
+            ("length", "500", {"cars": 76, "length": 500}),
             ("lanes", "2", {"cars": 151, "length": 500, "lanes": 2}),
             ("model", "rickert", {"cars": 151, "length": 500, "lanes": 2, "rule": Rickert(0.25, 0.75)}),
         ]
@@ -54,7 +65,7 @@ class Controls(OnPage):
         limit = int(text.split("\nlimit ")[1].split("\n")[0])
         self.has({"cars": [cars], "length": [len(lanes[0])], "limit": [limit], "lanes": [len(lanes)]}, shown)
 
-    def test_the_sentence(self):
+    def test_the_sentence(self) -> None:
         self.page.select(".lead [data-set=cars]")
         self.page.press(*"200", Keys.ENTER)
         self.has_job(job_of(cars=200))
@@ -62,14 +73,14 @@ class Controls(OnPage):
         self.page.press("0", Keys.ENTER)
         self.has_line("rule nasch 0\n")
 
-    def test_sliders(self):
+    def test_sliders(self) -> None:
         for _ in range(30):
             self.page.type("#density ~ [type=range]", Keys.RIGHT)
         self.has("0.3", lambda: self.page.value("density"))
         self.has_job(job_of(cars=300))
         self.hold(lambda: len(self.lab.children) <= 1 and not self.page.text("fault"))
 
-    def test_every_slider(self):
+    def test_every_slider(self) -> None:
         self.page.set("model", "vdr")
         self.has_line("rule vdr ")
         for name in "p", "q", "density", "limit", "length", "cars":
@@ -78,10 +89,10 @@ class Controls(OnPage):
                 slider.dispatchEvent(new Event('input', {bubbles: true}));
                 return slider.value""", name)
             self.has(float(value), lambda: float(self.page.value(name)))
-            self.hold(lambda: not self.page.js("return lab.isWriting"))
+            self.wait_until_written()
             self.agree()
 
-    def test_the_enlarged_part_can_be_dragged(self):
+    def test_the_enlarged_part_can_be_dragged(self) -> None:
         self.page.set("density", "0.01")
         self.pause()
         width = self.page.js("return document.getElementById('band').clientWidth")
@@ -89,7 +100,7 @@ class Controls(OnPage):
         self.page.drag("band", empty / 1000 * width, 0.8 * width, 8)
         self.hold(lambda: abs(self.page.js("return lab.player.lens") - 800) < 5)
 
-    def test_a_change_on_the_way_is_an_at_line(self):
+    def test_a_change_on_the_way_is_an_at_line(self) -> None:
         self.run_to(100)
         step = self.page.step()
         self.page.set("p", "0.5")
@@ -106,7 +117,7 @@ class Controls(OnPage):
         self.page.set("density", "0.2")
         self.has_job(job_of(cars=200))
 
-    def test_many_changes_on_the_way(self):
+    def test_many_changes_on_the_way(self) -> None:
         self.page.set("rate", 80, "input")
         self.hold(lambda: self.page.step() > 50)
         self.page.later("""const slider = document.querySelector('#p ~ [type=range]');

@@ -15,10 +15,11 @@ from trlab.lab.__main__ import fragment
 class Diagram(OnPage):
     """The tests, in one browser."""
 
-    def test_a_sweep(self):
+    def test_a_sweep(self) -> None:
+        heading = "cars,cells,steps,distance,stopped,changes,flow\n"
         self.page.click("sweep")
         self.has_marks(30)
-        self.hold(lambda: self.page.js("return lab.table").startswith("cars,cells,steps,distance,stopped,changes,flow\n20,1000,300,"))
+        self.hold(lambda: self.page.js("return lab.table").startswith(f"{heading}20,1000,300,"))
         self.hold(lambda: self.page.js("return document.querySelectorAll('#diagram circle').length") >= 30)
         self.page.click_at("diagram", 34 + 316 * 0.4, 120)
         self.hold(lambda: 390 <= int(self.page.value("cars")) <= 410)
@@ -26,42 +27,45 @@ class Diagram(OnPage):
         self.page.set("warm", "20")
         self.page.set("measure", "1")
         self.page.click("sweep")
-        self.hold(lambda: self.page.js("return lab.table").startswith("cars,cells,steps,distance,stopped,changes,flow\n20,1000,1,"))
+        self.hold(lambda: self.page.js("return lab.table").startswith(f"{heading}20,1000,1,"))
 
-    def test_the_numbers_of_a_point(self):
+    def test_the_numbers_of_a_point(self) -> None:
         """A click at a point shows its numbers; a click elsewhere sets the density."""
         self.page.click("sweep")
         self.has_marks(30)
-        place = self.page.js("""document.getElementById('diagram').scrollIntoView({block: 'center'});
-            const box = document.getElementById('diagram').getBoundingClientRect();
-            const point = [...document.querySelectorAll('#diagram circle.point')].find(it => it.textContent.startsWith('density 0.410'));
+        x, y, numbers = self.page.js("""const diagram = document.getElementById('diagram');
+            diagram.scrollIntoView({block: 'center'});
+            const points = [...document.querySelectorAll('#diagram circle.point')], box = diagram.getBoundingClientRect();
+            const point = points.find(it => it.textContent.startsWith('density 0.410'));
             const {left, top, width} = point.getBoundingClientRect();
             return [left + width / 2 - box.left + 3, top + width / 2 - box.top, point.textContent]""")
         cars = self.page.value("cars")
-        self.page.click_at("diagram", *place[:2])
-        self.has(place[2], lambda: self.page.text("pointnumbers"))
-        self.assertRegex(place[2], r"^density 0\.410, flow 0\.3\d\d, v_max 5, 1000 cells$")
+        self.page.click_at("diagram", x, y)
+        self.has(numbers, lambda: self.page.text("pointnumbers"))
+        self.assertRegex(numbers, r"^density 0\.410, flow 0\.3\d\d, v_max 5, 1000 cells$")
         self.assertEqual(self.page.value("cars"), cars)
-        self.page.click_at("diagram", place[0], place[1] - 60)
+        self.page.click_at("diagram", x, y - 60)
         self.hold(lambda: 410 <= int(self.page.value("cars")) <= 430)
         self.assertEqual(self.page.text("pointnumbers"), "")
 
     def exact_curve(self):
         """The points of the exact curve that is drawn, as densities and flows, or None."""
-        return self.page.js("""const line = document.querySelector('#diagram .exact'), top = lab.job.limit / (lab.job.limit + 1);
-            return line && line.getAttribute('points').split(' ').map(it => it.split(',').map(Number))
-                .map(([x, y]) => [(x - 34) / 316, (240 - y) / 222 * top])""")
+        return self.page.js("""const line = document.querySelector('#diagram .exact'), {limit} = lab.job;
+            const points = line && line.getAttribute('points').split(' ').map(it => it.split(',').map(Number));
+            // The axes are 316 pixels of density 1, and 222 pixels of the largest flow, from the corner (34, 240).
+            return points && points.map(([x, y]) => [(x - 34) / 316, (240 - y) / 222 * limit / (limit + 1)])""")
 
     def has_curve(self, *expected):
         """The exact curve comes to have these points, up to the tenth of a pixel to which it is drawn."""
         near = lambda one, other: abs(one[0] - other[0]) < 0.001 and abs(one[1] - other[1]) < 0.001
         self.hold(lambda: len(points := self.exact_curve() or []) == len(expected) and all(map(near, points, expected)))
 
-    def test_exact_curves(self):
+    def test_exact_curves(self) -> None:
         self.assertIsNone(self.exact_curve())
         self.page.set("p", "0")
         self.has_curve((0, 0), (1 / 6, 5 / 6), (1, 0))
-        self.hold(lambda: "exact" in self.page.text("diagram") and "every initial state reaches" in self.page.text("diagram"))
+        legend = lambda: self.page.text("diagram")
+        self.hold(lambda: "exact" in legend() and "every initial state reaches" in legend())
         self.page.set("limit", "1")
         self.has_curve((0, 0), (1 / 2, 1 / 2), (1, 0))
         self.page.set("p", "0.25")
@@ -84,7 +88,7 @@ class Diagram(OnPage):
         self.page.set("figure", "diagram")
         self.assertIn('class="exact"', self.saved("savefigure"))
 
-    def test_runs_lie_on_exact_curves(self):
+    def test_runs_lie_on_exact_curves(self) -> None:
         self.open(Job(limit=5, length=300, cars=90, start=trlab.random_cells(1), rule=Nasch(0), steps=500).text())
         self.hold(lambda: self.page.js("return lab.job.length") == 300)
         self.run_to(500)
@@ -104,7 +108,7 @@ class Diagram(OnPage):
         self.hold(lambda: self.page.js("return window.saved !== null"))
         return self.page.later("return await saved.text()")
 
-    def test_saving(self):
+    def test_saving(self) -> None:
         self.page.set("stepcount", 300)
         self.run_to(100)
         self.assertEqual(self.saved("savejob"), self.page.job())
@@ -120,7 +124,7 @@ class Diagram(OnPage):
             self.assertEqual(image.tag, "{http://www.w3.org/2000/svg}svg")
             self.assertGreater(len(list(image.iter())), 6, name)
 
-    def test_a_link(self):
+    def test_a_link(self) -> None:
         self.page.set("density", "0.4")
         self.page.click("link")
         self.hold(lambda: "#job=" in self.page.url())
@@ -133,7 +137,7 @@ class Diagram(OnPage):
         self.page.js("location.hash = '#job=!'")
         self.hold(lambda: "The job in this address is damaged" in self.page.text("fault"))
 
-    def test_an_exported_file_plays(self):
+    def test_an_exported_file_plays(self) -> None:
         job = Job(limit=5, length=200, lanes=2, density=0.2, start=trlab.random_cells(2), rule=Rickert(0.25, 0.5), steps=120)
         snapshots = job.run()
         with tempfile.TemporaryDirectory() as folder:

@@ -18,7 +18,7 @@ class Faults(OnPage):
     def long(self, **changes):
         """Open a long road and run some of its steps; its lanes at the step that is shown."""
         self.open(job_of(steps=400, **changes))
-        self.hold(lambda: self.page.js("return lab.job.length === arguments[0] && lab.job.cars === arguments[1]", changes["length"], changes["cars"]))
+        self.has([changes["length"], changes["cars"]], lambda: self.page.js("return [lab.job.length, lab.job.cars]"))
         self.run_to(40)
         expected = snapshots(self.page.job())
         return expected, self.page.step()
@@ -44,55 +44,60 @@ class Faults(OnPage):
 
     def dots(self, name, dots, y):
         """The colours on white of this number of pixels at a height of a drawing."""
-        return self.page.js("""const canvas = document.getElementById(arguments[0]), pen = canvas.getContext('2d');
-            const {data} = pen.getImageData(0, arguments[2], canvas.width, 1);
-            return Array.from({length: arguments[1]}, (_, k) => {
-                const at = 4 * Math.floor((k + 0.5) * canvas.width / arguments[1]), all = data[at + 3] / 255;
-                return [...data.slice(at, at + 3)].map(part => 255 + (part - 255) * all);
+        return self.page.js("""const [name, dots, y] = arguments, canvas = document.getElementById(name);
+            const {data} = canvas.getContext('2d').getImageData(0, y, canvas.width, 1);
+            return Array.from({length: dots}, (_, k) => {
+                const first = 4 * Math.floor((k + 0.5) * canvas.width / dots), opacity = data[first + 3] / 255;
+                return [...data.slice(first, first + 3)].map(part => 255 + (part - 255) * opacity);
             })""", name, dots, y)
 
     def pixels(self, lane, dots):
+        """The cells of a lane that share each of this number of pixels."""
         edges = [math.ceil(k * len(lane) / dots) for k in range(dots + 1)]
         return [lane[first:last] for first, last in zip(edges, edges[1:])]
 
-    def test_a_pixel_for_many_cells_shows_their_mean_speed_and_density(self):
+    def test_a_pixel_for_many_cells_shows_their_mean_speed_and_density(self) -> None:
         for lanes, length, cars in (1, 20000, 6000), (1, 5000, 200), (2, 4000, 3000):
             with self.subTest(lanes=lanes, length=length, cars=cars):
                 rule = Nasch(0.25) if lanes == 1 else Rickert(0.25, 0.5)
                 snapshots, step = self.long(length=length, lanes=lanes, cars=cars, rule=rule)
-                colours, wide = self.colours(), self.page.js("return document.getElementById('spacetime').width")
-                top, high = self.page.js("const {top, rowHeight: high} = lab.player.rows; return [top, high]")
-                for now in range(max(top, step - 20), step + 1):
-                    for lane, cells in enumerate(snapshots[now].lanes):
-                        expected = [self.colour_of(pixel, colours) for pixel in self.pixels(cells, wide)]
-                        self.near(self.dots("spacetime", wide, (now - top) * high + math.floor((lane + 0.5) / lanes * high)), expected)
+                colours, width = self.colours(), self.page.js("return document.getElementById('spacetime').width")
+                top, height = self.page.js("const {top, rowHeight} = lab.player.rows; return [top, rowHeight]")
+                for shown in range(max(top, step - 20), step + 1):
+                    for lane, cells in enumerate(snapshots[shown].lanes):
+                        expected = [self.colour_of(pixel, colours) for pixel in self.pixels(cells, width)]
+                        y = (shown - top) * height + math.floor((lane + 0.5) / lanes * height)
+                        self.near(self.dots("spacetime", width, y), expected)
                 for lane, cells in enumerate(snapshots[step].lanes):  # the whole road, above its enlarged part
-                    expected = [self.colour_of(pixel, colours) for pixel in self.pixels(cells, wide)]
-                    self.near(self.dots("band", wide, 10 if lanes == 1 else 5 + 11 * lane), expected)
+                    expected = [self.colour_of(pixel, colours) for pixel in self.pixels(cells, width)]
+                    self.near(self.dots("band", width, 10 if lanes == 1 else 5 + 11 * lane), expected)
                 self.assertIn("Colours of pixels are mean speeds", self.page.text("mixed"))
         self.open(job_of(length=100, cars=30))
-        self.hold(lambda: self.page.js("return lab.job.length === 100 && lab.player.step >= 0") and self.page.text("mixed") == "")
+        self.hold(lambda: self.page.js("return lab.job.length === 100 && lab.player.step >= 0"))
+        self.has("", lambda: self.page.text("mixed"))
 
-    def test_every_car_of_the_enlarged_part_is_drawn(self):
+    def test_every_car_of_the_enlarged_part_is_drawn(self) -> None:
         for lanes, length, cars in (1, 20000, 20000), (1, 100000, 30000), (2, 20000, 20000):
             with self.subTest(lanes=lanes, length=length, cars=cars):
                 rule = Nasch(0.25) if lanes == 1 else Rickert(0.25, 0.5)
                 start = trlab.even if cars == length * lanes else trlab.random_cells(2)
                 snapshots, step = self.long(length=length, lanes=lanes, cars=cars, rule=rule, start=start)
-                width, height, lens = self.page.js("const it = document.getElementById('band'); return [it.width, it.height, lab.player.lens]")
-                near = round(width / 9 + 1e-9)
-                tall, top = (26, height - 27) if lanes == 1 else (19, height - 39)
-                colours = {tuple(colour): str(v) for v, colour in enumerate(self.colours()[::100])}
+                width, height, lens = self.page.js("""const {width, height} = document.getElementById('band');
+                    return [width, height, lab.player.lens]""")
+                count = math.floor(width / 9 + 0.5)  # of enlarged cells, which have 9 pixels each
+                lane_height, top = (26, height - 27) if lanes == 1 else (19, height - 39)
+                characters = {tuple(colour): str(speed) for speed, colour in enumerate(self.colours()[::100])}
+                left = lens - count / 2  # where the enlarged part begins, in cells
+                first = math.ceil(left)  # the first whole cell
                 for lane, cells in enumerate(snapshots[step].lanes):
-                    first = lens - near / 2
-                    drawn = self.page.js("""const [first, near, y] = arguments, canvas = document.getElementById('band'), pen = canvas.getContext('2d');
-                        return Array.from({length: near - 2}, (_, k) => {
-                            const x = (Math.ceil(first) + k + 0.5 - first) * canvas.width / near;
-                            return [...pen.getImageData(Math.floor(x), y, 1, 1).data].slice(0, 3);
-                        })""", first, near, top + lane * tall + tall // 2)
-                    from_cell = math.ceil(first)
-                    expected = (cells + cells)[from_cell:from_cell + near - 2]
-                    self.assertEqual("".join(colours.get(tuple(colour), ".") for colour in drawn), expected)
+                    drawn = self.page.js("""const [left, first, count, y] = arguments;
+                        const band = document.getElementById('band');
+                        return Array.from({length: count - 2}, (_, k) => {
+                            const x = (first + k + 0.5 - left) * band.width / count;
+                            return [...band.getContext('2d').getImageData(Math.floor(x), y, 1, 1).data].slice(0, 3);
+                        })""", left, first, count, top + lane * lane_height + lane_height // 2)
+                    shown = "".join(characters.get(tuple(colour), ".") for colour in drawn)
+                    self.assertEqual(shown, (2 * cells)[first : first + count - 2])
 
     # Numbers
 
@@ -102,11 +107,13 @@ class Faults(OnPage):
         self.page.press(*text, Keys.ENTER)
 
     def box(self, selector):
-        """The text of a box, whether it is marked as invalid, and the message that describes it."""
-        return self.page.js("""const it = document.querySelector(arguments[0]), words = document.getElementById(it.getAttribute('aria-describedby'));
-            return [it.value, it.getAttribute('aria-invalid') === 'true', words.textContent, words.getAttribute('role')]""", selector)
+        """The text of a box, whether it is marked as invalid, and the message about it with the message's role."""
+        return self.page.js("""const it = document.querySelector(arguments[0]);
+            const isInvalid = it.getAttribute('aria-invalid') === 'true';
+            const message = document.getElementById(it.getAttribute('aria-describedby'));
+            return [it.value, isInvalid, message.textContent, message.getAttribute('role')]""", selector)
 
-    def test_fractions_and_decimals(self):
+    def test_fractions_and_decimals(self) -> None:
         self.pause()
         self.page.click("again")
         self.type("#p", "1/3")
@@ -114,8 +121,12 @@ class Faults(OnPage):
         self.has(["1/3", False, "", "alert"], lambda: self.box("#p"))
         self.has(["1/3", "0.3333333333"], lambda: [self.page.value("p"), str(self.page.js("return lab.job.rules[0].p"))])
         for selector, text, parameters in (
-            (".lead [data-set=p]", "1/4", {}), ("#p", " 5e-1", {"rule": Nasch(0.5)}), ("#p", ".25", {}), ("#density", "1/3", {"cars": 333}),
-            ("#cars", "150", {}), (".lead [data-set=length]", "2000", {"length": 2000, "cars": 300}),
+            (".lead [data-set=p]", "1/4", {}),
+            ("#p", " 5e-1", {"rule": Nasch(0.5)}),
+            ("#p", ".25", {}),
+            ("#density", "1/3", {"cars": 333}),
+            ("#cars", "150", {}),
+            (".lead [data-set=length]", "2000", {"length": 2000, "cars": 300}),
         ):
             with self.subTest(selector=selector, text=text):
                 self.type(selector, text)
@@ -123,29 +134,38 @@ class Faults(OnPage):
                 self.assertFalse(self.box(selector)[1])
         self.has(["0.15", "300"], lambda: [self.page.value("density"), self.page.value("cars")])
 
-    def test_a_box_shows_the_number_of_the_job(self):
+    def test_a_box_shows_the_number_of_the_job(self) -> None:
         self.page.set("length", "30")
         self.has_line("\nlane ")
         self.hold(lambda: self.page.js("return lab.job.length") == 30)
         self.type("#density", "0.34")
         self.has(["0.333333", "10"], lambda: [self.page.value("density"), self.page.value("cars")])
 
-    def test_what_is_not_accepted_keeps_its_text_and_changes_nothing(self):
+    def test_what_is_not_accepted_keeps_its_text_and_changes_nothing(self) -> None:
         self.pause()
         self.page.click("again")
         self.page.set("model", "vdr")
         self.has_line("rule vdr ")
-        job, runs = self.page.job(), self.page.js("return lab.player.film.steps")
-        film = "return (window.film ??= lab.player.film) === lab.player.film"
-        self.assertTrue(self.page.js(film))
+        job = self.page.job()
+        self.assertEqual(self.page.js("return lab.player.film.steps"), 5000)
+        is_the_same_run = "return (window.firstFilm ??= lab.player.film) === lab.player.film"
+        self.assertTrue(self.page.js(is_the_same_run))
         for selector, text, message in (
-            ("#p", "0,5", "Write 0.5 instead of 0,5."), ("#q", "1.5", "1.5 is more than 1: write a number from 0 to 1."),
+            ("#p", "0,5", "Write 0.5 instead of 0,5."),
+            ("#q", "1.5", "1.5 is more than 1: write a number from 0 to 1."),
             (".lead [data-set=p]", "a half", "a half is not a number: write a number from 0 to 1, such as 0.25 or 1/4."),
-            ("#limit", "40", "40 is more than 35: write a whole number from 1 to 35."), ("#limit", "0", "0 is less than 1: "),
-            ("#length", "100,000", "Write 100000, without a comma."), ("#cars", "1001", "1001 is more than 1000: "),
-            ("#cars", "1.5", "1.5 is not a whole number: "), ("#density", "0.0001", "less than one car on 1000 cells: write at least 0.001, or 0."),
-            ("#density", "1/0", "1/0 is not a number"), ("#stepcount", "", "Write a whole number from 0 to 500000."), ("#key", "x", "x is not a seed"),
-            ("#p", "1e-11", "would be 0 in a file"), ("#key", str(2**256), "is not a seed"), ("#p", "-0.1", "-0.1 is less than 0"),
+            ("#limit", "40", "40 is more than 35: write a whole number from 1 to 35."),
+            ("#limit", "0", "0 is less than 1: "),
+            ("#length", "100,000", "Write 100000, without a comma."),
+            ("#cars", "1001", "1001 is more than 1000: "),
+            ("#cars", "1.5", "1.5 is not a whole number: "),
+            ("#density", "0.0001", "less than one car on 1000 cells: write at least 0.001, or 0."),
+            ("#density", "1/0", "1/0 is not a number"),
+            ("#stepcount", "", "Write a whole number from 0 to 500000."),
+            ("#key", "x", "x is not a seed"),
+            ("#p", "1e-11", "would be 0 in a file"),
+            ("#key", str(2**256), "is not a seed"),
+            ("#p", "-0.1", "-0.1 is less than 0"),
         ):
             with self.subTest(selector=selector, text=text):
                 self.page.select(selector)
@@ -154,7 +174,7 @@ class Faults(OnPage):
                 value, _, words, role = self.box(selector)
                 self.assertEqual((value, role), (text, "alert"))
                 self.assertIn(message, words)
-                self.assertEqual((self.page.job(), self.page.js(film)), (job, True))
+                self.assertEqual((self.page.job(), self.page.js(is_the_same_run)), (job, True))
         self.page.select("#limit")
         self.page.press(Keys.ESCAPE)
         self.has(["5", False, "", "alert"], lambda: self.box("#limit"))
@@ -164,24 +184,24 @@ class Faults(OnPage):
         self.page.set("cars", "10")
         self.has(["10", False, "", "alert"], lambda: self.box("#cars"))
         self.page.set("example", "jams.job")
-        self.hold(lambda: self.page.js("return document.querySelectorAll('[data-set][aria-invalid=true]').length") == 0)
-        self.assertEqual(runs, 5000)
+        self.has(0, lambda: self.page.js("return document.querySelectorAll('[data-set][aria-invalid=true]').length"))
 
-    def test_seeds_of_256_bits(self):
+    def test_seeds_of_256_bits(self) -> None:
         self.page.set("key", str(2**256 - 1))
         self.has_line("key " + "f" * 64 + "\n")
         self.page.set("key", "007")
         self.has("7", lambda: self.page.value("key"))
 
-    def test_a_sweep_with_steps_that_are_not_numbers(self):
+    def test_a_sweep_with_steps_that_are_not_numbers(self) -> None:
         self.page.set("measure", "0")
         self.page.click("sweep")
-        self.assertEqual(self.box("#measure"), ["0", True, "0 is less than 1: write a whole number from 1 to 10000.", "alert"])
+        message = "0 is less than 1: write a whole number from 1 to 10000."
+        self.assertEqual(self.box("#measure"), ["0", True, message, "alert"])
         self.assertEqual(self.page.text("sweep"), "Sweep")
         self.page.set("measure", "1/2")
         self.assertIn("1/2 is not a whole number", self.box("#measure")[2])
 
-    def test_parameters_of_rules_in_python(self):
+    def test_parameters_of_rules_in_python(self) -> None:
         self.page.set("example", "keep_distance.py")
         self.has_line("; keep_distance(g=1, p=0.25)\n")
         selector = "[id='keep_distance.p']"
@@ -205,9 +225,10 @@ class Faults(OnPage):
         packer = zlib.compressobj(9, zlib.DEFLATED, -15)
         return "#job=" + base64.urlsafe_b64encode(packer.compress(text.encode()) + packer.flush()).rstrip(b"=").decode()
 
-    def test_the_message_about_an_address_stays(self):
+    def test_the_message_about_an_address_stays(self) -> None:
         for fragment, message in (
-            ("#job=%%%", "The job in this address is damaged and cannot be read."), ("#job=abcd", "The job in this address is damaged"),
+            ("#job=%%%", "The job in this address is damaged and cannot be read."),
+            ("#job=abcd", "The job in this address is damaged"),
             (self.link(job_of().replace("limit 5", "limit 99")), "The job in this address is rejected at line 3."),
             (self.link("a" * 64 * 2**20), "The job in this address is too long: at most 4194304 bytes are allowed."),
         ):
@@ -224,7 +245,7 @@ class Faults(OnPage):
         self.hold(lambda: self.page.text("fault").endswith("The page still plays the job that it had before."))
         self.has_job(job_of(cars=200))
 
-    def test_a_late_explanation_is_not_shown(self):
+    def test_a_late_explanation_is_not_shown(self) -> None:
         """The explanation of an earlier job file comes after that of the present one, because it is held back."""
         self.page.js("""const {fetch} = window;
             window.fetch = async (address, options) => {
@@ -247,7 +268,7 @@ class Faults(OnPage):
 
     # Playback
 
-    def test_a_step_after_a_long_pause(self):
+    def test_a_step_after_a_long_pause(self) -> None:
         """The run has ended in the pause, and its snapshots have to come again."""
         self.run_to(20)
         self.hold(lambda: self.page.js("return lab.player.run === null"))

@@ -1,7 +1,7 @@
-"""The page of trlab-lab as one file that contains the program: the tests of the page that need no server, and how a run ends there."""
+"""The page of trlab-lab as one file that contains the program: the tests of the page that need no server, and how a run
+ends there."""
 import base64
 import gzip
-import hashlib
 import re
 import unittest
 from pathlib import Path
@@ -11,6 +11,7 @@ from tests import stub_modules
 from tests.browsers import Window, missing
 from tests.lab_files import PROGRAM, File, InFile, lacking
 from tests.lab_pages import SHOTS, snapshots
+from tests.test_lab import sha256
 from tests.test_lab_access import ForEveryone
 from tests.test_lab_controls import Controls
 from tests.test_lab_diagram import Diagram
@@ -22,13 +23,23 @@ from trlab.lab.whole import whole_page
 
 # Tests of the server's processes, those of rules in Python, and one that imports a script of the server.
 OF_THE_SERVER = (
-    "test_a_paused_run_ends_and_goes_on", "test_sliders", "test_a_rule_in_python", "test_rules_in_python_for_two_lanes", "test_a_change_in_words",
+    "test_a_paused_run_ends_and_goes_on",
+    "test_sliders",
+    "test_a_rule_in_python",
+    "test_rules_in_python_for_two_lanes",
+    "test_a_change_in_words",
 )
-# Tests in which the program computes most. The served page has all tests in both browsers, and the file has them in Chromium, so that
-# in Firefox these suffice for the file.
-KEPT_IN_FIREFOX = ("test_every_snapshot_is_that_of_the_run", "test_exact_curves", "test_saving", "test_a_link", "test_a_sweep")
-# Counts the Workers that run the program: those that have been given it, and those that have been ended since. The scripts of a test
-# have names of their own in Firefox, so that those of the page are properties of `window`.
+# Tests in which the program computes most. The served page has all tests in both browsers, and the file has them in
+# Chromium, so that in Firefox these suffice for the file.
+KEPT_IN_FIREFOX = (
+    "test_every_snapshot_is_that_of_the_run",
+    "test_exact_curves",
+    "test_saving",
+    "test_a_link",
+    "test_a_sweep",
+)
+# Counts the Workers that run the program (`runs`), and keeps those that have not ended since (`running`). The scripts of a
+# test have names of their own in Firefox, so that those of the page are properties of `window`.
 WATCH = """window.running = new Set();
 window.runs = 0;
 const {postMessage, terminate} = window.Worker.prototype;
@@ -49,7 +60,7 @@ window.Worker.prototype.terminate = function() {
 class FilePages(InFile, Playing, Controls, Inputs, Diagram, ForEveryone):
     """The tests of the page, but not those of the server."""
 
-    def test_a_paused_run_ends_and_goes_on_in_its_place(self):
+    def test_a_paused_run_ends_and_goes_on_in_its_place(self) -> None:
         self.page.js(WATCH)
         self.page.click("again")
         self.run_to(20)
@@ -59,7 +70,7 @@ class FilePages(InFile, Playing, Controls, Inputs, Diagram, ForEveryone):
         for step, cells, *_ in self.page.js(SHOTS):
             self.assertEqual(cells, "".join(expected[step].lanes), step)
 
-    def test_a_run_that_is_replaced_ends(self):
+    def test_a_run_that_is_replaced_ends(self) -> None:
         self.page.js(WATCH)
         for cars in range(100, 140):
             self.page.set("cars", cars)
@@ -67,22 +78,23 @@ class FilePages(InFile, Playing, Controls, Inputs, Diagram, ForEveryone):
         self.has("139", lambda: self.page.value("cars"))
         self.hold(lambda: self.page.step() > 2 and self.page.js("return window.running.size") <= 1)
 
-    def test_unread_output_is_bounded(self):
+    def test_unread_output_is_bounded(self) -> None:
         self.page.set("stepcount", 500000)
         self.page.set("length", 100000)
         self.hold(lambda: self.page.js("return lab.player.film.length") == 100000)
         self.page.js(WATCH)
         self.page.click("again")
         self.run_to(60)
-        taken, step, most = self.page.js("return [window.taken, lab.player.step, lab.player.run?.maxWaiting ?? 40]")
-        self.assertLess(taken, (step + most + 2) * 100020 + 2**22)
+        taken, step, waiting = self.page.js("return [window.taken, lab.player.step, lab.player.run?.maxWaiting ?? 40]")
+        # A snapshot has 100,000 cells and a few words. It waits until the page shows it, after some MiB in buffers.
+        self.assertLess(taken, (step + waiting + 2) * 100020 + 2**22)
 
-    def test_rules_in_python_need_the_server(self):
+    def test_rules_in_python_need_the_server(self) -> None:
         self.page.set("model", "own")
         self.hold(lambda: "Rules in Python need the command trlab-lab" in self.page.text("pythonverdict"))
         self.assertTrue(self.page.js("return document.getElementById('python').hidden"))
         # A run that begins takes a message away.
-        self.hold(lambda: not self.page.js("return lab.isWriting"))
+        self.wait_until_written()
         self.open(server.examples()["overtake.py"], "overtake.py")
         self.hold(lambda: "Rules in Python need the command trlab-lab" in self.page.text("fault"))
 
@@ -97,11 +109,15 @@ class WithoutWaiting(InFile):
     @classmethod
     def text(cls):
         text = super().text()
-        changed = text.replace("const canSuspend = ", "const canSuspend = false && ").replace("const MAX_BUFFERED_BYTES = 2 ** 26;", "const MAX_BUFFERED_BYTES = 2 ** 18;")
-        assert len(changed) == len(text) + 9
-        return changed
+        for old, new in (
+            ("const canSuspend = ", "const canSuspend = false && "),
+            ("const MAX_BUFFERED_BYTES = 2 ** 26;", "const MAX_BUFFERED_BYTES = 2 ** 18;"),
+        ):
+            assert text.count(old) == 1, old
+            text = text.replace(old, new)
+        return text
 
-    def test_it_is_run_again(self):
+    def test_it_is_run_again(self) -> None:
         self.page.js(WATCH)
         self.page.click("again")
         # More than the page may have read before.
@@ -109,30 +125,32 @@ class WithoutWaiting(InFile):
         self.assertGreater(self.page.js("return window.runs"), 2)
         self.are_those_of_the_run()
 
-    def test_a_table(self):
+    def test_a_table(self) -> None:
         self.page.set("stepcount", 12000)
-        self.hold(lambda: "steps 12000\n" in self.page.job() and not self.page.js("return lab.isWriting"))
+        self.has_line("steps 12000\n")
+        self.wait_until_written()
         self.assertEqual(Diagram.saved(self, "savetable"), ask(["series"], self.page.job()))
 
 
 class Ends:
     """Runs without a result: a message says why, and the console has no error."""
 
-    def test_messages(self):
+    def test_messages(self) -> None:
         page = Window(self.browser, "about:blank")
         self.addCleanup(page.close)
-        for code, message in (
+        has_stopped = "The program has stopped because of an error, so its output is not complete: "
+        for program, message in (
             (stub_modules.MEMORY_RAN_OUT, "The program needs more memory than this browser gives it."),
-            (stub_modules.UNKNOWN_STATUS, "The program has stopped because of an error, so its output is not complete: exit status 7"),
-            (stub_modules.TRAP, "The program has stopped because of an error, so its output is not complete: RuntimeError"),
-            (stub_modules.OUTSIDE, "The program has stopped because of an error, so its output is not complete: RuntimeError"),
-            (stub_modules.ENDLESS_CALLS, "The program has stopped because of an error, so its output is not complete: "),
-            (b"\0asm\1\0\0\0\x7f", "This browser cannot run the program."),
+            (stub_modules.UNKNOWN_STATUS, f"{has_stopped}exit status 7"),
+            (stub_modules.TRAP, f"{has_stopped}RuntimeError"),
+            (stub_modules.OUTSIDE, f"{has_stopped}RuntimeError"),
+            (stub_modules.ENDLESS_CALLS, has_stopped),
+            (b"\0asm\1\0\0\0\x7f", "This browser cannot run the program."),  # not a module of WebAssembly
         ):
             with self.subTest(message=message):
-                page.get(File(self, whole_page(code, {})).address)
-                page.holds(lambda: page.text("fault"))
-                self.assertEqual(page.text("fault")[:len(message)], message)
+                page.get(File(self, whole_page(program, {})).address)
+                page.wait_until(lambda: page.text("fault"))
+                self.assertEqual(page.text("fault")[: len(message)], message)
                 self.assertEqual(page.errors(), [])
 
 
@@ -174,28 +192,38 @@ class WithoutWaitingInFirefox(WithoutWaiting, unittest.TestCase):
 class Whole(unittest.TestCase):
     """The text of the page."""
 
-    def setUp(self):
+    def setUp(self) -> None:
         self.text = whole_page(stub_modules.TRAP, {"a.job": "</script><!-- \u00e9", "b.py": "no"})
 
-    def test_it_loads_nothing(self):
+    def test_it_loads_nothing(self) -> None:
         policy = re.search('http-equiv="Content-Security-Policy" content="([^"]*)"', self.text)[1]
-        style, script = re.search("<style>(.*?)</style>", self.text, re.S)[1], re.search('<script type="module">(.*?)</script>', self.text, re.S)[1]
-        sums = [f"'sha256-{base64.b64encode(hashlib.sha256(source.encode()).digest()).decode()}'" for source in (script, style)]
-        self.assertEqual(policy, f"default-src 'none'; script-src {sums[0]} 'wasm-unsafe-eval'; style-src {sums[1]}; worker-src blob:; "
-                         "img-src data:; base-uri 'none'; form-action 'none'")
-        links = {source.replace("\\", "") for source in re.findall(r"""\b\w+://[^\s"'`<]*|\b(?:src|href)=[^\s>]*""", self.text)}
+        style = re.search("<style>(.*?)</style>", self.text, re.S)[1]
+        script = re.search('<script type="module">(.*?)</script>', self.text, re.S)[1]
+        expected = {
+            "default-src": "'none'",
+            "script-src": f"'sha256-{sha256(script)}' 'wasm-unsafe-eval'",
+            "style-src": f"'sha256-{sha256(style)}'",
+            "worker-src": "blob:",
+            "img-src": "data:",
+            "base-uri": "'none'",
+            "form-action": "'none'",
+        }
+        self.assertEqual(policy, "; ".join(f"{kind} {sources}" for kind, sources in expected.items()))
+        found = re.findall(r"""\b\w+://[^\s"'`<]*|\b(?:src|href)=[^\s>]*""", self.text)
+        links = {source.replace("\\", "") for source in found}
         # Links to papers lead elsewhere, but only if you click them.
         addresses = {source for source in links if not source.startswith("https://doi.org/")}
         self.assertEqual(addresses, {"http://www.w3.org/2000/svg", 'href="data:,"'})
         self.assertNotIn("import ", script)
 
-    def test_the_examples_and_the_program(self):
+    def test_the_examples_and_the_program(self) -> None:
         self.assertIn('id="examples">{"a.job": "\\u003c/script>\\u003c!-- \\u00e9"}</script>', self.text)
         self.assertEqual(gzip.decompress(base64.b64decode(PROGRAM.search(self.text)[1])), stub_modules.TRAP)
         self.assertEqual(self.text, whole_page(stub_modules.TRAP, {"a.job": "</script><!-- \u00e9"}))
 
-    def test_a_page_of_another_form(self):
-        with mock.patch.object(Path, "read_text", lambda path, _: "" if path.suffix in (".html", ".css") else path.read_bytes().decode()):
+    def test_a_page_of_another_form(self) -> None:
+        read = lambda path, _: "" if path.suffix in (".html", ".css") else path.read_bytes().decode()
+        with mock.patch.object(Path, "read_text", read):
             self.assertRaisesRegex(ValueError, "^page.html needs ", whole_page, b"", {})
 
 

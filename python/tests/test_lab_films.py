@@ -21,30 +21,36 @@ ROAD = {"limit": 5, "length": 50, "density": 0.2, "steps": 20, "key": 7, "start"
 
 
 def parts_of(page):
-    """The words of a film, its snapshots, and the page without them."""
-    run = re.search('id="run">(.*?)</script>', page, re.S)[1]
-    words = [html.unescape(next(filter(None, groups))) for groups in PARTS.findall(page)]
-    return [*words[:2], json.loads(words[2])], gzip.decompress(base64.b64decode(run)).decode(), PARTS.sub("", page.replace(run, ""))
+    """The parts of a film: its title, its first sentence, its job, its snapshots, and the page without all of them."""
+    packed = re.search('id="run">(.*?)</script>', page, re.S)[1]
+    title, lead, job = [html.unescape(next(filter(None, groups))) for groups in PARTS.findall(page)]
+    run = gzip.decompress(base64.b64decode(packed)).decode()
+    return title, lead, json.loads(job), run, PARTS.sub("", page.replace(packed, ""))
 
 
 class Films(OnPage):
     """The tests, in one browser."""
 
-    def test_a_film_is_that_of_the_command(self):
-        jobs = Job(**ROAD, rule=Nasch("1/3")), Job(**ROAD, rule=SlowToStart("1/64", "3/4"), at={5: Nasch(0)}), \
-            Job(**ROAD, rule=Own("motion\nnum r0, 0\ngo r0\n")), Job(**{**ROAD, "key": 2**255}, lanes=2, rule=Rickert(0.1, 1))
-        for job, lead in zip(jobs, (
-            "Nagel and Schreckenberg (1992), p = 0.3333333335, random seed 7: 10 cars on a ring of 50 cells, at most 5 cells per step.",
-            "Barlovic et al. (1998), p = 0.015625, and 0.75 if stopped, later another rule, random seed 7: 10 cars on a ring of 50 cells, at most 5 cells per step.",
-            "A rule of one's own, random seed 7: 10 cars on a ring of 50 cells, at most 5 cells per step.",
-            f"Rickert et al. (1996), p = 0.1, lane changes with 1, random seed {2**255}: 20 cars on two rings of 50 cells, at most 5 cells per step.",
-        )):
+    def test_a_film_is_that_of_the_command(self) -> None:
+        for job, expected_lead in (
+            (Job(**ROAD, rule=Nasch("1/3")),
+             "Nagel and Schreckenberg (1992), p = 0.3333333335, random seed 7: 10 cars on a ring of 50 cells"),
+            (Job(**ROAD, rule=SlowToStart("1/64", "3/4"), at={5: Nasch(0)}),
+             "Barlovic et al. (1998), p = 0.015625, and 0.75 if stopped, later another rule, random seed 7: "
+             "10 cars on a ring of 50 cells"),
+            (Job(**ROAD, rule=Own("motion\nnum r0, 0\ngo r0\n")),
+             "A rule of one's own, random seed 7: 10 cars on a ring of 50 cells"),
+            (Job(**{**ROAD, "key": 2**255}, lanes=2, rule=Rickert(0.1, 1)),
+             f"Rickert et al. (1996), p = 0.1, lane changes with 1, random seed {2**255}: 20 cars on two rings of 50 cells"),
+        ):
             text = job.text()
-            film, expected = parts_of(self.page.later(FILM, text)), parts_of(exported(text))
-            self.assertEqual(film, expected)
-            self.assertEqual((film[0][1], film[1]), (lead, ask(["run"], text)))
+            film = parts_of(self.page.later(FILM, text))
+            self.assertEqual(film, parts_of(exported(text)))
+            _, lead, _, run, _ = film
+            self.assertEqual(lead, f"{expected_lead}, at most 5 cells per step.")
+            self.assertEqual(run, ask(["run"], text))
 
-    def test_the_button(self):
+    def test_the_button(self) -> None:
         text = Job(**ROAD, rule=Nasch("1/4")).text()
         self.open(text)
         self.has_job(text)
@@ -65,12 +71,13 @@ class Films(OnPage):
             self.assertFalse(self.page.js("return document.getElementById('brake').checkVisibility()"))
             self.assertEqual(self.page.errors(), [])
 
-    def test_a_run_that_is_too_long(self):
+    def test_a_run_that_is_too_long(self) -> None:
         self.page.set("length", 100000)
         self.page.set("stepcount", 3000)
         self.hold(lambda: not self.page.js("return lab.isWriting") and "steps 3000\n" in self.page.job())
         self.page.click("savefilm")
-        self.hold(lambda: "too long for a film" in self.page.text("fault") and not self.page.js("return document.getElementById('savefilm').disabled"))
+        self.hold(lambda: "too long for a film" in self.page.text("fault"))
+        self.has(False, lambda: self.page.js("return document.getElementById('savefilm').disabled"))
 
 
 @unittest.skipIf(missing("chromium"), missing("chromium"))

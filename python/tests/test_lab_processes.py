@@ -13,7 +13,7 @@ from tests.waiting import first_of
 class Processes(OnPage):
     """The tests, in one browser."""
 
-    def test_an_interrupted_run(self):
+    def test_an_interrupted_run(self) -> None:
         self.page.set("length", 100000)
         self.hold(lambda: self.page.js("return lab.player.film.length") == 100000 and self.page.step() >= 0)
         os.kill(first_of(self.only_run).pid, signal.SIGKILL)
@@ -23,7 +23,7 @@ class Processes(OnPage):
         self.page.get("about:blank")
         self.page.errors()  # the browser reports the cut stream too, at some time
 
-    def test_two_pages(self):
+    def test_two_pages(self) -> None:
         self.page.set("stepcount", 500000)
         first, _ = self.page.open()
         self.page.get(self.lab.address)
@@ -35,7 +35,7 @@ class Processes(OnPage):
         self.hold(lambda: self.page.step() > before)
         self.hold(lambda: len(self.lab.children) <= 1)
 
-    def test_reloading(self):
+    def test_reloading(self) -> None:
         self.page.set("stepcount", 500000)
         self.has_line("\nsteps 500000\n")
         self.hold(lambda: not self.page.js("return lab.isWriting") and self.page.step() > 2)
@@ -46,7 +46,7 @@ class Processes(OnPage):
         self.page.get("about:blank")
         self.hold(lambda: not self.lab.children)
 
-    def test_another_origin(self):
+    def test_another_origin(self) -> None:
         with http.server.ThreadingHTTPServer(("127.0.0.1", 0), Empty) as other:
             thread = threading.Thread(target=other.serve_forever, kwargs={"poll_interval": 0.05})
             thread.start()

@@ -4,12 +4,11 @@ import unittest
 
 import trlab
 from tests.browsers import Keys, missing
-from tests.lab_pages import OnPage
-from trlab import Job, Nasch, Own, Rickert, SlowToStart, Snapshots
-from trlab._runs.calls import ask
-from trlab._results.written import snapshots_in
+from tests.lab_pages import OnPage, snapshots
+from trlab import Job, Nasch, Own, Rickert, SlowToStart
 
 SPEEDS = "0123456789abcdefghijklmnopqrstuvwxyz"
+# Why each car brakes at each step up to words[0]: step, lane, cell, speed and reason.
 REASONS = """const {reasonOf} = await import('./following.js'), {film} = lab.player, [rule] = lab.job.rules, found = [];
 for (let step = 1; step <= words[0]; step++) film.at(step).cells.forEach((byte, k) => {
     const car = {step, lane: Math.floor(k / film.length), cell: k % film.length};
@@ -18,29 +17,28 @@ for (let step = 1; step <= words[0]; step++) film.at(step).cells.forEach((byte, 
 return found"""
 
 
-def snapshots(text):
-    return Snapshots(snapshots_in(ask(["run"], text).splitlines(True)))
-
-
 def speeds_by_origin(snapshot):
     """The speed of each car by its lane and the cell from which it moved."""
-    return {(lane, (cell - SPEEDS.index(speed)) % len(cells)): SPEEDS.index(speed)
-            for lane, cells in enumerate(snapshot.lanes) for cell, speed in enumerate(cells) if speed != "."}
+    speeds = {}
+    for lane, cells in enumerate(snapshot.lanes):
+        for cell, character in enumerate(cells):
+            if character != ".":
+                speed = SPEEDS.index(character)
+                speeds[lane, (cell - speed) % len(cells)] = speed
+    return speeds
 
 
 class Teaching(OnPage):
     """The tests, in one browser."""
 
-    def ready(self):
-        self.hold(lambda: not self.page.js("return lab.isWriting"))
-
     def choose(self, example):
         self.page.set("example", example)
-        self.ready()
+        self.wait_until_written()
 
     def show_job(self, **changes):
-        parameters = {"limit": 3, "length": 60, "cars": 24, "start": trlab.random_cells(3), "rule": Nasch("1/4"), "steps": 400, "key": 5}
-        text = Job(**{**parameters, **changes}).text()
+        """Open a job of 24 cars on 60 cells, with changes, and return its file."""
+        road = {"limit": 3, "length": 60, "cars": 24, "start": trlab.random_cells(3)}
+        text = Job(**{**road, "rule": Nasch("1/4"), "steps": 400, "key": 5, **changes}).text()
         self.open(text)
         self.has_job(text)
         self.hold(lambda: self.page.js("return lab.player.film.length") == 60 and self.page.step() >= 0)
@@ -48,24 +46,28 @@ class Teaching(OnPage):
 
     # Models and examples
 
-    def test_each_model_is_explained(self):
-        for model, word in ("vdr", "stopped cars"), ("rickert", "changes lanes"), ("own", "verifier"), ("nasch", "random braking"):
+    def test_each_model_is_explained(self) -> None:
+        words = {"vdr": "stopped cars", "rickert": "changes lanes", "own": "verifier", "nasch": "random braking"}
+        for model, word in words.items():
             self.page.set("model", model)
             self.hold(lambda: word in self.page.text("about"))
-            link = self.page.js("const it = document.querySelector('#about a'); return [it.getAttribute('href'), it.rel, it.textContent]")
-            self.assertTrue(link[0].startswith("#") if model == "own" else link[0].startswith("https://doi.org/10."), link)
-            self.assertEqual(link[1], "" if model == "own" else "noopener noreferrer")
-            self.assertEqual(len(re.findall(r"[.](?= |$)", self.page.text("about").partition(link[2])[0])), 2)
+            address, relation, link_text = self.page.js("""const it = document.querySelector('#about a');
+                return [it.getAttribute('href'), it.rel, it.textContent]""")
+            self.assertTrue(address.startswith("#" if model == "own" else "https://doi.org/10."), address)
+            self.assertEqual(relation, "" if model == "own" else "noopener noreferrer")
+            explanation = self.page.text("about").partition(link_text)[0]
+            self.assertEqual(len(re.findall(r"[.](?= |$)", explanation)), 2, "two sentences")
         self.assertEqual(self.page.js("return document.getElementById('model').getAttribute('aria-describedby')"), "about")
 
-    def test_the_model_of_a_file_is_explained(self):
+    def test_the_model_of_a_file_is_explained(self) -> None:
         for rule, word in (SlowToStart("1/8", "3/4"), "stopped cars"), (Nasch("1/4"), "random braking"):
             self.show_job(rule=rule)
             self.hold(lambda: word in self.page.text("about"))
-            self.assertTrue(self.page.js("return document.getElementById('about').checkVisibility()"), word)
+            self.assertTrue(self.is_visible("about"), word)
 
-    def test_every_example_has_a_name_and_a_sentence(self):
-        listed = self.page.js("return [...document.querySelectorAll('#example option')].slice(1).map(it => [it.value, it.textContent, it.parentNode.label])")
+    def test_every_example_has_a_name_and_a_sentence(self) -> None:
+        listed = self.page.js("""const options = [...document.querySelectorAll('#example option')];
+            return options.slice(1).map(it => [it.value, it.textContent, it.parentNode.label])""")
         self.assertCountEqual([value for value, _, _ in listed if "." in value], self.examples())
         for value, name, group in listed:
             self.assertTrue(group, value)
@@ -74,107 +76,122 @@ class Teaching(OnPage):
             self.choose(name)
             self.hold(lambda: self.page.text("story").endswith(f". {name}"))
 
-    def test_there_is_time_to_watch_an_example(self):
-        examples = ("two_cars.job", 4, "1"), ("queue.job", 20, "2"), ("jams.job", 200, "19"), ("nasch.rule", 200, "19"), ("triangle.sweep", 5000, "33")
-        for example, steps, rate in examples:
+    def test_there_is_time_to_watch_an_example(self) -> None:
+        for example, steps, rate in (
+            ("two_cars.job", 4, "1"),
+            ("queue.job", 20, "2"),
+            ("jams.job", 200, "19"),
+            ("nasch.rule", 200, "19"),
+            ("triangle.sweep", 5000, "33"),
+        ):
             self.choose(example)
             self.has([steps, rate], lambda: [self.page.js("return lab.job.steps"), self.page.text("rateout")])
 
-    def test_the_road_of_a_sweep_shows_its_phenomenon(self):
+    def test_the_road_of_a_sweep_shows_its_phenomenon(self) -> None:
         self.choose("lane_rule.sweep")
         self.hold(lambda: self.page.value("cars") == "60" and self.page.js("return lab.job.lanes") == 2)
         self.run_to(100)
-        one, other = self.page.js("return lab.player.film.at(100).densities")
-        self.assertGreater(one, 1.5 * other)
+        first_lane, second_lane = self.page.js("return lab.player.film.at(100).densities")
+        self.assertGreater(first_lane, 1.5 * second_lane)
         self.choose("two_lanes.sweep")
         self.has("150", lambda: self.page.value("cars"))
 
-    def test_hysteresis_is_an_example(self):
+    def test_hysteresis_is_an_example(self) -> None:
         self.page.set("warm", 2)
         self.page.set("measure", 3)
         self.choose("Hysteresis")
         self.has_line("rule vdr 33554432 1610612736\n")
-        self.hold(lambda: self.page.js("return lab.marks.filter(it => it.name).map(it => it.start)") == ["moving", "jam"])
+        self.has(["moving", "jam"], lambda: self.page.js("return lab.marks.filter(it => it.name).map(it => it.start)"))
         self.assertEqual(self.page.value("start"), "moving")
         self.assertIn("initial state decides", self.page.text("story"))
 
     # Units
 
-    def test_units(self):
+    def test_units(self) -> None:
         self.show_job()
         self.run_to(40)
-        shown = lambda: [self.page.text(name) for name in ("flow", "dense", "speed")]
-        ends = lambda: self.page.js("return [...document.querySelectorAll('[data-most]')].map(it => it.textContent)")
+        shown = lambda: [float(self.page.text(name)) for name in ("flow", "dense", "speed")]
+        maxima = lambda: self.page.js("return [...document.querySelectorAll('[data-most]')].map(it => it.textContent)")
         axis = lambda: self.page.js("return [...document.querySelectorAll('#diagram text')].map(it => it.textContent)")
-        flow, density, speed = map(float, shown())
+        flow, density, speed = shown()
         self.assertEqual(density, 0.4)
-        self.assertEqual(ends(), ["0.75", "1", "3"])
+        self.assertEqual(maxima(), ["0.75", "1", "3"])
         self.assertIn("density (cars per cell)", axis())
         self.page.set("units", "road")
         self.hold(lambda: "vehicles per hour" in "".join(axis()) and "81 km/h" in self.page.text("legend"))
-        converted = list(map(float, shown()))
-        self.assertEqual(converted[1], 53)  # 0.4 cars per cell of 7.5 m
-        self.assertLessEqual(abs(converted[0] - 3600 * flow), 3600 * 0.0005 + 0.5)
-        self.assertLessEqual(abs(converted[2] - 27 * speed), 27 * 0.005 + 0.5)
-        self.assertEqual(ends(), ["2700", "133", "81"])
+        hourly_flow, cars_per_km, kmh = shown()
+        self.assertEqual(cars_per_km, 53)  # 0.4 cars per cell of 7.5 m
+        # Both numbers are rounded: the flow per step to 3 digits, the speed in cells per step to 2, and the others to 0.
+        self.assertLessEqual(abs(hourly_flow - 3600 * flow), 3600 * 0.0005 + 0.5)
+        self.assertLessEqual(abs(kmh - 27 * speed), 27 * 0.005 + 0.5)
+        self.assertEqual(maxima(), ["2700", "133", "81"])
         self.assertTrue({"500", "1000", "20", "40", "120"} <= set(axis()))
         self.page.click("follow")
         self.hold(lambda: re.search(r"at \d+ km/h\. Its gap is [\d.]+ m", self.page.text("car")))
 
-    def test_points_of_other_roads(self):
+    def test_points_of_other_roads(self) -> None:
         self.page.set("limit", 3)
-        self.ready()
-        self.page.js("lab.marks.push({limit: 5, length: 1000, lanes: 1, points: [{density: 0.2, flow: 0.4}]}, {limit: 3, length: 1000, lanes: 1, points: [{density: 0.2, flow: 0.3}]})")
+        self.wait_until_written()
+        self.page.js("""lab.marks.push(
+            {limit: 5, length: 1000, lanes: 1, points: [{density: 0.2, flow: 0.4}]},
+            {limit: 3, length: 1000, lanes: 1, points: [{density: 0.2, flow: 0.3}]})""")
         self.page.set("units", "cells")
         self.hold(lambda: "runs: v_max 5, 1000 cells" in self.page.text("diagram"))
-        self.assertIn("flow 0.400, v_max 5, 1000 cells", self.page.js("return document.querySelector('path.point title').textContent"))
+        title = self.page.js("return document.querySelector('path.point title').textContent")
+        self.assertIn("flow 0.400, v_max 5, 1000 cells", title)
         self.assertEqual(self.page.js("return document.querySelectorAll('path.point').length"), 1)
 
-    def test_the_legend_is_not_cut(self):
-        self.page.js("lab.marks.push({name: 'p 0.123456789, two lanes', start: 'jam', group: 1, limit: 35, length: 100000, lanes: 2, points: [{density: 0.2, flow: 0.4}]})")
+    def test_the_legend_is_not_cut(self) -> None:
+        self.page.js("""const road = {limit: 35, length: 100000, lanes: 2}, points = [{density: 0.2, flow: 0.4}];
+            lab.marks.push({...road, name: 'p 0.123456789, two lanes', start: 'jam', group: 1, points})""")
         self.page.set("units", "road")
         self.page.set("units", "cells")
         self.hold(lambda: "2 × 100000 cells" in self.page.text("diagram"))
-        right = self.page.js("return Math.max(...[...document.querySelectorAll('#diagram text')].map(it => { const box = it.getBBox(); return box.x + box.width; }))")
+        right = self.page.js("""const boxes = [...document.querySelectorAll('#diagram text')].map(it => it.getBBox());
+            return Math.max(...boxes.map(({x, width}) => x + width))""")
         self.assertLessEqual(right, 360)
 
     # The followed car
 
-    def test_why_a_car_brakes(self):
+    def test_why_a_car_brakes(self) -> None:
         """A car has braked at random if it is slower than without random braking, from the same road."""
         rules = (Nasch("1/4"), Nasch(0)), (SlowToStart("1/8", "3/4"), SlowToStart(0, 0)), (Rickert("1/4", 1), Rickert(0, 1))
-        for rule, calm in rules:
+        for rule, without_braking in rules:
             lanes = 2 if isinstance(rule, Rickert) else 1
-            self.show_job(rule=rule, lanes=lanes, cars=24 * lanes)
+            cars = 24 * lanes
+            self.show_job(rule=rule, lanes=lanes, cars=cars)
             self.run_to(40)
             shown = snapshots(self.page.job().replace("steps 400", "steps 40"))
             reasons = self.page.later(REASONS, 40)
-            self.assertEqual(len(reasons), 24 * lanes * 40)
-            for number in range(40):
-                parameters = {"limit": 3, "rule": calm, "steps": 1, "key": 5}
-                safe = speeds_by_origin(snapshots(Job(start=shown[number].lanes, **parameters).text())[1])
-                for step, lane, cell, speed, why in reasons[24 * lanes * number:24 * lanes * (number + 1)]:
-                    expected = safe[lane, (cell - speed) % 60]
-                    self.assertEqual((step, "at random" in why), (number + 1, speed < expected), why)
+            self.assertEqual(len(reasons), 40 * cars)
+            for before in range(40):
+                one_step = Job(start=shown[before].lanes, limit=3, rule=without_braking, steps=1, key=5)
+                speeds = speeds_by_origin(snapshots(one_step.text())[1])
+                for step, lane, cell, speed, why in reasons[before * cars : (before + 1) * cars]:
+                    expected = speeds[lane, (cell - speed) % 60]
+                    self.assertEqual((step, "at random" in why), (before + 1, speed < expected), why)
                     self.assertTrue(why and expected - speed in (0, 1), (why, expected, speed))
 
-    def test_what_is_known_of_a_rule_of_ones_own(self):
+    def test_what_is_known_of_a_rule_of_ones_own(self) -> None:
         self.show_job(rule=Own("motion\nnum r0, 0\ngo r0\n"), start=["3..0.." + 54 * "."], cars=None, length=None)
         self.run_to(2)
-        self.assertEqual([why for *_, why in self.page.later(REASONS, 2)], [
-            "It braked from 3 to 0 cells per step: its gap was 2 cells, and its rule chose less.", "", "", ""])
+        first_reason, *other_reasons = [why for *_, why in self.page.later(REASONS, 2)]
+        self.assertEqual(first_reason, "It braked from 3 to 0 cells per step: its gap was 2 cells, and its rule chose less.")
+        self.assertEqual(other_reasons, ["", "", ""])
 
-    def test_the_followed_car(self):
+    def test_the_followed_car(self) -> None:
         self.show_job(start=["3..0.." + 54 * "."], cars=None, length=None, rule=Nasch(0))
         self.pause()
         self.page.click("again")
         self.hold(lambda: self.page.step() == 0)
         self.page.js("lab.player.car = {step: 0, lane: 0, cell: 0}; lab.player.redraw()")
-        self.has("You follow the car in cell 0, at 3 cells per step. Its gap is 2 cells, and the car ahead drives at 0 cells per step.",
-                 lambda: self.page.text("car"))
+        self.has(
+            "You follow the car in cell 0, at 3 cells per step. Its gap is 2 cells, and the car ahead drives at 0 cells per "
+            "step.", lambda: self.page.text("car"))
         self.page.click("one")
-        self.has("You follow the car in cell 2, at 2 cells per step. Its gap is 1 cell, and the car ahead drives at 1 cell per step. "
-                 "It braked from 3 to 2 cells per step, because its gap was 2 cells.", lambda: self.page.text("car"))
+        self.has(
+            "You follow the car in cell 2, at 2 cells per step. Its gap is 1 cell, and the car ahead drives at 1 cell per "
+            "step. It braked from 3 to 2 cells per step, because its gap was 2 cells.", lambda: self.page.text("car"))
 
     # A disturbance by the user
 
@@ -183,7 +200,7 @@ class Teaching(OnPage):
         stopped = {"step": 0, "lane": car["lane"], "cell": car["cell"]}
         self.has(stopped, lambda: self.page.js("const {film, car} = lab.player; return car && film.follow(car, 0)"))
 
-    def test_a_car_brakes(self):
+    def test_a_car_brakes(self) -> None:
         text = self.show_job(rule=Nasch("1/4"), at={390: Nasch("1/2")})
         self.assertTrue(self.page.js("return document.getElementById('brake').disabled"))
         self.run_to(30)
@@ -195,14 +212,16 @@ class Teaching(OnPage):
         [lane] = snapshots(text)[step].lanes
         self.page.keys("b")
         stopped = lane[:car["cell"]] + "0" + lane[car["cell"] + 1:]
-        self.has_job(Job(limit=3, start=[stopped], rule=Nasch("1/4"), steps=400, key=5, at={390 - step: Nasch("1/2")}).text())
+        expected = Job(limit=3, start=[stopped], rule=Nasch("1/4"), steps=400, key=5, at={390 - step: Nasch("1/2")})
+        self.has_job(expected.text())
         self.hold(lambda: f"braked to a stop at step {step}." in self.page.text("story"))
         self.follows_in_the_new_run(car)
         self.run_to(50)
         shots = self.page.js("return lab.player.film.snapshots.map(it => String.fromCharCode(...it.cells))")
-        self.assertEqual(shots, ["".join(snapshot.lanes) for snapshot in snapshots(self.page.job())][:len(shots)])
+        run = ["".join(snapshot.lanes) for snapshot in snapshots(self.page.job())]
+        self.assertEqual(shots, run[: len(shots)])
 
-    def test_a_car_on_two_lanes_brakes_by_the_button(self):
+    def test_a_car_on_two_lanes_brakes_by_the_button(self) -> None:
         text = self.show_job(rule=Rickert("1/4", "1/2"), lanes=2, cars=48)
         self.run_to(20)
         self.page.click("follow")
@@ -210,26 +229,31 @@ class Teaching(OnPage):
         self.page.click("brake")
         lanes = [list(lane) for lane in snapshots(text)[step].lanes]
         lanes[car["lane"]][car["cell"]] = "0"
-        self.has_job(Job(limit=3, start=["".join(lane) for lane in lanes], rule=Rickert("1/4", "1/2"), steps=400, key=5).text())
+        start = ["".join(lane) for lane in lanes]
+        self.has_job(Job(limit=3, start=start, rule=Rickert("1/4", "1/2"), steps=400, key=5).text())
         self.follows_in_the_new_run(car)
         self.page.keys(Keys.ESCAPE)
         self.hold(lambda: self.page.js("return lab.player.car") is None)
 
-    def test_a_car_that_brakes_is_followed_no_longer(self):
+    def test_a_car_that_brakes_is_followed_no_longer(self) -> None:
         """Escape counts also before the new run has begun, and before it has a snapshot."""
-        moments = {"before": "brake.click(); press();", "after": """player.load = (...words) => {
-            delete player.load;
-            player.load(...words);
-            press();
-        };
-        brake.click();"""}
-        for moment, script in moments.items():
+        scripts = {
+            "before the new run": "brake.click(); pressEscape();",
+            "before its first snapshot": """player.load = (...words) => {
+                delete player.load;
+                player.load(...words);
+                pressEscape();
+            };
+            brake.click();""",
+        }
+        for moment, script in scripts.items():
             with self.subTest(moment=moment):
                 text = self.show_job()
                 self.run_to(20)
                 self.page.click("follow")
                 self.page.act("""const {player} = lab, brake = document.getElementById('brake');
-                    const press = () => document.body.dispatchEvent(new KeyboardEvent('keydown', {key: 'Escape', bubbles: true}));""" + script)
+                    const escape = new KeyboardEvent('keydown', {key: 'Escape', bubbles: true});
+                    const pressEscape = () => document.body.dispatchEvent(escape);""" + script)
                 self.hold(lambda: self.page.job() != text and self.page.step() == 0)
                 self.assertIsNone(self.page.js("return lab.player.car"))
 

@@ -9,7 +9,10 @@ from tests.test_lab_teaching import Teaching
 
 # These import a script of the server, or look at its processes.
 OF_THE_SERVER = (
-    "test_a_row_is_that_of_a_sweep", "test_a_film_is_that_of_the_command", "test_a_paused_run_ends_and_goes_on", "test_why_a_car_brakes",
+    "test_a_row_is_that_of_a_sweep",
+    "test_a_film_is_that_of_the_command",
+    "test_a_paused_run_ends_and_goes_on",
+    "test_why_a_car_brakes",
     "test_what_is_known_of_a_rule_of_ones_own",
 )
 
