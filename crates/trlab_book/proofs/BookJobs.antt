@@ -125,7 +125,7 @@ lends number lease call.Lease (reply.Leased job out step steps) = (job == number
 lends number lease _ _ = false
 
 abbrev pub IsNotOutFor : ℕ → ℕ → ℕ → JobState → Type 0
-IsNotOutFor number lease index job = index ≡ number → is_out lease job.lease_out ≡ false
+IsNotOutFor number lease index job = index ≡ number → is_out lease job.out ≡ false
 
 second_false : (a b : Bool) → (a && b) ≡ false → a ≡ true → b ≡ false
 second_false true b is holds = is
@@ -144,20 +144,20 @@ lent_reply book index job first at =
 not_out_kept : (number lease : ℕ) (book : BookState) (made : Call) → lends number lease made (outcome_of_call book made).reply ≡ false → KeepsCall (IsNotOutFor number lease) book made
 not_out_kept number lease book (call.Submit seed rule steps) other = λ index same. refl
 not_out_kept number lease book (call.Replace index rule) other = λ job is same.
-    let P : JobOutcome → Type 0 = λ (o : JobOutcome). is_out lease o.job.lease_out ≡ false in
+    let P : JobOutcome → Type 0 = λ (o : JobOutcome). is_out lease o.job.out ≡ false in
     let h = is same in
     by_if P (job.cancelled || (job.high == job.steps)) _ _ h (by_if P (not (suits rule job.seed.road)) _ _ h (by_if P (ltb MAX_ENTRIES (length (with_rule_from job.sheet job.high rule))) _ _ h h))
 not_out_kept number lease book call.Lease other = λ index job first at is same.
     second_false (index == number) (book.next == lease) (ap (lends number lease call.Lease) (sym (lent_reply book index job first at)) ∙ other) (eq-eqb index number same)
 not_out_kept number lease book (call.Order offer) other = λ job is same.
-    let P : JobOutcome → Type 0 = λ (o : JobOutcome). is_out lease o.job.lease_out ≡ false in
+    let P : JobOutcome → Type 0 = λ (o : JobOutcome). is_out lease o.job.out ≡ false in
     let h = is same in
     by_if P (job.cancelled || (offer.step == job.steps)) _ _ h (by_if P (accepts_lease offer job) _ _ h h)
 not_out_kept number lease book (call.GiveBack offer) other = λ job is same.
-    by_if (λ (o : JobOutcome). is_out lease o.job.lease_out ≡ false) (accepts_lease offer job) _ _ refl (is same)
-not_out_kept number lease book (call.Revoke index) other = λ job is same. by_if (λ (o : JobOutcome). is_out lease o.job.lease_out ≡ false) (is_some job.lease_out) _ _ refl (is same)
+    by_if (λ (o : JobOutcome). is_out lease o.job.out ≡ false) (accepts_lease offer job) _ _ refl (is same)
+not_out_kept number lease book (call.Revoke index) other = λ job is same. by_if (λ (o : JobOutcome). is_out lease o.job.out ≡ false) (is_some job.out) _ _ refl (is same)
 not_out_kept number lease book (call.Cancel index) other = λ job is same.
-    by_if (λ (o : JobOutcome). is_out lease o.job.lease_out ≡ false) (job.cancelled || (job.done == job.steps)) _ _ (is same) refl
+    by_if (λ (o : JobOutcome). is_out lease o.job.out ≡ false) (job.cancelled || (job.done == job.steps)) _ _ (is same) refl
 not_out_kept number lease book (call.Read index) other = tt
 
 -- it stays so as long as no event lends it
@@ -171,7 +171,7 @@ stays_not_out number lease book (made ∷ events) told none are =
 
 pub not_out_all : (book : BookState) (number lease : ℕ) → LeaseIsNotOut book number lease → AllHave (IsNotOutFor number lease) book.jobs
 not_out_all book number lease is index job at same =
-    subst (λ (o : Option JobState). MatchOption o ⊥ (λ (k : JobState). is_out lease k.lease_out ≡ false)) (ap (slice_get book.jobs) (sym same) ∙ at) is
+    subst (λ (o : Option JobState). MatchOption o ⊥ (λ (k : JobState). is_out lease k.out ≡ false)) (ap (slice_get book.jobs) (sym same) ∙ at) is
 
 -- numbers of leases
 
@@ -237,12 +237,12 @@ never_lent number lease book (made ∷ events) told low =
     (never_lent number lease (after book made.call) events (rest_told book made events told) (omega (arith, low, grows)))
 
 -- a lease that was given back is not out
-back_by : (offer : Offered) (job : JobState) (lease : ℕ) → (give_back_outcome offer job).reply ≡ reply.Done → is_out lease (give_back_outcome offer job).job.lease_out ≡ false
+back_by : (offer : Offered) (job : JobState) (lease : ℕ) → (give_back_outcome offer job).reply ≡ reply.Done → is_out lease (give_back_outcome offer job).job.out ≡ false
 back_by offer job lease = by (accepts_lease offer job)
   where
     by : (own : Bool)
-        → let ended : JobOutcome = if own then record { reply = reply.Done; job = record job { done = offer.step; lease_out = None } } else refusal fault.StrangerLease job in
-        ended.reply ≡ reply.Done → is_out lease ended.job.lease_out ≡ false
+        → let ended : JobOutcome = if own then record { reply = reply.Done; job = record job { done = offer.step; out = None } } else refusal fault.StrangerLease job in
+        ended.reply ≡ reply.Done → is_out lease ended.job.out ≡ false
     by true told = refl
     by false told = absurd (cc told)
 
@@ -259,7 +259,7 @@ module _ (book : BookState) (offer : Offered) (lease : ℕ) where
       let is = back_by offer old lease (sym (ap (λ (s : JobsOutcome). s.reply) ended) ∙ told) in
       subst (AllHave (IsNotOutFor offer.job lease)) (sym (ap (λ (s : JobsOutcome). s.jobs) ended)) (λ index job at same.
       let mine : now ≡ job = same_Some now job (sym (set_here book.jobs offer.job now old found) ∙ (ap (slice_get (slice_set book.jobs offer.job now)) (sym same) ∙ at)) in
-      subst (λ (k : JobState). is_out lease k.lease_out ≡ false) mine is)
+      subst (λ (k : JobState). is_out lease k.out ≡ false) mine is)
 
   pub back_not_out : reply_of book (call.GiveBack offer) ≡ reply.Done → AllHave (IsNotOutFor offer.job lease) (after book (call.GiveBack offer)).jobs
   back_not_out told =

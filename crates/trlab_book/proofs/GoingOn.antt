@@ -60,12 +60,12 @@ runs_append s t u (x ∷ xs) ys first second = (first.0, first.1, first.2, first
 same_number : (n : ℕ) → (n == n) ≡ true
 same_number n = eq-eqb n n refl
 
--- events that are in order from one number on are in order from any smaller number on
+-- events that come late enough
 lower : (from below : ℕ) (events : List (Noted Event)) → below ≤ from → AreInOrderFrom from events → AreInOrderFrom below events
 lower from below [] low rise = tt
 lower from below (made ∷ more) low rise = (omega (arith, low, rise.0), rise.1)
 
--- events in order, followed by later events in order, are in order
+-- events that come after others
 rise_append : (from to : ℕ) (xs ys : List (Noted Event)) → from ≤ to → All (λ (x : Noted Event). event_number x < to) xs → AreInOrderFrom from xs → AreInOrderFrom to ys → AreInOrderFrom from (xs ++ ys)
 rise_append from to [] ys low all first second = lower to from ys low second
 rise_append from to (x ∷ xs) ys low all first second =
@@ -125,7 +125,7 @@ module _ {L : Type 0} {ledger : Ghosts L} where
           }
       by_event false same none = stays a b same (is_none a b told none)
 
-  -- an order is one more call of a runner, for any value of `same`
+  -- so is an order, for any value of `same`
   pub orders_on : (Holds : Bool → BookState → Type 0) (a b c : Desk L ledger) (lease : LeaseState) (told : Reply) → AddsRunnerCalls a b
       → (same : Bool) × MakesCallOn (Holds same) b (OrderCall (offered lease same)) told c → AddsRunnerCalls a c
   orders_on Holds a b c lease told on made = goes_on a b c on (makes_goes (Holds made.0) b c (OrderCall (offered lease made.0)) told made.1 refl)
@@ -175,7 +175,7 @@ module _ {L : Type 0} {ledger : Ghosts L} where
         (made.noted.1, omega (arith, made.noted.3), of_runner);
   }
 
-  -- one event of a runner leads it from one state to the next
+  -- it leads to the next stage
   goes_one : (from to : RunnerState) (a b : Desk L ledger) (call : Call) (told : Reply) (book : BookState) → part_count b ≡ part_count a → MakesEvent a call told b book
       → is_runner_call call ≡ true → stage_after (stage_of from) (event call told) ≡ stage_of to → CallsAs from book (event call told) to → Goes from to a b
   goes_one from to a b call told book same made of_runner next calls = record {
@@ -184,7 +184,7 @@ module _ {L : Type 0} {ledger : Ghosts L} where
     leases = (to, book, made.replays, calls, refl);
   }
 
-  -- calls of a runner and then further calls lead it from the first state to the last
+  -- calls are followed by others
   pub goes_both : (s t u : RunnerState) (a b c : Desk L ledger) → Goes s t a b → Goes t u b c → Goes s u a c
   goes_both s t u a b c first second = record {
     on = goes_on a b c first.on second.on;
@@ -201,7 +201,7 @@ module _ {L : Type 0} {ledger : Ghosts L} where
   pub rests : (s : RunnerState) (a : Desk L ledger) → Goes s s a a
   rests s a = record { on = stays a a refl (refl, omega arith); stage = record { rise = tt; stage = refl }; leases = refl }
 
-  -- a call of `lease` that gets a lease leads a runner from no lease to this lease
+  -- a lease goes out
   pub leased_goes : (a b : Desk L ledger) (lease : LeaseState) → IsLease lease → MakesCallOn (LeaseIsFresh (Ok (Some lease))) a LeaseCall (lease_reply (Ok (Some lease))) b → Goes Idle (Running lease) a b
   leased_goes a b lease is made = goes_one Idle (Running lease) a b LeaseCall (lease_reply (Ok (Some lease))) made.1.0 made.0 made.1.1 refl
       (ap (λ (base : ℕ). InTurn (record { job = lease.job; number = lease.number; base = base; step = lease.step; steps = lease.steps })) (sym (base_is (slice_get made.1.0.jobs lease.job) made.1.2)))
@@ -246,7 +246,7 @@ module _ {L : Type 0} {ledger : Ghosts L} where
       refused_goes (IsCorrectVerdict lease made.0) s (Running lease) a b c (GiveBack (offered lease made.0)) fault before made.1 refl (rw (offers_own lease made.0) refl)
       (λ book one holds. record { same = made.0; offers = inl refl; verdict = holds; is_one = one })
 
-  -- a lease that is given back leaves its runner without a lease
+  -- a lease is returned
   pub back_goes : (a b : Desk L ledger) (lease : LeaseState) → (same : Bool) × MakesCallOn (IsCorrectVerdict lease same) a (GiveBack (offered lease same)) Done b → Goes (Running lease) Idle a b
   back_goes a b lease made =
       goes_one (Running lease) Idle a b (GiveBack (offered lease made.0)) Done made.1.1.0 made.1.0 made.1.1.1 refl (rw (offers_own lease made.0) refl)
@@ -265,7 +265,7 @@ module _ {L : Type 0} {ledger : Ghosts L} where
         full = λ e. absurd (cc e);
       }
 
-  -- the result of a runner's last calls is also that of these and the calls before them
+  -- a result after other calls
   pub ended_after : (s t u : RunnerState) (count : ℕ) (ended : Result (Unit {0}) RunFault) (a b c : Desk L ledger) → Goes s t a b → EndsAt t u count ended b c → EndsAt s u count ended a c
   ended_after s t u count (Ok done) a b c go end =
       let both = goes_both s t u a b c go (record { on = end.on; stage = end.stage; leases = end.leases }) in
@@ -295,7 +295,7 @@ module _ {L : Type 0} {ledger : Ghosts L} where
       known true go = go.on
       known false go = go
 
-  -- a runner that has ended is a group of one runner that has ended
+  -- one runner has ended
   pub one_ended : (ended : Result (Unit {0}) RunFault) (a b : Desk L ledger) → EndsAt Idle Over 1 ended a b → HasEnded 1 ended a b
   one_ended (Ok done) a b end = record { on = end.on; logs = (end.on.more, [], sym (append-nil end.on.more), record { rise = lower (clock_of a) 0 end.on.more (omega arith) end.stage.rise; stage = end.stage.stage }, end.leases, refl); no_job = end.no_job; full = end.full }
   one_ended (Err fault) a b end = record { on = end.on; logs = tt; no_job = tt; full = end.full }

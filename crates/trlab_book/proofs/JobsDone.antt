@@ -132,10 +132,10 @@ module _ (history : List Event) (book : BookState) (replays : Replays history bo
         ]
   ]
 
-  none_out : (number : ℕ) (job : JobState) → slice_get (book_after past).jobs number ≡ Some job → job.lease_out ≡ None
-  none_out number job at = by job.lease_out refl
+  none_out : (number : ℕ) (job : JobState) → slice_get (book_after past).jobs number ≡ Some job → job.out ≡ None
+  none_out number job at = by job.out refl
     where
-      by : (out : Option ℕ) → job.lease_out ≡ out → job.lease_out ≡ None
+      by : (out : Option ℕ) → job.out ≡ out → job.out ≡ None
       by None is = is
       by (Some lease) is = absurd (true≢false (sym (ap (is_out lease) is ∙ same_number lease) ∙ not_out number lease number job at refl))
 

@@ -50,7 +50,7 @@ within_kept book (call.Replace index rule) = λ job low.
 within_kept book call.Lease = λ index job first at low. low
 within_kept book (call.Order offer) = λ job low. order_within offer job low
 within_kept book (call.GiveBack offer) = λ job low. by_if (λ (o : JobOutcome). o.job.high ≤ o.job.steps) (accepts_lease offer job) _ _ low low
-within_kept book (call.Revoke index) = λ job low. by_if (λ (o : JobOutcome). o.job.high ≤ o.job.steps) (is_some job.lease_out) _ _ low low
+within_kept book (call.Revoke index) = λ job low. by_if (λ (o : JobOutcome). o.job.high ≤ o.job.steps) (is_some job.out) _ _ low low
 within_kept book (call.Cancel index) = λ job low. by_if (λ (o : JobOutcome). o.job.high ≤ o.job.steps) (job.cancelled || (job.done == job.steps)) _ _ low low
 within_kept book (call.Read index) = tt
 
@@ -67,7 +67,7 @@ by_parts : (cancelled more : Bool) → (not cancelled && more) ≡ false → (ca
 by_parts true more is = inl refl
 by_parts false more is = inr is
 
-pub over_if : (job : JobState) → is_free job ≡ false → job.lease_out ≡ None → job.done ≤ job.steps → IsOver job
+pub over_if : (job : JobState) → is_free job ≡ false → job.out ≡ None → job.done ≤ job.steps → IsOver job
 over_if job busy out low =
     let rest : (not job.cancelled && ltb job.done job.steps) ≡ false = ap (λ (o : Option ℕ). not (is_some o) && (not job.cancelled && ltb job.done job.steps)) (sym out) ∙ busy in
     record {
@@ -83,7 +83,7 @@ over_if job busy out low =
 abbrev IsOverAt : ℕ → JobState → Type 0
 IsOverAt index job = IsOver job
 
-not_accepted : (offer : Offered) (job : JobState) → job.lease_out ≡ None → accepts_lease offer job ≡ false
+not_accepted : (offer : Offered) (job : JobState) → job.out ≡ None → accepts_lease offer job ≡ false
 not_accepted offer job out = ap (λ (o : Option ℕ). is_out offer.number o && ((offer.base == job.done) && (not (ltb job.high offer.step) && offer.same))) out
 
 over_kept : (book : BookState) (made : Call) → is_lease made ≡ false → is_submit made ≡ false → KeepsCall IsOverAt book made
@@ -98,7 +98,7 @@ over_kept book (call.Order offer) no_lease no_submit = λ job is.
 over_kept book (call.GiveBack offer) no_lease no_submit = λ job is.
     cond_both (accepts_lease offer job) _ _ (λ (o : JobOutcome). IsOver o.job) (λ own. absurd (true≢false (sym own ∙ not_accepted offer job is.out))) (λ _. is)
 over_kept book (call.Revoke index) no_lease no_submit = λ job is.
-    cond_both (is_some job.lease_out) _ _ (λ (o : JobOutcome). IsOver o.job) (λ some. absurd (true≢false (sym some ∙ ap is_some is.out))) (λ _. is)
+    cond_both (is_some job.out) _ _ (λ (o : JobOutcome). IsOver o.job) (λ some. absurd (true≢false (sym some ∙ ap is_some is.out))) (λ _. is)
 over_kept book (call.Cancel index) no_lease no_submit = λ job is.
     by_if (λ (o : JobOutcome). IsOver o.job) (job.cancelled || (job.done == job.steps)) _ _ is (record { out = refl; over = inl refl })
 over_kept book (call.Read index) no_lease no_submit = tt
@@ -126,7 +126,7 @@ going_kept book (call.Order offer) none = λ job going.
     let P : JobOutcome → Type 0 = λ (o : JobOutcome). o.job.cancelled ≡ false in
     by_if P (job.cancelled || (offer.step == job.steps)) _ _ going (by_if P (accepts_lease offer job) _ _ going going)
 going_kept book (call.GiveBack offer) none = λ job going. by_if (λ (o : JobOutcome). o.job.cancelled ≡ false) (accepts_lease offer job) _ _ going going
-going_kept book (call.Revoke index) none = λ job going. by_if (λ (o : JobOutcome). o.job.cancelled ≡ false) (is_some job.lease_out) _ _ going going
+going_kept book (call.Revoke index) none = λ job going. by_if (λ (o : JobOutcome). o.job.cancelled ≡ false) (is_some job.out) _ _ going going
 going_kept book (call.Cancel index) none = absurd (cc none)
 going_kept book (call.Read index) none = tt
 

@@ -57,7 +57,7 @@ record HasGone (past : List Event) (lease : LeaseState) : Type 0 where
   went : WentOut (book_after before) out first
   through : GoesThrough (after (book_after before) out.call) events first lease
 
--- the book after all these events is the book after the lease went out, and then the later events
+-- the book after these events
 book_of : (past : List Event) (lease : LeaseState) → (gone : HasGone past lease) → book_after past ≡ state_from (after (book_after gone.before) gone.out.call) (map call_of gone.events)
 book_of past lease gone = ap book_after gone.past_is ∙ state_append empty_book gone.before (gone.out ∷ gone.events)
 
@@ -133,7 +133,7 @@ module _ (history later past : List Event) (book : BookState) (made : Event) (le
 
 -- the calls of a runner, one after another
 
-is_prop : (lease : ℕ) (found : Option JobState) → IsProp (MatchOption found ⊥ (λ (job : JobState). is_out lease job.lease_out ≡ false))
+is_prop : (lease : ℕ) (found : Option JobState) → IsProp (MatchOption found ⊥ (λ (job : JobState). is_out lease job.out ≡ false))
 is_prop lease None = hlevel props
 is_prop lease (Some job) = hlevel props
 

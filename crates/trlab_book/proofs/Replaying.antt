@@ -91,7 +91,7 @@ back_is_event s lease free = reply_is_event s (GiveBack lease) free (job_is_even
   where
     taken : (job : JobState) → is_event (give_back_outcome lease job).reply ≡ true
     taken job =
-        let done : JobOutcome = record { reply = Done; job = record job { done = lease.step; lease_out = None } } in
+        let done : JobOutcome = record { reply = Done; job = record job { done = lease.step; out = None } } in
         cond_both (accepts_lease lease job) done (refusal StrangerLease job) (λ (o : JobOutcome). is_event o.reply ≡ true) (λ _. refl) (λ _. refl)
 
 order_is_event : (s : BookState) (lease : Offered) → has_full_history s ≡ false → is_event (reply_of s (OrderCall lease)) ≡ true
@@ -114,8 +114,8 @@ revoke_is_event s i free = reply_is_event s (Revoke i) free (job_is_event s.jobs
   where
     taken : (job : JobState) → is_event (revoke_outcome job).reply ≡ true
     taken job =
-        let done : JobOutcome = record { reply = Done; job = record job { lease_out = None } } in
-        cond_both (is_some job.lease_out) done (refusal StrangerLease job) (λ (o : JobOutcome). is_event o.reply ≡ true) (λ _. refl) (λ _. refl)
+        let done : JobOutcome = record { reply = Done; job = record job { out = None } } in
+        cond_both (is_some job.out) done (refusal StrangerLease job) (λ (o : JobOutcome). is_event o.reply ≡ true) (λ _. refl) (λ _. refl)
 
 replace_is_event : (s : BookState) (i : ℕ) (rule : Programs) → has_full_history s ≡ false → is_event (reply_of s (Replace i rule)) ≡ true
 replace_is_event s i rule free = reply_is_event s (Replace i rule) free (job_is_event s.jobs i (replace_outcome rule) taken)
@@ -159,7 +159,7 @@ cancel_is_event s i free = reply_is_event s (Cancel i) free (job_is_event s.jobs
   where
     taken : (job : JobState) → is_event (cancel_outcome job).reply ≡ true
     taken job =
-        let done : JobOutcome = record { reply = Done; job = record job { cancelled = true; lease_out = None } } in
+        let done : JobOutcome = record { reply = Done; job = record job { cancelled = true; out = None } } in
         cond_both (job.cancelled || (job.done == job.steps)) (refusal Ended job) done (λ (o : JobOutcome). is_event o.reply ≡ true) (λ _. refl) (λ _. refl)
 
 call_is_event : (s : BookState) (call : Call) → has_full_history s ≡ false → is_event (reply_of s call) ≡ true
@@ -201,7 +201,7 @@ pub record IsPut (s t : BookState) (call : Call) (said : Reply) (history items :
   pub leads : LeadsAs ran_out s call t
   pub items_are : MatchBool (is_event said) (items ≡ history ++ event call said ∷ []) (items ≡ history)
 
--- `append_event` establishes it
+-- `put_event` establishes it
 pub put : {s t : BookState} {call noted : Call} {told said : Reply} {history items : List Event} (ran_out : Bool) → (ran_out ≡ true → has_full_history s ≡ false)
     → (ran_out ≡ true → said ≡ Refused Memory) → RepliesAs ran_out said s call → LeadsAs ran_out s call t → noted ≡ call → told ≡ said
     → MatchBool (is_event told) (items ≡ history ++ event noted told ∷ []) (items ≡ history) → IsPut s t call said history items

@@ -36,7 +36,7 @@ same_place (a ∷ xs) (b ∷ us) ys vs x u is size =
     let rest = same_place xs us ys vs x u (tail_is a b (xs ++ x ∷ ys) (us ++ u ∷ vs) is) (omega (arith, size)) in
     (ap (λ l. a ∷ l) rest.0 ∙ ap (λ y. y ∷ us) first, rest.1)
 
--- x is an element of the list `all`
+-- an element of a list
 pub record IsAmong {A : Type 0} (all : List A) (x : A) : Type 0 where
   pub before : List A
   pub later : List A

@@ -178,7 +178,7 @@ lease_offered_by _ = None
 -- the book has a job with this number, for which the lease with the number `lease` is not out
 abbrev pub LeaseIsNotOut : BookState → ℕ → ℕ → Type 0
 LeaseIsNotOut book number lease =
-    MatchOption (slice_get book.jobs number) ⊥ (λ job. is_out lease job.lease_out ≡ false)
+    MatchOption (slice_get book.jobs number) ⊥ (λ job. is_out lease job.out ≡ false)
 
 -- a history that replays has the events of a runner's log. If the book refuses a lease to this runner, then
 -- the lease is not out: another call has ended it before
@@ -204,7 +204,7 @@ is_submit _ = false
 
 -- the job is over: no lease is out for it, and it was cancelled or all its steps are done
 pub record IsOver (job : JobState) : Type 0 where
-  pub out : job.lease_out ≡ None
+  pub out : job.out ≡ None
   pub over : (job.cancelled ≡ true) ⊎ (job.done ≡ job.steps)
 
 -- none of these events is a call of `lease`, and each call of `submit` among them is one of the first `count`

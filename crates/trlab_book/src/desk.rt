@@ -6,7 +6,7 @@ ghost use Rattle.trlab_strands.specs.Tokens.{keeper_list, name_of, strand_events
 ghost use Rattle.trlab_strands.specs.declared.knowledge.TheConstants.{ALL_PARTS};
 ghost use Rattle.trlab_sequential_book.specs.declared.event.Reply.TheVariants.{Refused};
 
-use crate::kept::{Kept, into_shared, replace_call, submit_call};
+use crate::kept::{Kept, boxed, replace_call, submit_call};
 use std::alloc::Global;
 use std::sync::{Mutex, Wait};
 use trlab_rules::Rule;
@@ -132,10 +132,10 @@ impl<L: Ledger> SharedBook<L> {
     /// The same book and the desk, if events were made at other desks that were not gathered into this one. The desk
     /// has then seen that it lacks events. A desk with all parts always closes the book.
     pub fn close(self, desk: Desk<L>) -> Result<(Book, Vec<Event>), (SharedBook<L>, Desk<L>)>
-        ensures order { IfOk result (λ closed. IsLinearization closed.1.items (subhistory_of desk)) }
-        ensures replays { IfOk result (λ closed. ∥ Replays closed.1.items closed.0 ∥₁) }
-        ensures err { IfErr result (λ returned. LacksEvents desk returned.1) }
-        ensures book { IfErr result (λ returned. IsSameBook self returned.0) }
+        ensures order { IfOk result (λ r. IsLinearization r.1.items (subhistory_of desk)) }
+        ensures replays { IfOk result (λ r. ∥ Replays r.1.items r.0 ∥₁) }
+        ensures err { IfErr result (λ r. LacksEvents desk r.1) }
+        ensures book { IfErr result (λ r. IsSameBook self r.0) }
         ensures whole { part_count desk ≡ ALL_PARTS → IsOk result }
     {
         let SharedBook { lock, strands } = self;
@@ -179,14 +179,14 @@ impl<L: Ledger> SharedBook<L> {
             strand,
         } = one;
         let Desk {
-            parts: other_parts,
-            count: other_count,
-            strand: other_strand,
+            parts: more,
+            count: others,
+            strand: joined,
         } = other;
-        let strand = self.strands.gather(strand, other_strand);
+        let strand = self.strands.gather(strand, joined);
         Desk {
-            parts: parts + other_parts,
-            count: count.saturating_add(other_count),
+            parts: parts + more,
+            count: count.saturating_add(others),
             strand,
         }
     }
@@ -208,7 +208,7 @@ impl<L: Ledger> SharedBook<L> {
     ) -> Result<u32, BookFault>
         ensures { MakesCall desk.old (Submit seed rule steps) (number_reply result) desk.new }
     {
-        let Ok((seed, rule)) = into_shared(alloc, seed, rule) else {
+        let Ok((seed, rule)) = boxed(alloc, seed, rule) else {
             return Err(self.refuse_without_memory(rt, desk));
         };
         self.submit_shared(rt, alloc, desk, seed, rule, steps)
@@ -241,8 +241,7 @@ impl<L: Ledger> SharedBook<L> {
         answer
     }
 
-    /// The fault of a call for which an allocation failed before the lock was taken: `HistoryFull` if the history is
-    /// full, and `Memory` otherwise.
+    /// Refuses a call that was not made because an allocation failed.
     fn refuse_without_memory<R: Wait>(&self, rt: &R, desk: &mut Desk<L>) -> BookFault
         ensures none { is_event (Refused result) ≡ false }
         ensures desk { (part_count desk.new ≡ part_count desk.old) × MakesNoEvent desk.old (Refused result) desk.new }
@@ -304,7 +303,7 @@ impl<L: Ledger> SharedBook<L> {
         answer
     }
 
-    /// Orders a lease's next step, and returns the rule in force there. The allocator is not used (see `Book::order`).
+    /// Orders a lease's next step, and returns the rule in force there.
     ///
     /// # Errors
     ///

@@ -1,7 +1,7 @@
 //! One ordered step of a lease, by workers that are started for this step.
 //!
-//! Programs that embed trlab and run a lease themselves call `advance`, and so do the tests of trlab. The runners of a
-//! book use a `Team` instead, whose workers live for many steps.
+//! Programs that embed trlab and run a lease themselves call it, and so do the tests of trlab. Its runners take the
+//! steps of their leases with a team.
 
 ghost use Rattle.std.specs.Prelude.{◌≡◌, ◌↔◌, ◌<◌, ◌≤◌, OnOk, OnErr};
 ghost use Rattle.trlab_bounds.specs.declared.runs.TheConstants.{MAX_WORKERS};

@@ -45,14 +45,14 @@ impl Kept {
         }
     }
 
-    /// Makes room for one more event before the call, so that no event is lost after it. Whether the history is full is
-    /// tested by the book, in the call that follows.
+    /// Makes room for one more event. It does not test whether the history is full, because the book does so in the
+    /// call that follows.
     fn make_room(&mut self) -> Result<(), BookFault>
         ensures unchanged { IsUnchanged self.old self.new }
         ensures room { OnOk result (vec_len self.new.history < vec_capacity self.new.history) }
-        ensures none { IfErr result (λ fault. is_event (Refused fault) ≡ false) }
-        ensures full_history { IfErr result (λ fault.
-            (Refused fault ≡ Refused HistoryFull) ↔ (has_full_history self.old.book ≡ true)) }
+        ensures none { IfErr result (λ f. is_event (Refused f) ≡ false) }
+        ensures full_history { IfErr result (λ f.
+            (Refused f ≡ Refused HistoryFull) ↔ (has_full_history self.old.book ≡ true)) }
     {
         if self.history.reserve(1).is_err() {
             return Err(self.fault_without_memory());
@@ -73,7 +73,7 @@ impl Kept {
         }
     }
 
-    /// Adds a job. The history keeps `call`, which `submit_call` makes before the lock of a shared book is taken.
+    /// Adds a job. The history keeps `call`, which `submit_call` makes.
     pub(crate) fn submit(
         &mut self,
         alloc: Global,
@@ -89,12 +89,11 @@ impl Kept {
         self.make_room()?;
         let answer = self.book.submit_shared(alloc, seed, rule, steps);
         let reply = reply_to_number(&answer);
-        append_event(&mut self.history, call, reply);
+        put_event(&mut self.history, call, reply);
         answer
     }
 
-    /// Replaces the rule of a job. The history keeps `call`, which `replace_call` makes before the lock of a shared
-    /// book is taken.
+    /// Replaces the rule of a job. The history keeps `call`, which `replace_call` makes.
     pub(crate) fn replace(&mut self, job: u32, rule: Rule, call: Call) -> Result<u32, BookFault>
         requires { call ≡ Replace job rule }
         ensures made { Records self.old (Replace job rule) (number_reply result) self.new }
@@ -103,7 +102,7 @@ impl Kept {
         self.make_room()?;
         let answer = self.book.replace(job, rule);
         let reply = reply_to_number(&answer);
-        append_event(&mut self.history, call, reply);
+        put_event(&mut self.history, call, reply);
         answer
     }
 
@@ -114,18 +113,17 @@ impl Kept {
     /// Those of `Book::lease`; `Memory` also if the history cannot grow.
     pub fn lease(&mut self, alloc: Global) -> Result<Option<Lease>, BookFault>
         ensures made { Records self.old LeaseCall (lease_reply result) self.new }
-        ensures lent { IfOk result (λ lent. IsFreshIfLent self.old.book.jobs self.old.book.next lent) }
+        ensures lent { IfOk result (λ o. IsFreshIfLent self.old.book.jobs self.old.book.next o) }
         ensures full_history { RefusesIfFull self.old (lease_reply result) }
     {
         self.make_room()?;
         let answer = self.book.lease(alloc);
         let reply = reply_to_lease(&answer);
-        append_event(&mut self.history, Call::Lease, reply);
+        put_event(&mut self.history, Call::Lease, reply);
         answer
     }
 
-    /// Orders the next step of a lease. As in `Book::order`, the allocator is not used: the order shares its rule with
-    /// the sheet, and the history grows with its own allocator.
+    /// Orders the next step of a lease. The order shares its rule with the sheet, so the allocator is not used.
     ///
     /// # Errors
     ///
@@ -133,8 +131,8 @@ impl Kept {
     pub fn order(&mut self, _: Global, lease: &Lease) -> Result<Order, BookFault>
         ensures made { (runs_its_road : Bool) → (IsTrue runs_its_road ↔ RunsRoadOfItsJob self.old.book.jobs lease.now)
             → Records self.old (OrderCall (offered lease.now runs_its_road)) (order_reply result) self.new }
-        ensures rule { IfOk result (λ order. HasRuleInForce self.old.book.jobs order) }
-        ensures fits { IfOk result (λ order. FitsOrder lease.now order) }
+        ensures rule { IfOk result (λ o. HasRuleInForce self.old.book.jobs o) }
+        ensures fits { IfOk result (λ o. FitsOrder lease.now o) }
         ensures full_history { RefusesIfFull self.old (order_reply result) }
         ensures noted { (runs_its_road : Bool)
             × OnTrue (is_event (order_reply result))
@@ -146,7 +144,7 @@ impl Kept {
         let call = Call::Order(offered(lease, runs_its_road));
         let answer = self.book.order_as(lease, runs_its_road);
         let reply = reply_to_order(&answer);
-        append_event(&mut self.history, call, reply);
+        put_event(&mut self.history, call, reply);
         answer
     }
 
@@ -172,7 +170,7 @@ impl Kept {
         let call = Call::GiveBack(offered(&lease, runs_its_road));
         let answer = self.book.give_back_as(lease, runs_its_road);
         let reply = reply_to_give_back(&answer);
-        append_event(&mut self.history, call, reply);
+        put_event(&mut self.history, call, reply);
         answer
     }
 
@@ -188,7 +186,7 @@ impl Kept {
         self.make_room()?;
         let answer = self.book.revoke(job);
         let reply = reply_to_done(&answer);
-        append_event(&mut self.history, Call::Revoke(job), reply);
+        put_event(&mut self.history, Call::Revoke(job), reply);
         answer
     }
 
@@ -204,7 +202,7 @@ impl Kept {
         self.make_room()?;
         let answer = self.book.cancel(job);
         let reply = reply_to_done(&answer);
-        append_event(&mut self.history, Call::Cancel(job), reply);
+        put_event(&mut self.history, Call::Cancel(job), reply);
         answer
     }
 
@@ -215,19 +213,19 @@ impl Kept {
     /// Those of `Book::read`; `Memory` also if the history cannot grow.
     pub fn read(&mut self, alloc: Global, job: u32) -> Result<Snapshot, BookFault>
         ensures made { Records self.old (Read job) (read_reply result) self.new }
-        ensures seen { IfOk result (λ snapshot. ShowsJob self.old.book.jobs job snapshot) }
+        ensures seen { IfOk result (λ s. ShowsJob self.old.book.jobs job s) }
         ensures full_history { RefusesIfFull self.old (read_reply result) }
     {
         self.make_room()?;
         let answer = self.book.read(alloc, job);
         let reply = reply_to_read(&answer);
-        append_event(&mut self.history, Call::Read(job), reply);
+        put_event(&mut self.history, Call::Read(job), reply);
         answer
     }
 }
 
 /// Appends a call and its reply to the history, unless the reply is `HistoryFull` or `Memory`.
-fn append_event(history: &mut Vec<Event>, call: Call, reply: Reply)
+fn put_event(history: &mut Vec<Event>, call: Call, reply: Reply)
     requires { vec_len history.old < vec_capacity history.old }
     ensures { MatchBool (is_event reply)
         (history.new.items ≡ history.old.items ++ event call reply ∷ [])
@@ -239,13 +237,13 @@ fn append_event(history: &mut Vec<Event>, call: Call, reply: Reply)
 }
 
 /// Moves a seed and a rule into memory that can be shared.
-pub(crate) fn into_shared(
+pub(crate) fn boxed(
     alloc: Global,
     seed: Seed,
     rule: Rule,
 ) -> Result<(SharedSeed, SharedRule), AllocError>
-    ensures seed { IfOk result (λ shared. shared.0 ≡ seed) }
-    ensures rule { IfOk result (λ shared. shared.1 ≡ rule) }
+    ensures seed { IfOk result (λ boxed. boxed.0 ≡ seed) }
+    ensures rule { IfOk result (λ boxed. boxed.1 ≡ rule) }
 {
     let seed = SharedSeed::new(alloc, seed)?;
     let rule = SharedRule::new(alloc, rule)?;

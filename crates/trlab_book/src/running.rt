@@ -60,8 +60,8 @@ pub fn run_jobs<L: Ledger + Send + Sync, R: Threads + Wait + Sync, G: Gate + Syn
     requires workers { (0 < workers) × (workers ≤ MAX_WORKERS) }
     requires runners { (0 < runners) × (runners ≤ MAX_RUNNERS) × (runners ≤ part_count desk) }
     ensures { MatchResult result
-        (λ ended_desk. HasEnded runners (Ok tt) desk ended_desk)
-        (λ failed. HasEnded runners (Err failed.1) desk failed.0) }
+        (λ d. HasEnded runners (Ok tt) desk d)
+        (λ e. HasEnded runners (Err e.1) desk e.0) }
 {
     let (desk, ended) = run_all(rt, alloc, book, desk, runners, workers, gate);
     match ended {
@@ -70,8 +70,8 @@ pub fn run_jobs<L: Ledger + Send + Sync, R: Threads + Wait + Sync, G: Gate + Syn
     }
 }
 
-/// `run_jobs`, with the desk and the result as a pair. It starts a thread for one runner, which gets one part of the
-/// desk, and calls itself for the other runners with the rest. The last runner runs on the calling thread.
+/// `run_jobs`, with the desk and the result as a pair. Each other runner takes one part of the desk; the calling thread
+/// keeps the rest.
 fn run_all<L: Ledger + Send + Sync, R: Threads + Wait + Sync, G: Gate + Sync>(
     rt: &R,
     alloc: Global,
@@ -124,11 +124,10 @@ pub fn first_fault(one: Result<(), RunFault>, other: Result<(), RunFault>) -> Re
     }
 }
 
-/// The maximum number of steps that a runner takes before it gives its lease back, so that reads show the progress of a
-/// job, and few steps are lost with a lease that is revoked.
+/// The maximum number of steps that a runner takes before it gives its lease back.
 const STEPS_PER_TURN: u32 = 32;
 
-/// Runs jobs with one runner until no job is free. Its workers live as long as the runner.
+/// Runs jobs until none is free. The workers live as long as the runner.
 fn run_one<L: Ledger, R: Threads + Wait + Sync, G: Gate + Sync>(
     rt: &R,
     alloc: Global,
@@ -154,7 +153,7 @@ fn run_one<L: Ledger, R: Threads + Wait + Sync, G: Gate + Sync>(
     )
 }
 
-/// One runner: the book whose jobs it runs, and the team of workers that takes the steps.
+/// One runner: the book whose jobs it runs, and its workers.
 #[derive(Drop)]
 struct Runner<'a, L: Ledger, R, G> {
     rt: &'a R,
@@ -164,7 +163,7 @@ struct Runner<'a, L: Ledger, R, G> {
 }
 
 impl<'a, L: Ledger, R: Threads + Wait + Sync, G: Gate + Sync> Runner<'a, L, R, G> {
-    /// Takes one lease after another until no job is free, or until a fault.
+    /// Takes leases until no job is free.
     fn take_leases(&self, desk: &mut Desk<L>) -> Result<(), RunFault>
         ensures { HasEnded 1 result desk.old desk.new }
     {
@@ -227,7 +226,7 @@ impl<'a, L: Ledger, R: Threads + Wait + Sync, G: Gate + Sync> Runner<'a, L, R, G
             drop(order);
             match ran {
                 Ok(()) => {}
-                // Never happens, because each order fits its lease.
+                // Never: each order fits its lease.
                 Err(LeaseFault::WrongOrder) => return Err(BookFault::StrangerLease),
                 Err(LeaseFault::Memory) => return Err(BookFault::Memory),
             }
@@ -237,7 +236,7 @@ impl<'a, L: Ledger, R: Threads + Wait + Sync, G: Gate + Sync> Runner<'a, L, R, G
 
     /// Drops a lease after a fault. If an allocation failed, the lease is revoked, so that others can take the job, and
     /// the runner ends with `Memory`, or with `HistoryFull` if the history is full. If the book no longer accepts the
-    /// lease, another call has ended it, and the runner takes the next one.
+    /// lease, the runner goes on.
     fn end_lease(&self, desk: &mut Desk<L>, lease: Lease, fault: BookFault) -> Result<(), RunFault>
         requires seen { fault ≡ HistoryFull → MAX_EVENTS ≤ clock_of desk.old }
         ensures on { AddsRunnerCalls desk.old desk.new }

@@ -15,8 +15,8 @@ use trlab_sequential_book::{Lease, LeaseFault, Order};
 use trlab_step::{Caller, Executor, StepObserver};
 use trlab_verify::{Change, Motion};
 
-/// A single worker and its gate. It asks all cars of a phase at once. Before, it passes the gate once for each segment
-/// that a crew of one worker would draw, because a gate may count the steps or hold the worker up.
+/// A single worker and its gate. It asks all cars of a phase at once, but first passes the gate once for each segment
+/// that a crew of one worker would draw.
 #[derive(Drop)]
 struct OneWorker<'a, G> {
     gate: &'a G,
@@ -70,9 +70,9 @@ impl<'a, G: Gate> Executor for OneWorker<'a, G> {
 #[derive(Drop)]
 pub struct Team<'a, R, G> {
     gate: &'a G,
-    /// The workers. While `Pool::run` runs, its helpers wait for the phases of the steps.
+    /// While `Pool::run` runs, the helpers wait for the phases of the steps.
     pub pool: Pool<'a, R, G>,
-    has_one_worker: bool,
+    is_one: bool,
 }
 
 impl<'a, R: Threads + Wait + Sync, G: Gate + Sync> Team<'a, R, G> {
@@ -83,7 +83,7 @@ impl<'a, R: Threads + Wait + Sync, G: Gate + Sync> Team<'a, R, G> {
         Team {
             gate,
             pool: Pool::new(rt, workers, gate),
-            has_one_worker: workers == 1,
+            is_one: workers == 1,
         }
     }
 
@@ -103,7 +103,7 @@ impl<'a, R: Threads + Wait + Sync, G: Gate + Sync> Team<'a, R, G> {
         ensures unchanged { OnErr result (lease.new ≡ lease.old) }
         ensures wrong { (result ≡ Err WrongOrder) ↔ (FitsOrder lease.old order.now → ⊥) }
     {
-        if self.has_one_worker {
+        if self.is_one {
             lease.advance(&OneWorker::new(self.gate), alloc, order)
         } else {
             lease.advance(&self.pool, alloc, order)

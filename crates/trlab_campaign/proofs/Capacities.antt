@@ -45,7 +45,7 @@ flow_within distance cells steps most some_cell some_step far =
     let e : flow * cells * steps ≤ most * 1000000 * steps = subst (λ k. k ≤ most * 1000000 * steps) c (subst (λ k. flow * (cells * steps) ≤ k) d (le_trans a b)) in
     (le-div_iff_mul-le some_cell).1 (le_of_mul-le-mul_right e some_step)
 
--- if the mean distance per cell and step is at most limit / (limit + 1), so is the flow in millionths, rounded down
+-- the same flow by a bound on the peak
 flow_below_peak : (distance cells steps limit : ℕ) → 1 ≤ cells → 1 ≤ steps → (limit + 1) * distance ≤ steps * (limit * cells) → distance * 1000000 / (cells * steps) ≤ limit * 1000000 / (limit + 1)
 flow_below_peak distance cells steps limit some_cell some_step low =
     let some : 1 ≤ limit + 1 = omega arith in
@@ -72,7 +72,7 @@ module _ (shape : Shape) (count : ℕ) (start : Cells) (fits : CanSpreadOn shape
   at_limit = ap (λ k. k * cars start) even.same_limit ∙ ap (λ k. shape.limit * k) all_cars
 
 module _ (common : Setup) (counted : 1 ≤ common.span.measure) where
-  -- a point of a sweep is under the triangle or on it
+  -- the bounds of one point
   told_within : (number cars : ℕ) (point : Point) → CanSpreadOn common.shape cars → IsPoint common number cars point → IsUnderTriangle common.shape.limit point
   told_within number count point fits is =
       let shape = common.shape in
@@ -94,7 +94,7 @@ module _ (common : Setup) (counted : 1 ≤ common.span.measure) where
         flow_by_limit = flow_within is.tally.distance (shape.lanes * shape.length) span.measure (shape.limit * count) some counted by_limit;
       })
 
-  -- a point of a sweep is not above the peak of the triangle
+  -- and that it is below the peak
   told_below_peak : (number cars : ℕ) (point : Point) → CanSpreadOn common.shape cars → IsPoint common number cars point → IsAtMostPeak common.shape.limit point
   told_below_peak number count point fits is =
       let shape = common.shape in
@@ -111,7 +111,7 @@ module _ (common : Setup) (counted : 1 ≤ common.span.measure) where
         flow_bounded = flow_below_peak is.tally.distance (shape.lanes * shape.length) span.measure shape.limit some counted low;
       })
 
-  -- at a point of a sweep the mean speed of the moving cars is from one cell per step to the limit
+  -- and how far its moving cars went
   told_by_moving_cars : (number cars : ℕ) (point : Point) → CanSpreadOn common.shape cars → IsPoint common number cars point → HasBoundedMovingSpeed common.shape.limit point
   told_by_moving_cars number count point fits is =
       let shape = common.shape in

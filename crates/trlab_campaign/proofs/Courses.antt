@@ -22,7 +22,7 @@ last_step seed sheet step before after sum comes same = record {
   next = subst (λ (road : Cells). IsNext comes.2 (dice_at seed step) road after comes.3) same comes.5.next;
 }
 
--- a run from a legal road, under a sheet for its lanes, has a course: its road at each step, and the tally of each step
+-- a run has a course
 pub course_of : (seed : Seed) (sheet : Sheet) → IsLegal seed.road → IsSheetFor (length seed.road.lanes) sheet
     → (roads : ℕ → Cells) × (tallies : ℕ → StepTally) × IsCourse seed sheet roads tallies
 course_of seed sheet legal suits =
@@ -39,7 +39,7 @@ course_of seed sheet legal suits =
 one_rule : {a b : Programs} → Some a ≡ Some b → a ≡ b
 one_rule h = cc
 
--- a step of a run has only one tally
+-- a step has one tally
 pub one_tally : (seed : Seed) (sheet : Sheet) (step : ℕ) (before after other : Cells) (tally count : StepTally) → IsStepAt seed sheet step before after tally
     → IsStepAt seed sheet step before other count → tally ≡ count
 one_tally seed sheet step before after other tally count a b =
@@ -107,7 +107,7 @@ lane_more lane roads first done road old now new is here cars distance stopped a
         let same : of x.cars x.distance x.stopped ≡ of y.cars y.distance y.stopped = cc (p, q, r) in
         same
 
--- a run of `steps` steps completes (steps - from) / every windows
+-- this number of windows is complete
 pub whole_windows : (every from steps : ℕ) → 1 ≤ every → (k : ℕ) → (k < (steps - from) / every) ↔ (from + (k + 1) * every ≤ steps)
 whole_windows every from steps some k = (ends, fits)
   where

@@ -14,7 +14,7 @@ use Rattle.trlab_campaign.specs.Headline.{IsDrivenJob, IsDrivenPoint, IsDrivenSe
 use Rattle.trlab_campaign.specs.Headline.{JobTextsAreDriven, SeriesTextsAreDriven, SweepTextsAreDriven}
 use Rattle.trlab_campaign.specs.Output.{IsOutputForJob, IsOutputForResult}
 use Rattle.trlab_campaign.specs.{SeriesOutput.IsSeriesOutputForJob, SweepOutput.{IsPoint, IsOutputForSweep}}
-use Rattle.trlab_campaign.proofs.{Points.suits, Sheets.stored_sheet, SomePoints.even_some}
+use Rattle.trlab_campaign.proofs.{Points.suits, Sheets.plain_sheet, SomePoints.even_some}
 use Rattle.trlab_campaign.specs.SweepOutput as sweep
 
 drives_job : (shown : ℕ → Bool) (text out : List ℕ) (parsed_as : Result Job LocatedFault) → ParsesAsJob text parsed_as → IfOk parsed_as IsStoredJob → IsOutputForResult (IsOutputForJob shown) parsed_as false out → IsDrivenJob shown text out
@@ -25,7 +25,7 @@ drives_job shown text out (Ok job) parsed_as stored output =
       job = job;
       parsed_as = parsed_as;
       roads = roads;
-      driven = runs_are_driven (seed_of job) (sheet_of job) job.steps roads stored.legal (stored_sheet job stored) is.road_at;
+      driven = runs_are_driven (seed_of job) (sheet_of job) job.steps roads stored.legal (plain_sheet job stored) is.road_at;
       pictures = is.pictures;
     }
 drives_job shown text out (Err fault) parsed_as stored output = absurd (true≢false (sym output.0))
@@ -45,7 +45,7 @@ drives_series every from text out (Ok job) parsed_as stored output =
       parsed_as = parsed_as;
       roads = series.roads;
       tallies = series.tallies;
-      driven = runs_are_driven (seed_of job) (sheet_of job) job.steps series.roads stored.legal (stored_sheet job stored) (λ step _. series.course.road_at step);
+      driven = runs_are_driven (seed_of job) (sheet_of job) job.steps series.roads stored.legal (plain_sheet job stored) (λ step _. series.course.road_at step);
       tallied = λ step _. series.course.step_at step;
       count = series.count;
       whole = series.whole;

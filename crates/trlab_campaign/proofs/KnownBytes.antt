@@ -26,7 +26,7 @@ consumes_kept (Some x) (Some y) (Some z) xs p q = p ∙ ap (λ t. xs ++ t) (sym 
 pub consumes_last : (a b c : Option (List ℕ)) (xs part : List ℕ) (count : ℕ) → count ≡ 0 → Consumes a b xs → Consumes b c (take count part) → Consumes a c xs
 consumes_last a b c xs part count is p q = subst (λ (t : List ℕ). Consumes a c t) (append-nil xs) (consumes_more a b c xs [] p (rw is at q))
 
--- if a reader has come to the end of its input, it has read the whole input
+-- all bytes of the input
 pub read_whole : (a b : Option (List ℕ)) (xs : List ℕ) → Consumes a b xs → IsAtEnd b → IfSome a (IsInputOrTooLong xs)
 read_whole None b xs p end = tt
 read_whole (Some x) None xs p end = absurd p

@@ -19,7 +19,7 @@ ones {A = A} (x ∷ xs) =
     let rest = ones xs in
     omega (arith, more, rest)
 
--- if two functions agree on all cars, their sums over a list of cars are equal
+-- sums of equal numbers
 pub same_sum : (f g : Car → ℕ) (xs : List Car) → ((car : Car) → f car ≡ g car) → sum_by f xs ≡ sum_by g xs
 same_sum f g [] same = refl
 same_sum f g (x ∷ xs) same =

@@ -15,7 +15,7 @@ use Rattle.trlab_campaign.specs.Laws.{LanesAddUp, LanesOfSeriesAddUp}
 use Rattle.trlab_campaign.specs.SeriesOutput.{AreRoads, IsCourse, IsSeries, cars_on, first_windows, is_on}
 use Rattle.trlab_campaign.specs.SeriesOutput.{lane_count, nth_window, roads_after, total_speed_on, stopped_on}
 use Rattle.trlab_campaign.specs.SeriesOutput.{tallies_from, window_of}
-use Rattle.trlab_campaign.proofs.{LaneCounts.{both_tests, ones, same_sum}, Sheets.stored_sheet}
+use Rattle.trlab_campaign.proofs.{LaneCounts.{both_tests, ones, same_sum}, Sheets.plain_sheet}
 
 -- a number of a car, on lane 0 or on lane 1
 of_lane : (lane number : ℕ) → lane < 2 → cond (nat_eq lane 0) number 0 + cond (nat_eq lane 1) number 0 ≡ number
@@ -110,7 +110,7 @@ module _ (seed : Seed) (sheet : Sheet) (roads : ℕ → Cells) (tallies : ℕ �
 -- each road of a run is like its first
 like_first : (job : Job) (roads : ℕ → Cells) → IsStoredJob job → AreRoads (seed_of job) (sheet_of job) roads → (step : ℕ) → IsLegalLike job.road (roads step)
 like_first job roads stored each step =
-    let at = run_comes_to_road (seed_of job) (sheet_of job) step stored.legal (stored_sheet job stored) in
+    let at = run_comes_to_road (seed_of job) (sheet_of job) step stored.legal (plain_sheet job stored) in
     subst (λ (road : Cells). IsLegalLike job.road road) (road_at_is_one (seed_of job) (sheet_of job) step at.0 (roads step) (at.1, at.2) (each step)) at.3
 
 series_add_up : (job : Job) (every from : ℕ) (windows : List Window) → IsStoredJob job → IsSeries job every from windows → All LanesAddUp windows

@@ -13,7 +13,7 @@ pub next_piece : {X : Type 0} (f : X → List ℕ) (xs : List X) (i : ℕ) (d : 
     → mid ≡ old ++ first → new ≡ mid ++ last → new ++ flat_map f (drop (i + 1) xs) ≡ old ++ flat_map f (drop i xs)
 next_piece f xs i d old mid new first last inside piece p q = rw (q, p, drop_more xs i d, piece) (simp append_assoc)
 
--- the next piece of a list was appended to a text, at once
+-- the same, if the piece was appended at once
 pub next_whole : {X : Type 0} (f : X → List ℕ) (xs : List X) (i : ℕ) (d : X) (old new piece : List ℕ) → i < length xs → f (get_or xs i d) ≡ piece
     → new ≡ old ++ piece → new ++ flat_map f (drop (i + 1) xs) ≡ old ++ flat_map f (drop i xs)
 next_whole f xs i d old new piece inside is added = rw (added, drop_more xs i d, is) (simp append_assoc)
@@ -25,7 +25,7 @@ next_number f n count old new inside added =
     let left : count - n ≡ suc (count - (n + 1)) = omega arith in
     rw (added, left) (simp append_assoc)
 
--- if two functions have the same pieces, one by one, the texts of all pieces are the same
+-- the same pieces, one by one
 pub pieces_agree : (f g : ℕ → List ℕ) (from count : ℕ) → ((n : ℕ) → n < from + count → f n ≡ g n)
     → flat_map f (range_with_len from count) ≡ flat_map g (range_with_len from count)
 pieces_agree f g from zero same = refl

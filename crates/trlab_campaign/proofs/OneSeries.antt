@@ -12,9 +12,9 @@ use Rattle.trlab_jobs.proofs.OneText.{one_thing, says_plain}
 use Rattle.trlab_campaign.specs.{Output.{IsOutputForResult, fault_line}, Laws.SeriesHasAtMostOneOutput}
 use Rattle.trlab_campaign.specs.{Laws.SeriesHasSomeOutput, SeriesOutput.{IsCourse, IsSeries}}
 use Rattle.trlab_campaign.specs.SeriesOutput.{IsSeriesOutputForJob, first_windows, nth_window, window_of}
-use Rattle.trlab_campaign.proofs.{Courses.{course_of, one_tally, whole_windows}, Sheets.stored_sheet}
+use Rattle.trlab_campaign.proofs.{Courses.{course_of, one_tally, whole_windows}, Sheets.plain_sheet}
 
--- functions that agree on all numbers map a list to the same list
+-- lists of the same values
 same_map : {X : Type 0} (f g : ℕ → X) (xs : List ℕ) → ((n : ℕ) → f n ≡ g n) → map f xs ≡ map g xs
 same_map f g [] same = refl
 same_map f g (x ∷ xs) same =
@@ -43,7 +43,7 @@ module _ (seed : Seed) (sheet : Sheet) (roads others : ℕ → Cells) (tallies c
   same_windows every from count =
       same_map (nth_window roads tallies every from) (nth_window others counts every from) (range_with_len 0 count) (λ k. same_window (from + k * every) every)
 
--- m and n are equal if the same numbers are below both
+-- this number of windows is complete
 same_count : (P : ℕ → Type 0) (m n : ℕ) → ((k : ℕ) → (k < m) ↔ P k) → ((k : ℕ) → (k < n) ↔ P k) → m ≡ n
 same_count P m n p q = elim (cases_lt m n) [
   | inl below ↦ let bad : m < m = (p m).1 ((q m).0 below) in absurd (omega (arith, bad))
@@ -72,7 +72,7 @@ one_output every from text rejected also out other p q =
 
 output_some : (every from : ℕ) → 1 ≤ every → (says : Result Job LocatedFault) → IfOk says IsStoredJob → (rejected : Bool) × (out : List ℕ) × IsOutputForResult (IsSeriesOutputForJob every from) says rejected out
 output_some every from some (Ok job) stored =
-    let course = course_of (seed_of job) (sheet_of job) stored.legal (stored_sheet job stored) in
+    let course = course_of (seed_of job) (sheet_of job) stored.legal (plain_sheet job stored) in
     let count = (job.steps - from) / every in
     let windows = first_windows course.0 course.1 every from count in
     (false, series_text windows, (refl, (windows, (record { roads = course.0; tallies = course.1; course = course.2; count = count; whole = whole_windows every from job.steps some; told = refl }, refl))))

@@ -10,11 +10,11 @@ pub record Owes (whole rest : List ℕ) (old now : SinkBytes) : Type 0 where
   pub parts : whole ≡ done ++ rest
   pub wrote : HasWritten old now done
 
--- before anything is written, the whole text is owed
+-- before the first piece
 pub owes_all : (whole : List ℕ) (old : SinkBytes) → Owes whole whole old old
 owes_all whole old = record { done = []; parts = refl; wrote = adds_none old }
 
--- once the next piece is written, the rest is owed
+-- after a piece
 pub owes_less : (whole next rest : List ℕ) (old a b : SinkBytes) → Owes whole (next ++ rest) old a → HasWritten a b next → Owes whole rest old b
 owes_less whole next rest old a b owes wrote = record {
   done = owes.done ++ next;

@@ -22,11 +22,11 @@ some_cells (suc lanes) (suc cells) p q = omega arith
 some_cells zero cells p q = absurd (omega arith)
 some_cells (suc lanes) zero p q = absurd (omega arith)
 
--- before a seed is made, the empty list has the right seeds
+-- no seed is made yet
 pub no_seeds : (sweep : Sweep) (first : ℕ) → AreSeeds sweep first []
 no_seeds sweep first = λ number i seed here inside. absurd (omega arith)
 
--- with the seed of the next point, a list still has the right seeds
+-- one more seed is made
 pub one_more_seed : (sweep : Sweep) (first next : ℕ) (seeds : List Seed) (made : Seed) → AreSeeds sweep first seeds → next ≡ first + length seeds → IsStart sweep next made.road
     → AreSeeds sweep first (seeds ++ (made ∷ []))
 one_more_seed sweep first next seeds made are at start = each_of
@@ -41,11 +41,11 @@ one_more_seed sweep first next seeds made are at start = each_of
           rw (get_or_push seeds made d i last, same) start
     ]
 
--- before a point is known, the empty list has the first points of a sweep
+-- no point is known yet
 pub no_points : (sweep : Sweep) → AreFirstPoints sweep []
 no_points sweep = record { few = omega arith; each = λ i cars point inside. absurd (omega arith); measured = λ k d inside. absurd (omega arith) }
 
--- with the next point, a list still has the first points of a sweep
+-- one more point is known
 pub one_more : (sweep : Sweep) (points : List Point) (number cars : ℕ) (point : Point) → AreFirstPoints sweep points → length points ≡ number → number < length sweep.cars
     → cars ≡ get_or sweep.cars number 0 → IsPoint sweep.setup number cars point → IsMeasured point → AreFirstPoints sweep (points ++ (point ∷ []))
 one_more sweep points number cars point first here inside counted is measured =
@@ -71,6 +71,6 @@ one_more sweep points number cars point first here inside counted is measured =
           rw (get_or_push points point d i last) measured
     ]
 
--- first points of a sweep that are as many as its numbers of cars are all its points
+-- all points are known
 pub all_points : (sweep : Sweep) (points : List Point) → AreFirstPoints sweep points → length points ≡ length sweep.cars → ArePoints sweep points
 all_points sweep points first all = record { one_each = all; each = λ i cars point inside. first.each i cars point (omega (arith, all)) }

@@ -7,7 +7,7 @@ use Rattle.trlab_step.proofs.RunLaws.{run_comes_to_road, road_at_is_one}
 use Rattle.trlab_jobs.specs.{Job.{Job, seed_of, sheet_of}, Stored.IsStoredJob}
 use Rattle.trlab_campaign.specs.{Output.{IsOutputForJob, shown_text, steps_text}, Ending.WroteAll}
 use Rattle.trlab_campaign.specs.{Ending.{WroteByResult, WrotePrefix}, Writers.{HasWritten, AddsByResult}}
-use Rattle.trlab_campaign.{specs.Writers.{AddsPrefix, SinkBytes}, proofs.{Sheets.stored_sheet, Owed.Owes}}
+use Rattle.trlab_campaign.{specs.Writers.{AddsPrefix, SinkBytes}, proofs.{Sheets.plain_sheet, Owed.Owes}}
 use Rattle.trlab_campaign.proofs.Owed.{owes_all, owes_less, owes_prefix, owes_none}
 
 -- the text of a number of steps, of those that are shown
@@ -25,7 +25,7 @@ pub record Underway (shown : ℕ → Bool) (job : Job) (step left : ℕ) (old no
   pub ends : step + left ≡ job.steps
   pub owes : Owes (steps_text shown roads (job.steps + 1)) (text_from shown roads step (left + 1)) old now
 
--- once the text of a step is written, the text from the next step on is owed of the whole output
+-- the same, once the text of the step is written
 pub record Written (shown : ℕ → Bool) (job : Job) (step left : ℕ) (old now : SinkBytes) : Type 0 where
   pub roads : ℕ → Cells
   pub each : Roads job roads
@@ -52,10 +52,10 @@ Writes shown steps start step left run old now = (job : Job) → Begins job step
 -- a job that was read has a road at each step of its run
 pub roads_of : (job : Job) → IsStoredJob job → (roads : ℕ → Cells) × Roads job roads
 roads_of job plain =
-    let at = λ (s : ℕ). run_comes_to_road (seed_of job) (sheet_of job) s plain.legal (stored_sheet job plain) in
+    let at = λ (s : ℕ). run_comes_to_road (seed_of job) (sheet_of job) s plain.legal (plain_sheet job plain) in
     (λ s. (at s).0, λ s. ((at s).1, (at s).2))
 
--- before its first step a run owes the text of all its steps
+-- before the first step
 begin : (shown : ℕ → Bool) (job : Job) (old : SinkBytes) → IsStoredJob job → Underway shown job 0 job.steps old old
 begin shown job old plain =
     let found = roads_of job plain in
@@ -73,7 +73,7 @@ begin_run shown steps run old job begins = (
   rw begins.starts (record { seed = refl; sheet = refl; step_is = refl }),
 )
 
--- after one more step, a run of a job is still its run, and one step further
+-- and continues
 drive_on : (job : Job) (step : ℕ) (old new : Progress) → Drives job step old → IsOneStepOn old new → Drives job (step + 1) new
 drive_on job step old new drives on = record {
   seed = on.same_seed ∙ drives.seed;
@@ -104,11 +104,11 @@ wrote shown job step left road old a b u at text = record {
       (rw (next_text shown u.roads step left) at u.owes) (rw (here job u.roads step road u.each at) text);
 }
 
--- once the text of a step is written, the run is under way before the next step
+-- the next step comes
 went_on : (shown : ℕ → Bool) (job : Job) (step left : ℕ) (old now : SinkBytes) → Written shown job step (left + 1) old now → Underway shown job (step + 1) left old now
 went_on shown job step left old now w = record { roads = w.roads; each = w.each; ends = omega (arith, w.ends); owes = w.owes }
 
--- if writing stops within the text of a step, a prefix of an output for the job has been written
+-- it stops within the text of a step
 stop_within : (shown : ℕ → Bool) (job : Job) (step left : ℕ) (road : Cells) (old a b : SinkBytes) → Underway shown job step left old a
     → IsRoadAt (seed_of job) (sheet_of job) step road → AddsPrefix a b (shown_text shown step road) → WrotePrefix (IsOutputForJob shown job) old b
 stop_within shown job step left road old a b u at text =
@@ -152,7 +152,7 @@ step_on shown steps step left start run next old a b writes road text on job beg
     let at = driven_road job step run run.road here.1 road in
     (went_on shown job step left old b (wrote shown job step (left + 1) run.road old a b here.0 at text), drive_on job step run next here.1 on)
 
--- if writing stops within the text of the step that a run has reached, a prefix of an output for its job has been written
+-- it stops within the text of a step of the run
 pub step_stops : (shown : ℕ → Bool) (steps step left : ℕ) (start run : Progress) (old a b : SinkBytes) → Writes shown steps start step left run old a
     → IsRoadAt run.seed run.sheet run.step run.road → AddsPrefix a b (shown_text shown step run.road) → (job : Job) → Begins job steps start → WrotePrefix (IsOutputForJob shown job) old b
 step_stops shown steps step left start run old a b writes road text job begins =

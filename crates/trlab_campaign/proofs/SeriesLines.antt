@@ -9,7 +9,7 @@ use Rattle.trlab_jobs.specs.{Job.{Job, seed_of, sheet_of}, Stored.IsStoredJob}
 use Rattle.trlab_campaign.specs.{Ending.{WroteByResult, WrotePrefix}, SeriesOutput.{IsCourse, IsSeries}}
 use Rattle.trlab_campaign.specs.SeriesOutput.{IsSeriesOutputForJob, first_windows, nth_window, window_of}
 use Rattle.trlab_campaign.specs.Writers.{HasWritten, AddsByResult, AddsPrefix, SinkBytes}
-use Rattle.trlab_campaign.proofs.{Courses.course_of, WrittenBytes.adds_more, Sheets.stored_sheet, Owed.Owes}
+use Rattle.trlab_campaign.proofs.{Courses.course_of, WrittenBytes.adds_more, Sheets.plain_sheet, Owed.Owes}
 use Rattle.trlab_campaign.proofs.Owed.{owes_all, owes_prefix, owes_less}
 
 -- the lines of `count` windows from window k on
@@ -21,7 +21,7 @@ next_line : (roads : ℕ → Cells) (tallies : ℕ → StepTally) (every from k 
     → lines_from roads tallies every from k (left + 1) ≡ window_text (nth_window roads tallies every from k) ++ lines_from roads tallies every from (k + 1) left
 next_line roads tallies every from k left = rw (add-one left) refl
 
--- once the line of window k is written, the lines of the later windows are owed
+-- one line is written
 pub line_on : (roads : ℕ → Cells) (tallies : ℕ → StepTally) (every from k left step : ℕ) (whole : List ℕ) (old a b : SinkBytes) → step ≡ from + k * every
     → Owes whole (lines_from roads tallies every from k (left + 1)) old a → HasWritten a b (window_text (window_of roads tallies step every))
     → Owes whole (lines_from roads tallies every from (k + 1) left) old b
@@ -29,7 +29,7 @@ line_on roads tallies every from k left step whole old a b is owes text =
     owes_less whole (window_text (nth_window roads tallies every from k)) (lines_from roads tallies every from (k + 1) left) old a b
     (rw (next_line roads tallies every from k left) at owes) (rw is at text)
 
--- if only a prefix of the line of window k is written, a prefix of all lines has been written
+-- or a prefix of it
 pub line_stops : (roads : ℕ → Cells) (tallies : ℕ → StepTally) (every from k left step : ℕ) (whole : List ℕ) (old a b : SinkBytes) → step ≡ from + k * every
     → Owes whole (lines_from roads tallies every from k (left + 1)) old a → AddsPrefix a b (window_text (window_of roads tallies step every)) → AddsPrefix old b whole
 line_stops roads tallies every from k left step whole old a b is owes text =
@@ -55,7 +55,7 @@ then_wrote (Err e) first rest old mid new a b =
 module _ (job : Job) (every from count steps : ℕ) (run : Progress) (stored : IsStoredJob job) (starts : run ≡ at_start (seed_of job) (sheet_of job)) (ends : steps ≡ job.steps)
     (whole : (k : ℕ) → (k < count) ↔ (from + (k + 1) * every ≤ steps)) where
   job_course : (roads : ℕ → Cells) × (tallies : ℕ → StepTally) × IsCourse (seed_of job) (sheet_of job) roads tallies
-  job_course = course_of (seed_of job) (sheet_of job) stored.legal (stored_sheet job stored)
+  job_course = course_of (seed_of job) (sheet_of job) stored.legal (plain_sheet job stored)
 
   run_course : IsCourse run.seed run.sheet job_course.0 job_course.1
   run_course = subst (λ (r : Progress). IsCourse r.seed r.sheet job_course.0 job_course.1) (sym starts) job_course.2

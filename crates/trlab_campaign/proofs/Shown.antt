@@ -26,7 +26,7 @@ apart every from step is =
     let whole = div-add-mod' (step - from) every in
     ((step - from) / every, omega (arith, past, none, whole))
 
--- each step from + k * every is shown
+-- and each such step is shown
 at_multiple : (every from k : ℕ) → every_from every from (from + k * every) ≡ true
 at_multiple every from k =
     let behind : from + k * every - from ≡ k * every = omega arith in
@@ -60,7 +60,7 @@ none_after every from steps last step some past is after within = not_true _ sho
           | inr early ↦ let product = mul-le at.0 every count every early (omega arith) in omega (arith, at.1, after, first, product)
         ]
 
--- the step steps - (steps - from) % every, the last that is shown, is one of the shown steps
+-- the last is shown
 pub last_shown : (every from steps last : ℕ) → from ≤ steps → last ≡ steps - (steps - from) % every → every_from every from last ≡ true
 last_shown every from steps last past is =
     let count = (steps - from) / every in

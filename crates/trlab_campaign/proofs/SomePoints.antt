@@ -29,7 +29,7 @@ point_some common number cars rule fits =
     let run = run_comes_to_road (point_seed common number start.0) (sweep_sheet common) (all_steps common.span) start.1.1 sheet in
     (point_of common cars run.1, record { start = start.0; tally = run.1; even = start.1.0; counted = (run.0, run.2); told = refl })
 
--- the points of a sweep from point `number` on, one for each of these numbers of cars
+-- points from a number on
 record PointsFrom (common : Setup) (number : ℕ) (cars : List ℕ) (points : List Point) : Type 0 where
   pub one_each : length points ≡ length cars
   pub each : (i count : ℕ) (point : Point) → i < length cars → IsPoint common (number + i) (get_or cars i count) (get_or points i point)

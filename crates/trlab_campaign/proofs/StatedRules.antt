@@ -16,7 +16,7 @@ use Rattle.trlab_jobs.proofs.SweepLines.{after_key, after_limit, after_rule, aft
 use Rattle.trlab_asm.specs.Operands.{map_ok}
 use Rattle.trlab_campaign.specs.SweepOutput.{stated_rule}
 
--- equal results have equal parts
+-- the parts of a result
 ok_parts : {A B : Type 0} (x y : A) (a b : B) → ◌≡◌ {A = Result (A × B) LocatedFault} (Ok (x, a)) (Ok (y, b)) → (x ≡ y) × (a ≡ b)
 ok_parts {A = A} {B = B} x y a b h = let e : ◌≡◌ {A = A × B} (x, a) (y, b) = cc h in (ap (λ (p : A × B). p.0) e, ap (λ (p : A × B). p.1) e)
 
@@ -35,7 +35,7 @@ both first next rest out (Err fault) one two = absurd (cc two)
 record Takes {A : Type 0} (reading : Reading A) (n : ℕ) : Type 0 where
   left : (rest : Rest) (x : A) (after : Rest) (k : ℕ) → reading rest (Ok (x, after)) → get_or rest.left (n + k) [] ≡ get_or after.left k []
 
--- the first line says x, and the lines behind it are left
+-- the meaning of one line
 record Line {A : Type 0} (says : List ℕ → Result A Cause) (left : List (List ℕ)) (x : A) (after : Rest) : Type 0 where
   said : says (get_or left 0 []) ≡ Ok x
   behind : (k : ℕ) → get_or left (1 + k) [] ≡ get_or after.left k []
@@ -75,7 +75,7 @@ say_takes x = record {
       ap (λ i. get_or rest.left i []) e ∙ ap (λ (r : Rest). get_or r.left k []) (sym same);
 }
 
--- the heading of a sweep text takes two lines, the one of the sweep and the key
+-- the lines before the rule
 heading_takes : Takes sweep_heading 2
 heading_takes = then_takes (line (exactly sweep_line)) (λ _. line (exactly key_line)) 1 1 (line_takes sweep_line) (λ _. line_takes key_line)
 

@@ -50,7 +50,7 @@ pub adds_part : (a b c : SinkBytes) (text : List ℕ) (done count : ℕ) → Has
 adds_part a b c text done count p q =
     subst (λ (t : List ℕ). HasWritten a c t) (sym (take-add done count text)) (adds_more a b c (take done text) (take count (drop done text)) p q)
 
--- if the written prefix is as long as the text, the whole text was written
+-- the text is complete
 pub adds_whole : (a b : SinkBytes) (text : List ℕ) (done : ℕ) → done ≤ length text → length text ≤ done → HasWritten a b (take done text) → HasWritten a b text
 adds_whole a b text done inside all p =
     let here : done ≡ length text = omega arith in

@@ -6,7 +6,7 @@ use Rattle.trlab_bounds.specs.declared.texts.TheConstants.{TEXT_LIMIT}
 
 -- How often a writer was flushed, counted up to the second time.
 
--- the number of flushes after one more flush. It is counted up to two: `Often` is twice or more often
+-- the number of flushes after one more, counted up to two: `Often` is twice or more often
 abbrev pub once_more : Flushes → Flushes
 once_more Never = Once
 once_more Once = Often
@@ -16,8 +16,7 @@ once_more Often = Often
 abbrev pub FlushedOnce : Bool → Flushes → Flushes → Type 0
 FlushedOnce all_flushed old new = (all_flushed ≡ true) × (new ≡ once_more old)
 
--- between `old` and `new` the writer was flushed at most once, or it had been flushed before and is now at
--- `Often`, which does not show how often
+-- between `old` and `new` the writer was flushed at most once, as far as flushes are counted
 abbrev pub FlushedAtMostOnce : Flushes → Flushes → Type 0
 FlushedAtMostOnce old new = (new ≡ old) ⊎ (new ≡ once_more old)
 
@@ -39,10 +38,10 @@ ReportsEnd (Err fault) buffer = ⊥
 abbrev pub GaveBytes : (List ℕ → Type 0) → List ℕ → List ℕ → Type 0
 GaveBytes Holds before after = (bytes : List ℕ) × ((after ≡ before ++ bytes) × Holds bytes)
 
--- a reader had the bytes `old` left to read, and now has `new` left: it read a prefix of `old` of at most
--- `max_bytes` bytes. If the reader does not make its bytes known (`None`), this is always true
+-- of the bytes `old` that were left to read, the first were read, at most `most`, and `new` is left; always
+-- true if the reader does not make its bytes known
 abbrev pub ConsumesUpTo : ℕ → Option (List ℕ) → Option (List ℕ) → Type 0
-ConsumesUpTo max_bytes old new = (read : List ℕ) × (length read ≤ max_bytes) × Consumes old new read
+ConsumesUpTo most old new = (read : List ℕ) × (length read ≤ most) × Consumes old new read
 
 -- `text` is the whole input, or both are too long: they have more than TEXT_LIMIT bytes
 abbrev pub IsInputOrTooLong : List ℕ → List ℕ → Type 0

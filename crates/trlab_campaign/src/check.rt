@@ -41,7 +41,7 @@ fn accepted_text(alloc: Global, budget: u32, code: &Code) -> Result<Vec<u8>, All
     Ok(text)
 }
 
-/// The line of a rejected program, which names the instruction `at` and the number of the verifier's reason.
+/// The text of a rejected program.
 fn rejected_text(alloc: Global, at: u32, reason: u32) -> Result<Vec<u8>, AllocError>
     ensures { IfOk result (λ text. text.items ≡ rejected_line at reason) }
 {

@@ -10,7 +10,7 @@ use crate::output::fault_page;
 use std::alloc::Global;
 use trlab_texts::Cause;
 
-/// How an engine ended. The discriminant is the exit status of the program; 2 is left for rejected arguments.
+/// How an engine ended. The discriminant is the exit status of the program.
 #[derive(Clone, Copy, Debug, PartialEq, Eq)]
 pub enum End {
     /// The whole output was written and flushed.

@@ -15,18 +15,17 @@ use trlab_asm::{REGISTERS, register_text};
 use trlab_code::{Code, Register};
 use trlab_verify::{Mark, Note, NotesFault, notes};
 
-/// Adds a space, the name of a register, a space and the text of the register's value.
-fn push_entry(out: &mut Vec<u8>, register: Register, value: &[u8]) -> Result<(), AllocError>
-    ensures { OnOk result (out.new.items ≡ out.old.items ++ register_entry register value.now) }
+/// Adds a space, the name of a register, a space and the content of the register.
+fn push_entry(out: &mut Vec<u8>, register: Register, held: &[u8]) -> Result<(), AllocError>
+    ensures { OnOk result (out.new.items ≡ out.old.items ++ register_entry register held.now) }
 {
     out.push(b' ')?;
     out.extend_from_slice(register_text(register))?;
     out.push(b' ')?;
-    out.extend_from_slice(value)
+    out.extend_from_slice(held)
 }
 
-/// Adds the text of a register with this mark: nothing if it may be unset. `side` is whether the side cell is known to
-/// be empty; then every flag is `side`.
+/// Adds the text of a register with this mark. `side` is whether the side cell is known to be empty.
 fn push_mark(
     alloc: Global,
     out: &mut Vec<u8>,
@@ -43,13 +42,9 @@ fn push_mark(
             let range = format!(in alloc; "{low} {high}")?;
             push_entry(out, register, range.as_bytes())
         }
-        Mark::Flag(implies_side) => {
-            let value: &[u8] = if implies_side || side {
-                b"side"
-            } else {
-                b"flag"
-            };
-            push_entry(out, register, value)
+        Mark::Flag(imp) => {
+            let held: &[u8] = if imp || side { b"side" } else { b"flag" };
+            push_entry(out, register, held)
         }
     }
 }
@@ -109,7 +104,6 @@ pub fn push_notes(alloc: Global, out: &mut Vec<u8>, code: &Code) -> Result<(), A
     match notes(alloc, code) {
         Ok(table) => push_table(alloc, out, &table),
         Err(NotesFault::Memory) => Err(AllocError),
-        // The program is accepted, by the precondition.
         Err(NotesFault::Refused) => unreachable!(),
     }
 }

@@ -23,12 +23,12 @@ use trlab_segments::{Gate, OpenGate, Pool};
 use trlab_step::{Executor, Run, RunSheet};
 use trlab_texts::TextFault;
 
-/// The account of a job's run that a command writes: its pictures (`run`) or the table of a series (`series`).
+/// The kind of output that is written for a job: pictures or a series.
 pub trait Account {
     // The possible whole outputs for a job, each marked as a rejection or not.
     ghost outputs: { Self → Told → Outputs };
 
-    /// The number of steps by which `write_job` advances a job's run, for reports of progress.
+    /// The number of steps by which it advances a job's run, for reports of progress.
     fn steps(&self, job: &Job) -> u32;
 
     /// Runs a job and writes the output, without flushing the writer.
@@ -81,7 +81,6 @@ fn write_by_pool<'x, R: Threads + Wait + Sync, G: Gate + Sync, C: Account, E: Ex
     requires works { K.failed writer.old ≡ false }
     ensures { LeavesWriter K.Sink (WroteAtEnd (C.outputs account.now job)) result writer.old writer.new }
 {
-    // In an option, because a closure that can be called again cannot give away what it owns.
     let mut job = Some(job);
     pool.run(
         alloc,
@@ -94,7 +93,6 @@ fn write_by_pool<'x, R: Threads + Wait + Sync, G: Gate + Sync, C: Account, E: Ex
         {
             match job.take() {
                 Some(job) => write_account(account, executor, alloc, job, writer),
-                // `Pool::run` calls the closure only once.
                 None => unreachable!(),
             }
         },

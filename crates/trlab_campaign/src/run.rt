@@ -62,8 +62,7 @@ impl ShownSteps {
     }
 }
 
-/// The text of a step, which the calling thread makes while the workers compute the cars. Its memory is reused from
-/// step to step.
+/// The text of a step, which is made while the cars are computed. Its memory is reused from step to step.
 #[derive(Drop)]
 struct StepText {
     step: u32,
@@ -217,14 +216,13 @@ impl<'a> Account for StepPictures<'a> {
     }
 }
 
-/// Reads a job text, and writes the picture of its road at each step that is `shown`, or the line of the text's first
-/// fault. The run stops at the last shown step; its contract does not say so, because the output would be the same.
-/// `progress` observes the steps.
+/// Reads a job text, and writes the picture of its road at each step that is `shown`, or the line of the text's
+/// first fault. The run ends with the last shown step, which no clause says. `progress` observes the steps.
 ///
 /// The whole text is read and checked before a byte is written. If an allocation fails, or a call of the reader or
 /// writer fails, a prefix of the whole output has been written. `workers`, 1 to 16, is the maximum number of threads
-/// that compute the cars. Threads that would not speed up the run are not started, and the others live as long as the
-/// run. The output does not depend on `workers`.
+/// that compute the cars. Only as many as help are started, once for the whole run. The output does not depend on
+/// `workers`.
 pub fn run_shown_text<
     R: AllocGlobal + Threads + Wait + Sync,
     S: Source,

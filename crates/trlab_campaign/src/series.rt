@@ -212,13 +212,13 @@ impl<'a> Account for Series<'a> {
     }
 }
 
-/// Reads a job text, and writes the table of its windows, or the line of the text's first fault. The run stops after
-/// the last window; its contract does not say so, because the output would be the same. `progress` observes the steps.
+/// Reads a job text, and writes the table of its windows, or the line of the text's first fault. The run ends with
+/// the last window, which no clause says. `progress` observes the steps.
 ///
 /// The whole text is read and checked before a byte is written, and the line of a window is written once the steps of
 /// the window are taken. If an allocation fails, or a call of the reader or writer fails, a prefix of the whole output
-/// has been written. `workers`, 1 to 16, is the maximum number of threads that compute the cars. Threads that would not
-/// speed up the run are not started, and the others live as long as the run. The output does not depend on `workers`.
+/// has been written. `workers`, 1 to 16, is the maximum number of threads that compute the cars. Only as many as help
+/// are started, once for the whole run. The output does not depend on `workers`.
 pub fn run_series_text<
     R: AllocGlobal + Threads + Wait + Sync,
     S: Source,

@@ -6,7 +6,7 @@ use Rattle.std.{proofs.lemmas.{Fmt.decimal_injective, Str.Parse.digit_from_value
 use Rattle.trlab_diagram.specs.{declared.point.Point.Point, Tables.{flow_of, points_heading, line_text}}
 use Rattle.trlab_diagram.specs.{Tables.point_line, Laws.{CountsFit64Bits, TableDeterminesPoints}}
 
--- if two texts are equal, so are the digits before their first commas, and the texts after these commas
+-- digits end at a comma
 cut : (xs us ys vs : List ℕ) → AllDigits 10 xs → AllDigits 10 us → xs ++ (44 ∷ ys) ≡ us ++ (44 ∷ vs) → (xs ≡ us) × (ys ≡ vs)
 cut [] [] ys vs a b e = (refl, cc e)
 cut [] (u ∷ us) ys vs a b e =

@@ -57,7 +57,7 @@ fn push_counts(row: &mut ByteRecord, counts: &[u64]) -> Result<(), DiagramFault>
 }
 
 /// Replaces the fields of a row by those of a window's line.
-fn fill_row(row: &mut ByteRecord, window: &Window) -> Result<(), DiagramFault>
+fn put_window(row: &mut ByteRecord, window: &Window) -> Result<(), DiagramFault>
     requires { IsMeasured window.now.point }
     ensures { OnOk result (row_text default_writer (fields_of row.new) ≡ line_text (window_line window.now)) }
 {
@@ -146,7 +146,7 @@ impl Model for SeriesLines {
 }
 
 impl SeriesLines {
-    /// The maker of a series' lines, which has made none yet.
+    /// A maker that has made no line yet.
     pub fn new(alloc: Global) -> SeriesLines {
         SeriesLines {
             writer: Writer::from_writer(Vec::new(alloc)),
@@ -165,9 +165,8 @@ impl SeriesLines {
         requires { IsMeasured window.now.point }
         ensures { IfOk result (λ text. text.items ≡ window_text window.now) }
     {
-        fill_row(&mut self.row, window)?;
+        put_window(&mut self.row, window)?;
         let line = written_line(alloc, &mut self.writer, &self.row);
-        // After an error the writer may hold a part of a line.
         if line.is_err() || self.writer.get_ref().len() > MAX_WRITER_BYTES {
             self.writer = Writer::from_writer(Vec::new(alloc));
         }

@@ -78,7 +78,7 @@ fn wanted_lanes<'a>(limit: u32, cells: usize, fault: RoadFault) -> Wanted<'a>
     }
 }
 
-/// The refusal of lanes with this fault, on the lines from `first` to `last`; the first lane has `cells` cells.
+/// The refusal of lanes from the line `first` to the line `last`; the first lane has `cells` cells.
 fn lanes_refusal<'a>(
     first: u32,
     last: u32,
@@ -139,7 +139,7 @@ fn road_of<'a>(
     }
 }
 
-/// Reads the lanes of a road with this maximum speed: a line `lane P`, and the next line if it also begins with `lane`.
+/// Reads the lanes of a road: a line `lane P`, and the next line if it begins with `lane`.
 pub fn lanes(alloc: Global, limit: u32, rest: Rest<'_>) -> Result<(Road, Rest<'_>), Refusal<'_>>
     ensures reported { Reports (lanes limit rest.entry) result }
     ensures legal { IfOk result (λ found. IsLegal found.0) }

@@ -18,8 +18,8 @@ pub const MAX_WORK: u32 = 500_000;
 /// size.
 pub const MAX_CARS_IN_MEMORY: u32 = 6_400_000;
 
-/// The limits as numbers. Because definitions name the constants, a changed constant would silently change the
-/// definitions; this contract rejects it.
+/// The limits as numbers. Definitions name the constants, so a changed constant would change the definitions
+/// too; it is rejected here.
 pub fn sweeps()
     ensures cars { MAX_CARS ≡ 200000 }
     ensures largest { MAX_CARS ≡ MAX_LANES * MAX_LENGTH }

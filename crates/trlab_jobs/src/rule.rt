@@ -43,8 +43,7 @@ impl Lanes {
     }
 }
 
-/// The objection to the line `code X` of a change program on a road with one lane: the missing lane, unless its words
-/// or its hexadecimal digits are wrong.
+/// Why the line `code X` of a change program is rejected on a road with one lane.
 ///
 /// # Errors
 ///
@@ -59,12 +58,11 @@ fn code_misplacement(alloc: Global, lanes: Lanes, line: &[u8]) -> Result<Objecti
     match hex::decode(alloc, digits.bytes()) {
         Ok(_) => Ok(lanes.too_few()),
         Err(FromHexError::OutOfMemory) => Err(AllocError),
-        Err(_) => Ok(digits.not_hexadecimal()),
+        Err(_) => Ok(digits.no_hex()),
     }
 }
 
-/// The refusal of a change program on a road with one lane. Its cause is the missing lane, unless the block has no line
-/// `end`, or the line `code X` has wrong words or digits. The program itself is not read.
+/// Why a change program is rejected on a road with one lane.
 fn misplacement(alloc: Global, lanes: Lanes, rest: Rest<'_>) -> Refusal<'_>
     ensures { ReportsFault (misplacement rest.entry.number rest.entry.left) result }
 {
@@ -86,7 +84,7 @@ fn misplacement(alloc: Global, lanes: Lanes, rest: Rest<'_>) -> Refusal<'_>
     }
 }
 
-/// Reads a change program if the road has two lanes; on a road with one lane, it is a fault.
+/// Reads a change program, which is a fault on a road with one lane.
 fn change_if_two_lanes(
     alloc: Global,
     lanes: Lanes,
@@ -136,8 +134,7 @@ fn own_rule(alloc: Global, lanes: Lanes, rest: Rest<'_>) -> Result<(Rule, Rest<'
     Ok((Rule::new(motion, change), rest))
 }
 
-/// Returns a standard rule with the rest of the text. The verifier accepts the programs of standard rules, so the only
-/// possible fault is a failed allocation.
+/// Returns a standard rule with the rest of the text.
 fn rule_with_rest(
     rule: Result<Rule, StandardFault>,
     rest: Rest<'_>,

@@ -9,11 +9,11 @@ use trlab_words::{CERTAIN, Chance};
 /// A rule as a line states it. `T` is the type of its parameters: words, or the probabilities that they write.
 #[derive(Drop)]
 pub enum RuleLine<T> {
-    /// `rule nasch t`: t for braking.
+    /// `rule nasch t`.
     Nasch { brake: T },
-    /// `rule vdr t t0`: t for braking of moving cars, t0 for stopped cars.
+    /// `rule vdr t t0`: t for moving cars, t0 for stopped cars.
     Vdr { moving: T, stopped: T },
-    /// `rule rickert t c`: t for braking, c for lane changes.
+    /// `rule rickert t c`: c for lane changes.
     Rickert { brake: T, crossing: T },
     /// `rule own`, with its programs on the lines after it.
     Own,
@@ -54,7 +54,6 @@ fn read_probability(word: Excerpt<'_>) -> Result<Chance, Objection<'_>>
 {
     match Chance::new(word.number(0, CERTAIN, Quantity::Probability)?) {
         Some(chance) => Ok(chance),
-        // The number is at most `CERTAIN`.
         None => unreachable!(),
     }
 }

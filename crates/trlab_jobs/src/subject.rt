@@ -14,7 +14,7 @@ pub enum Subject {
     Check,
 }
 
-/// Whether a word is this name, in capital or small letters.
+/// Whether a word is this name, in any case.
 fn is_named(word: &[u8], name: &[u8]) -> bool
     ensures { result ≡ is_named word.now name.now }
 {

@@ -190,8 +190,8 @@ pub fn read_span(rest: Rest<'_>) -> Result<(Span, Rest<'_>), Refusal<'_>>
     Ok((Span { warm, measure }, rest))
 }
 
-/// Accepts the number of cars of a point if the sweep may have one more point, the road has a cell for each car, and
-/// the steps of all points up to this one are not too many. Points are counted from 1.
+/// Accepts the number of cars of a point if there is room for the point, for the cars, and for the steps of all
+/// points so far. Points are counted from 1.
 fn admit_cars<'a>(cells: u32, steps: u32, point: u32, count: u32) -> Result<u32, Objection<'a>>
     ensures value { result ≡ admit_cars cells steps point count }
     ensures room { OnOk result (point ≤ MAX_POINTS) }
@@ -222,7 +222,7 @@ fn read_cars_line(cells: u32, steps: u32, point: u32, line: &[u8]) -> Result<u32
     admit_cars(cells, steps, point, count)
 }
 
-/// Reads the next line, `cars n`, which has the number of cars of the point with the number `point`.
+/// Reads the next line, `cars n`, as the number of cars of the point with the number `point`.
 fn next_count(
     cells: u32,
     steps: u32,
@@ -238,7 +238,7 @@ fn next_count(
     )
 }
 
-/// Reads the numbers of cars up to the end of the text, of which there may be none.
+/// Reads the numbers of cars up to the end of the text.
 fn counts_to_end(
     alloc: Global,
     cells: u32,

@@ -19,7 +19,7 @@ use Rattle.trlab_notes.specs.declared.note.AbstractValue.{AbstractValue, TheVari
 use Rattle.trlab_notes.specs.declared.{note.AbstractValue.TheVariants.Implies, reasons.Reason.Reason}
 use Rattle.trlab_notes.specs.{Notes.{Note, value_with_side, low, high, implies, known_level}, Transfer.assign}
 use Rattle.trlab_notes.specs.Transfer.{sharpen, slacken, least_difference, next_note, jump_note}
-use Rattle.trlab_notes.specs.Reasons.{is_allowed_in_both, reason_against, any_register, is_unknown, is_range, is_flag}
+use Rattle.trlab_notes.specs.Reasons.{is_of_kind, reason_against, any_register, is_unknown, is_range, is_flag}
 use Rattle.trlab_notes.specs.Reasons.{some_unset, some_of_wrong_type, falls_out, may_be_too_large}
 use Rattle.trlab_notes.specs.Reasons.{may_be_below_zero, may_be_above, may_be_occupied}
 use Rattle.trlab_notes.proofs.Fits.{number_is, Ahead, FitsSaid, Fits, sharper_right, sharper_less, just_right}
@@ -40,7 +40,7 @@ Leads side m i s Sticks = ⊥
 
 -- the tests of an instruction that has no fault
 pub record IsClear (kind own : Kind) (len pc : ℕ) (m : Note) (i : Instr) : Type 0 where
-  pub allowed : not (is_allowed_in_both kind own i) ≡ false
+  pub allowed : not (is_of_kind kind own i) ≡ false
   pub set : some_unset m i ≡ false
   pub kinds : some_of_wrong_type m i ≡ false
   pub forward : on_target (λ t. nat_le t pc) (target i) ≡ false
@@ -148,7 +148,7 @@ start_limit Motion view = refl
 start_limit Change view = refl
 
 -- an instruction that may appear in a program is allowed by the program's kind
-pub kind_allows : (kind own : Kind) (i : Instr) → is_allowed_in_both kind own i ≡ true → allows kind i ≡ true
+pub kind_allows : (kind own : Kind) (i : Instr) → is_of_kind kind own i ≡ true → allows kind i ≡ true
 kind_allows kind own i h = and_first (allows kind i) _ h
   where
     and_first : (p q : Bool) → (p && q) ≡ true → p ≡ true

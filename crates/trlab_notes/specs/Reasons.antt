@@ -30,10 +30,9 @@ reason_number why.MaybeAboveGap = 10
 reason_number why.MaybeAboveLimit = 11
 reason_number why.MaybeOccupied = 12
 
--- is the instruction allowed both in programs of `kind`, as one of which the program is judged, and in programs
--- of `own_kind`, the kind that the program itself names?
-abbrev pub is_allowed_in_both : Kind → Kind → Instr → Bool
-is_allowed_in_both kind own_kind instr = allows kind instr && allows own_kind instr
+-- is the instruction allowed both in programs of `kind` and in programs of `own`, the program's own kind?
+abbrev pub is_of_kind : Kind → Kind → Instr → Bool
+is_of_kind kind own instr = allows kind instr && allows own instr
 
 -- the registers that an instruction reads, with the type of value that each must hold: a number, a flag, or
 -- either
@@ -143,8 +142,8 @@ pub record JudgedReason : Type 0 where
 -- note before it: its kind is wrong; an operand may be unset, or is of the wrong type; its jump does not go
 -- forward, or leaves the program; or control may continue past the end
 abbrev pub form_checks : Kind → Kind → ℕ → ℕ → Note → Instr → List JudgedReason
-form_checks kind own_kind len pc note instr =
-    record { reason = why.WrongProgram; holds = not (is_allowed_in_both kind own_kind instr) }
+form_checks kind own len pc note instr =
+    record { reason = why.WrongProgram; holds = not (is_of_kind kind own instr) }
     ∷ record { reason = why.MaybeUnset; holds = some_unset note instr }
     ∷ record { reason = why.WrongValue; holds = some_of_wrong_type note instr }
     ∷ record { reason = why.JumpsBack; holds = on_target (λ t. nat_le t pc) (target instr) }
@@ -169,7 +168,7 @@ first_reason [] = None
 first_reason (check ∷ checks) = if check.holds then Some check.reason else first_reason checks
 
 -- the first of the reasons 2 to 12 that holds against the instruction at pc, one of len instructions, by the
--- note before it, in a program that names `own_kind` and is judged as one of `kind`; `None` if none holds
+-- note before it; `None` if none holds
 abbrev pub reason_against : Kind → Kind → ℕ → ℕ → Note → Instr → Option Reason
-reason_against kind own_kind len pc note instr =
-    first_reason (form_checks kind own_kind len pc note instr ++ range_checks note instr)
+reason_against kind own len pc note instr =
+    first_reason (form_checks kind own len pc note instr ++ range_checks note instr)

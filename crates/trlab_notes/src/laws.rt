@@ -33,9 +33,9 @@ pub fn join_is_strongest()
 /// If there is no reason to reject an instruction with one note, there is none with a stronger note, and the
 /// notes after it are at least as strong.
 pub fn notes_are_monotone()
-    ensures clear { (kind own_kind : AKind) (len pc : ℕ) (m n : Note) (i : Instr) → IsNoStronger m n →
-        reason_against kind own_kind len pc m i ≡ None → reason_against kind own_kind len pc n i ≡ None }
-    ensures falls { (kind own_kind : AKind) (len pc : ℕ) (m n : Note) (i : Instr) → IsNoStronger m n →
-        reason_against kind own_kind len pc m i ≡ None → AreNoStronger (next_note m i) (next_note n i) }
+    ensures clear { (kind own : AKind) (len pc : ℕ) (m n : Note) (i : Instr) → IsNoStronger m n →
+        reason_against kind own len pc m i ≡ None → reason_against kind own len pc n i ≡ None }
+    ensures falls { (kind own : AKind) (len pc : ℕ) (m n : Note) (i : Instr) → IsNoStronger m n →
+        reason_against kind own len pc m i ≡ None → AreNoStronger (next_note m i) (next_note n i) }
     ensures jumps { (m n : Note) (i : Instr) → IsNoStronger m n → IsNoStronger (jump_note m i) (jump_note n i) }
 {}

@@ -1,4 +1,4 @@
-//! Makes stored notes from abstract values and levels, and reads the values and the levels of their variables.
+//! The values and the levels of variables in stored notes, and the first storing of a note.
 
 ghost use Rattle.std.specs.Prelude.{◌≡◌, ℕ, ◌<◌, ◌≤◌, slice_index, slice_index_or};
 ghost use Rattle.trlab_code.specs.declared.instruction.Variable.{Variable as AVariable};
@@ -47,13 +47,13 @@ fn with_side(side: bool, value: AbstractValue) -> AbstractValue
     ensures { result ≡ with_side side value }
 {
     match value {
-        AbstractValue::Implies(implied) => AbstractValue::Implies(implied || side),
+        AbstractValue::Implies(imp) => AbstractValue::Implies(imp || side),
         other => other,
     }
 }
 
 impl StoredNote {
-    /// The note with these abstract values and levels. If `side` is true, the side cell is known to be empty.
+    /// The note with these abstract values and these levels.
     pub fn new(
         values: [AbstractValue; VARIABLES],
         levels: &[[u8; VARIABLES]; VARIABLES],

@@ -51,13 +51,13 @@ impl AbstractValue {
         ensures { result ≡ implies self }
     {
         match self {
-            AbstractValue::Implies(implied) => implied,
+            AbstractValue::Implies(imp) => imp,
             _ => false,
         }
     }
 }
 
-/// The level of a number of at most `high` to another number of at least `low`, if nothing else is known of them.
+/// The level of a number of at most `high` to a number of at least `low`: `BELOW`, `AT_MOST` or 0.
 fn range_level(high: u32, low: u32) -> u8
     ensures { result ≡ range_level high low }
 {

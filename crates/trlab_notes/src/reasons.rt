@@ -3,7 +3,7 @@
 ghost use Rattle.std.specs.Prelude.{◌≡◌, ◌≤◌, MatchOption, ◌<◌, nat_le};
 ghost use Rattle.trlab_code.specs.Machine.{allows, allows_input};
 ghost use Rattle.trlab_code.specs.Flow.{target, on_target};
-ghost use Rattle.trlab_notes.specs.Reasons.{is_unknown, is_range, is_flag, is_allowed_in_both, some_unset, some_of_wrong_type, may_be_too_large, may_be_below_zero, may_be_above, may_be_occupied, falls_out, first_reason, range_checks, reason_against};
+ghost use Rattle.trlab_notes.specs.Reasons.{is_unknown, is_range, is_flag, is_of_kind, some_unset, some_of_wrong_type, may_be_too_large, may_be_below_zero, may_be_above, may_be_occupied, falls_out, first_reason, range_checks, reason_against};
 ghost use Rattle.trlab_notes.specs.Stored.{note_of};
 ghost use Rattle.trlab_notes.specs.Transfer.{register_value};
 
@@ -138,29 +138,28 @@ fn is_allowed(kind: Kind, instr: Instr) -> bool
     }
 }
 
-/// Whether the instruction is allowed in programs of `kind` and also in programs of `own_kind`, the kind that the
-/// program itself names.
-fn is_allowed_in_both(kind: Kind, own_kind: Kind, instr: Instr) -> bool
-    ensures { result ≡ is_allowed_in_both kind own_kind instr }
+/// Whether the instruction is allowed in programs of both kinds, `kind` and `own`.
+fn is_of_kind(kind: Kind, own: Kind, instr: Instr) -> bool
+    ensures { result ≡ is_of_kind kind own instr }
 {
-    is_allowed(kind, instr) && is_allowed(own_kind, instr)
+    is_allowed(kind, instr) && is_allowed(own, instr)
 }
 
-/// Whether a register may be unset: nothing is known of its value.
+/// Whether a register may be unset.
 fn is_unset(note: &StoredNote, register: Register) -> bool
     ensures { result ≡ is_unknown (register_value (note_of note.now) register) }
 {
     matches!(note.register_value(register), AbstractValue::Unknown)
 }
 
-/// Whether a register is known to hold a number.
+/// Whether a register holds a number.
 fn has_number(note: &StoredNote, register: Register) -> bool
     ensures { result ≡ is_range (register_value (note_of note.now) register) }
 {
     matches!(note.register_value(register), AbstractValue::Between(..))
 }
 
-/// Whether a register is known to hold a flag.
+/// Whether a register holds a flag.
 fn has_flag(note: &StoredNote, register: Register) -> bool
     ensures { result ≡ is_flag (register_value (note_of note.now) register) }
 {
@@ -217,7 +216,7 @@ fn may_be_below_zero(note: &StoredNote, instr: Instr) -> bool
     }
 }
 
-/// Whether the speed of `Go` may be above the input, which is the gap or the limit.
+/// Whether the speed of `Go` may be above an input, the gap or the limit.
 fn may_be_above(input: Input, note: &StoredNote, instr: Instr) -> bool
     ensures { result ≡ may_be_above input (note_of note.now) instr }
 {
@@ -254,7 +253,7 @@ fn jumps_out(len: usize, instr: Instr) -> bool
     }
 }
 
-/// Whether control may continue from the instruction at `pc` past the last of `len` instructions.
+/// Whether the instruction at `pc` may go on past the last of `len` instructions.
 fn falls_out(len: usize, pc: usize, instr: Instr) -> bool
     requires { pc < len }
     ensures { result ≡ falls_out len pc instr }
@@ -262,7 +261,7 @@ fn falls_out(len: usize, pc: usize, instr: Instr) -> bool
     instr.falls() && len <= pc + 1
 }
 
-/// The first of the reasons 8 to 12 that holds: the result or the answer of the instruction may be out of range.
+/// The first of the reasons 8 to 12 that holds. They are about the instruction's result or answer.
 fn range_reason(note: &StoredNote, instr: Instr) -> Option<Reason>
     ensures { result ≡ first_reason (range_checks (note_of note.now) instr) }
 {
@@ -282,19 +281,19 @@ fn range_reason(note: &StoredNote, instr: Instr) -> Option<Reason>
 }
 
 /// The first of the reasons 2 to 12 to reject the instruction at `pc` in a program of `len` instructions. The program
-/// is judged as one of `kind`; `own_kind` is the kind that the program itself names, which may be another.
+/// is judged as one of `kind`; `own` is its own kind.
 pub fn reason_against(
     kind: Kind,
-    own_kind: Kind,
+    own: Kind,
     len: usize,
     pc: usize,
     note: &StoredNote,
     instr: Instr,
 ) -> Option<Reason>
     requires { pc < len }
-    ensures { result ≡ reason_against kind own_kind len pc (note_of note.now) instr }
+    ensures { result ≡ reason_against kind own len pc (note_of note.now) instr }
 {
-    if !is_allowed_in_both(kind, own_kind, instr) {
+    if !is_of_kind(kind, own, instr) {
         Some(Reason::WrongProgram)
     } else if has_unset(note, instr) {
         Some(Reason::MaybeUnset)

@@ -16,8 +16,7 @@ use crate::note::{AbstractValue, BELOW, level_between};
 use crate::rows::{LevelRow, StoredNote, with_variable};
 use trlab_code::{Instr, Register, VARIABLES, Variable};
 
-/// The range of the sum of two numbers. Only its smallest number may be too large for a register, because it is above the
-/// largest in an empty range, which means that control never comes here.
+/// The range of the sum of two numbers.
 fn sum(p: AbstractValue, q: AbstractValue) -> AbstractValue
     requires { high p + high q ≤ MAX_NUMBER }
     ensures { result ≡ Between (min (low p + low q) MAX_NUMBER) (high p + high q) }
@@ -25,7 +24,7 @@ fn sum(p: AbstractValue, q: AbstractValue) -> AbstractValue
     AbstractValue::Between(p.low().saturating_add(q.low()), p.high() + q.high())
 }
 
-/// The range of the difference of two numbers that is known to be at least `least`.
+/// The range of the difference of two numbers, which is at least `least`.
 fn difference(p: AbstractValue, q: AbstractValue, least: u32) -> AbstractValue
     ensures { result ≡ Between (max (low p - high q) least) (high p - low q) }
 {
@@ -35,7 +34,7 @@ fn difference(p: AbstractValue, q: AbstractValue, least: u32) -> AbstractValue
     )
 }
 
-/// The range of a number times n. As in a sum, only its smallest number may be too large.
+/// The range of a number times n.
 fn product(p: AbstractValue, n: u32) -> AbstractValue
     requires { high p * n ≤ MAX_NUMBER }
     ensures { result ≡ Between (min (low p * n) MAX_NUMBER) (high p * n) }
@@ -65,7 +64,7 @@ fn greater(p: AbstractValue, q: AbstractValue) -> AbstractValue
     AbstractValue::Between(p.low().max(q.low()), p.high().max(q.high()))
 }
 
-/// The smallest difference of two numbers if the second has this level to the first: 1 if it is known to be smaller.
+/// The smallest difference if the second number has this level to the first.
 fn least_difference(level: u8) -> u32
     ensures { result ≡ least_difference level }
 {

@@ -1,5 +1,5 @@
-//! A row has the levels of one variable to all variables, as bits. A note is stored with the rows of all variables, and
-//! also with the columns, so that the levels of all variables to one are at hand.
+//! A row has the levels of one variable to all variables, as bits. The rows of all variables are their order; a note
+//! is stored with them.
 
 ghost use Rattle.std.specs.Prelude.{◌≡◌, ◌↔◌, ℕ, ◌*◌, ◌<◌, ◌≤◌, IsTrue, min, max, nat_eq, if◌then◌else◌, slice_index};
 ghost use Rattle.std.specs.Int.{bit_at};
@@ -18,7 +18,7 @@ pub struct LevelRow {
     below: u16,
 }
 
-/// The bits after the bit of a variable is set or cleared.
+/// Sets or clears one bit.
 fn with_bit(bits: u16, variable: usize, is_on: bool) -> u16
     requires { variable < 16 }
     ensures { (y : ℕ) → y < 16 →
@@ -92,7 +92,7 @@ impl LevelRow {
         }
     }
 
-    /// The row in which each level `AT_MOST` is raised to `BELOW`.
+    /// Raises each level `AT_MOST` to `BELOW`.
     fn strict(self) -> LevelRow
         ensures { (y : ℕ) → level_in result y ≡ 2 * min (level_in self y) 1 }
     {
@@ -119,16 +119,14 @@ impl LevelRow {
         }
     }
 
-    /// The levels after a number of at least `low` is added to the larger side or subtracted from the smaller one. If
-    /// the number is above 0, a variable that was at most another is now below it.
+    /// The levels after a number of at least `low` is added to the larger side or subtracted from the smaller one.
     pub fn sharpen(self, low: u32) -> LevelRow
         ensures { (y : ℕ) → level_in result y ≡ sharpen (level_in self y) low }
     {
         if low == 0 { self } else { self.strict() }
     }
 
-    /// The levels of a sum, if one summand has this row and the other is at most `high`. If the one is below a variable
-    /// and the other is 0 or 1, the sum is at most this variable.
+    /// The levels of a sum, if one summand has this row and the other is at most `high`.
     pub fn slacken(self, high: u32) -> LevelRow
         ensures { (y : ℕ) → level_in result y ≡ slacken (level_in self y) high }
     {
@@ -187,25 +185,24 @@ pub fn with_variable(
     changed
 }
 
-/// The rows refined by a known level of p to q: `to_p` has the levels of all variables to p, and `from_q` the levels of
+/// The rows refined by a known level of p to q: `first` has the levels of all variables to p, and `last` the levels of
 /// q to all variables.
 pub fn refine_rows(
     rows: &[LevelRow; VARIABLES],
-    to_p: LevelRow,
+    first: LevelRow,
     level: u8,
-    from_q: LevelRow,
+    last: LevelRow,
 ) -> [LevelRow; VARIABLES]
     requires level_from { AT_MOST ≤ level }
     requires level_to { level ≤ BELOW }
     ensures { (x y : ℕ) → x < VARIABLES → y < VARIABLES → level_of result x y ≡
         (if nat_eq y x then level_of rows.now x x
-        else max (level_of rows.now x y) (chain (level_in to_p x) level (level_in from_q y))) }
+        else max (level_of rows.now x y) (chain (level_in first x) level (level_in last y))) }
 {
     let mut refined = *rows;
     for x in 0..VARIABLES {
         let row = rows[x];
-        let more = row.max_levels(from_q.chain(to_p.level(x), level));
-        // even if the comparison can never hold, no variable becomes smaller than itself
+        let more = row.max_levels(last.chain(first.level(x), level));
         refined[x] = more.with(x, row.level(x));
     }
     refined

@@ -10,8 +10,7 @@ use crate::note::AbstractValue;
 use crate::rows::{StoredNote, join_rows};
 use trlab_code::VARIABLES;
 
-/// Whether the abstract value `s` is no more precise than `t`: for example, a range that begins no later
-/// than the range `t` and ends no earlier.
+/// Whether the abstract value `s` is no more precise than `t`.
 fn is_no_more_precise(s: AbstractValue, t: AbstractValue) -> bool
     ensures { IsTrue result ↔ IsNoMorePrecise s t }
 {
@@ -19,12 +18,12 @@ fn is_no_more_precise(s: AbstractValue, t: AbstractValue) -> bool
         (AbstractValue::Unknown, _) => true,
         (AbstractValue::Between(low, high), AbstractValue::Between(least, most)) => low <= least
             && most <= high,
-        (AbstractValue::Implies(implied), AbstractValue::Implies(other)) => !implied || other,
+        (AbstractValue::Implies(imp), AbstractValue::Implies(other)) => !imp || other,
         _ => false,
     }
 }
 
-/// Whether `m` knows no more than `n` about the value of each variable.
+/// Whether no abstract value of `m` is more precise than in `n`.
 fn has_weaker_variables(m: &StoredNote, n: &StoredNote) -> bool
     ensures { IsTrue result ↔ ((x : ℕ) → x < VARIABLES → IsNoMorePrecise
         (with_side m.now.side (slice_index_or m.now.values x Unknown))
@@ -38,7 +37,7 @@ fn has_weaker_variables(m: &StoredNote, n: &StoredNote) -> bool
     true
 }
 
-/// Whether `m` knows no more than `n` about the order of any two variables: no level of `m` is above that of `n`.
+/// Whether no level of `m` is above the corresponding level of `n`.
 fn has_smaller_levels(m: &StoredNote, n: &StoredNote) -> bool
     ensures { IsTrue result ↔ ((x y : ℕ) → x < VARIABLES → y < VARIABLES →
         level_of m.now.rows x y ≤ level_of n.now.rows x y) }
@@ -58,8 +57,7 @@ pub fn is_no_stronger(m: &StoredNote, n: &StoredNote) -> bool
     has_weaker_variables(m, n) && has_smaller_levels(m, n) && (!m.side || n.side)
 }
 
-/// The common knowledge of two abstract values. For two ranges it is the range from the smaller of their first numbers
-/// to the larger of their last; for two flags it is a flag that implies an empty side cell if both do.
+/// The common knowledge of two abstract values: for example, the smallest range that contains two ranges.
 fn join_values(a: AbstractValue, b: AbstractValue) -> AbstractValue
     ensures { result ≡ join_values a b }
 {
@@ -72,7 +70,7 @@ fn join_values(a: AbstractValue, b: AbstractValue) -> AbstractValue
     }
 }
 
-/// For each variable, the common knowledge of two notes about its value.
+/// The common knowledge of two notes about the value of each variable.
 fn join_variables(a: &StoredNote, b: &StoredNote) -> [AbstractValue; VARIABLES]
     ensures { (x : ℕ) → x < VARIABLES → slice_index_or result x Unknown ≡ join_values
         (with_side a.now.side (slice_index_or a.now.values x Unknown))
@@ -97,7 +95,7 @@ pub fn join(a: &StoredNote, b: &StoredNote) -> StoredNote
     }
 }
 
-/// The join of a note with itself. Only flags change: if the side cell is known to be empty, each flag implies that it is.
+/// The join of a note with itself: if the side cell is known to be empty, each flag implies that it is.
 pub fn join_itself(note: &StoredNote) -> StoredNote
     ensures { note_of result ≡ join (note_of note.now) (note_of note.now) }
 {

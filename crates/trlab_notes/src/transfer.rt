@@ -19,11 +19,11 @@ impl StoredNote {
         requires level_to { level ≤ BELOW }
         ensures { note_of result ≡ closure (refine_order (note_of self.now) p q level) }
     {
-        let (to_p, from_q) = (self.columns[p.number()], self.rows[q.number()]);
+        let (first, last) = (self.columns[p.number()], self.rows[q.number()]);
         StoredNote {
             values: self.values,
-            rows: refine_rows(&self.rows, to_p, level, from_q),
-            columns: refine_rows(&self.columns, from_q, level, to_p),
+            rows: refine_rows(&self.rows, first, level, last),
+            columns: refine_rows(&self.columns, last, level, first),
             side: self.side,
         }
     }

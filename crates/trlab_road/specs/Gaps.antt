@@ -46,7 +46,7 @@ speed_in (Some car) = car.1
 abbrev pub headspeed : Lane → ℕ → ℕ
 headspeed lane x = speed_in (at lane (next_place lane x))
 
--- is the side cell of a car at place x empty? It is the cell at the same place of lane `other`
+-- is the side cell empty, the cell of lane `other` at the same place x?
 abbrev pub side : Lane → ℕ → Bool
 side other x = is_none (at other x)
 

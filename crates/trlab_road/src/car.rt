@@ -21,7 +21,7 @@ pub struct Car {
 #[derive(Clone, Copy)]
 pub struct LaneCar {
     number: u32,
-    /// The speed in the lowest six bits, which hold numbers up to 63, and the place in the 26 bits above.
+    /// The speed in the lowest six bits, the place in those above.
     place_and_speed: u32,
 }
 
@@ -63,8 +63,8 @@ impl LaneCar {
         }
     }
 
-    /// A number that is 0 exactly if the two cars are equal: the larger of the differences of their two words. It is
-    /// computed without branches, so that the compiler can compare many cars at once.
+    /// A number that is 0 exactly if the two cars are equal. It is computed without branches, so that the
+    /// compiler can compare many cars at once.
     #[inline(always)]
     pub fn difference(self, other: LaneCar) -> u32
         ensures { (result ≡ 0) ↔ (self ≡ other) }

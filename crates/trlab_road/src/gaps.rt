@@ -1,7 +1,7 @@
 //! Gaps ahead and behind on a lane, the speed of the next car, and the surroundings of a car on the other lane.
 //!
-//! A lane's list is sorted by place, and on the ring the first car is ahead of the last. To find a place on the other
-//! lane, the search begins at the result for the previous car, which is usually near, and otherwise is binary.
+//! A lane's list is sorted by place, and on the ring the first car is ahead of the last. A place on the other lane is
+//! found by binary search, or by searching from the previous car's result.
 
 ghost use Rattle.std.specs.Prelude.{◌≡◌, ◌<◌, ◌≤◌, ℕ, length, IfSome, if◌then◌else◌, nat_lt};
 ghost use Rattle.trlab_bounds.specs.declared.roads.TheConstants.{MAX_LENGTH};
@@ -82,7 +82,7 @@ fn gap_behind(cars: &[LaneCar], cells: usize, place: usize, next: usize) -> usiz
     }
 }
 
-/// The index of the first car at a place or past it.
+/// The index of the first car from a place on.
 fn first_from(cars: &[LaneCar], place: u32) -> usize
     requires sorted { IsRising cars.now }
     ensures { IsFirstFrom cars.now place result }
@@ -103,15 +103,15 @@ pub struct SideGaps {
     pub ahead: u32,
     /// The number of empty cells behind the side cell, 0 if the side cell is taken.
     pub behind: u32,
-    /// The number of cars of the other lane before the side cell: the index of the first car at the side cell or past it.
+    /// The number of cars of the other lane before the side cell.
     pub next: usize,
 }
 
-/// The number of cars that are compared with a place together, before the search continues car by car.
+/// The number of cars that are checked together before the search continues car by car.
 const SEARCHED_TOGETHER: usize = 4;
 
-/// Passes those of the four cars from index `near` on that are before a place, and returns the index of the next car.
-/// Returns `near` itself if fewer than four cars are left. The index is a sum, so that no branch depends on the places.
+/// Returns the index after those of the four cars from index `near` on that are before a place, and `near` itself if
+/// fewer than four cars are left. The index is computed as a sum, so that no branch depends on the places.
 #[inline(always)]
 fn pass_four(cars: &[LaneCar], place: u32, near: usize) -> usize
     requires in_range { near ≤ length cars.now }
@@ -129,8 +129,8 @@ fn pass_four(cars: &[LaneCar], place: u32, near: usize) -> usize
     next
 }
 
-/// The index of the first car at a place or past it. If the car before index `near` is before the place, the search
-/// goes forward from `near`; otherwise it is a binary search.
+/// The index of the first car from a place on. If the car before index `near` is before the place, the search goes
+/// forward from `near`; else it is a binary search.
 fn first_near(cars: &[LaneCar], place: u32, near: usize) -> usize
     requires sorted { IsRising cars.now }
     ensures { IsFirstFrom cars.now place result }
@@ -147,9 +147,8 @@ fn first_near(cars: &[LaneCar], place: u32, near: usize) -> usize
     cars.len()
 }
 
-/// The index of the first car at a place or past it, if the car before index `near` is before the place and the search
-/// ends within the five cars from `near` on: the four that `pass_four` compares, and the next one. Near the end of the
-/// list, where fewer are left, the result may be `None` although there is such a car.
+/// The index of the first car from a place on, if the car before index `near` is before the place and the first car is
+/// among the five from `near` on. Near the end of the list the result may be `None` even so.
 #[inline(always)]
 fn first_of_five(cars: &[LaneCar], place: u32, near: usize) -> Option<usize>
     requires sorted { IsRising cars.now }
@@ -168,7 +167,7 @@ fn first_of_five(cars: &[LaneCar], place: u32, near: usize) -> Option<usize>
     }
 }
 
-/// The number if the test holds, otherwise 0.
+/// A number if a test holds, else 0.
 #[inline(always)]
 fn only_if(test: bool, number: u32) -> u32
     ensures { result ≡ (if test then number else 0) }
@@ -176,9 +175,8 @@ fn only_if(test: bool, number: u32) -> u32
     if test { number } else { 0 }
 }
 
-/// The surroundings of a place between the cars `next` - 1 and `next` of the list, or at the car `next`. They are
-/// computed as differences, so that no branch depends on whether the side cell is taken. Only the proof reads the
-/// number of cells.
+/// The surroundings of a place between two cars of the list, or at the second of them. They are computed as
+/// differences, so that no branch depends on whether the side cell is taken. Only the proof reads the number of cells.
 #[inline(always)]
 fn look_between(cars: &[LaneCar], cells: usize, place: u32, next: usize) -> SideGaps
     requires inside { place < cells }
@@ -199,8 +197,8 @@ fn look_between(cars: &[LaneCar], cells: usize, place: u32, next: usize) -> Side
     }
 }
 
-/// The surroundings of any place, even before the first car or past the last. `next` is the index of the first car at
-/// the place or past it.
+/// The surroundings of any place, even before the first car or past the last. `next` is the index of the first car from
+/// the place on.
 fn look_anywhere(cars: &[LaneCar], cells: usize, place: u32, next: usize) -> SideGaps
     requires at_most_max_length { cells ≤ MAX_LENGTH }
     requires inside { place < cells }
@@ -225,8 +223,8 @@ fn look_anywhere(cars: &[LaneCar], cells: usize, place: u32, next: usize) -> Sid
     }
 }
 
-/// The surroundings of a place. The index `near` affects only the running time: if the first car at the place or past it
-/// is among the five from this index on, usually no other car is compared.
+/// The surroundings of a place. The index `near` affects only the running time: if the car at this index is near the
+/// place, usually only five cars are checked.
 #[inline(always)]
 pub fn look_beside(cars: &[LaneCar], cells: usize, place: u32, near: usize) -> SideGaps
     requires at_most_max_length { cells ≤ MAX_LENGTH }

@@ -13,14 +13,14 @@ use crate::lanes::{empty_lanes, list_of};
 use std::alloc::{AllocError, Global};
 use std::mem;
 
-/// The cars of a lane before the lane change, and the index of the first car's answer in the list of all answers.
+/// The cars of a lane before the lane change, and the index of the first car's answer.
 #[derive(Clone, Copy)]
 struct AnsweredLane<'a> {
     cars: &'a [LaneCar],
     from: usize,
 }
 
-/// The place of the k-th car of a list, or the number of cells, which is past every place, if there is no k-th car.
+/// The place of the k-th car of a list, or the number of cells if there is no k-th car.
 fn place_or_end(cars: &[LaneCar], k: usize, cells: u32) -> u32
     ensures here { k < length cars.now → result ≡ place_of cars.now k }
     ensures past { length cars.now ≤ k → result ≡ cells }
@@ -31,7 +31,7 @@ fn place_or_end(cars: &[LaneCar], k: usize, cells: u32) -> u32
     }
 }
 
-/// Fills the list `leaving` with the cars that cross from a lane to the other. Only the proof reads the number of cells.
+/// Fills a list with the cars that cross from a lane. Only the proof reads the number of cells.
 fn leaving_cars(
     leaving: &mut Vec<LaneCar>,
     cells: u32,
@@ -55,8 +55,7 @@ fn leaving_cars(
     Ok(())
 }
 
-/// The index after the cars from index `begin` on that stay and are before the place `due`, where the next car comes
-/// from the other lane. They are copied together.
+/// The index after a sequence of cars that stay and are before the place `due`; the first has the index `begin`.
 fn run_end(lane: AnsweredLane, crosses: &[bool], begin: usize, due: u32) -> usize
     requires each { lane.from + length lane.cars.now ≤ length crosses.now }
     requires begin { begin < length lane.cars.now }
@@ -74,8 +73,8 @@ fn run_end(lane: AnsweredLane, crosses: &[bool], begin: usize, due: u32) -> usiz
     end
 }
 
-/// Fills the list `next` with the cars of a lane after the lane change: those of `own` that stay, and those of `coming`,
-/// which come from the other lane.
+/// Fills a list with the cars of a lane after the lane change: those that stay, and those that come from the other
+/// lane.
 fn change_lane(
     next: &mut Vec<LaneCar>,
     cells: u32,
@@ -95,8 +94,6 @@ fn change_lane(
 {
     next.clear();
     next.reserve(own.cars.len())?;
-    // the next car of the lane itself has the index i and the place `own_next`, and the next car that comes from the
-    // other lane has the index j and the place `due`
     let mut i = 0;
     let mut j = 0;
     let mut own_next = place_or_end(own.cars, i, cells);
@@ -112,7 +109,7 @@ fn change_lane(
             }
             own_next = place_or_end(own.cars, i, cells);
         } else {
-            // a car that comes takes the cell if it is empty or its own car leaves; a car that stays keeps its cell
+            // a car that comes takes the cell if it is empty or its car leaves; a car that stays keeps its cell
             let own_here = own_next == due;
             let car = if own_here && !crosses[own.from + i] {
                 car_at(own.cars, i)
@@ -129,7 +126,7 @@ fn change_lane(
     Ok(())
 }
 
-/// The two lanes after the lane change. Their lists reuse the memory of the room, if it has two lists.
+/// The two lanes after the lane change. They use the lists of the room, if it has two.
 pub fn change_lanes(
     alloc: Global,
     room: &mut Room,

@@ -7,7 +7,7 @@ ghost use Rattle.trlab_road.specs.Stored.{IsFoundAt, list_at, lists_of, no_car, 
 use crate::car::{Car, LaneCar};
 use std::alloc::{AllocError, Global};
 
-/// Finds the k-th car in standing order: its lane, and its index in the lane's list.
+/// The lane of the k-th car in standing order, and its index in the lane's list.
 pub fn find(lanes: &[Vec<LaneCar>], k: u32) -> (u32, usize)
     requires at_most_max_lanes { length lanes.now ≤ MAX_LANES }
     requires below { k < sum_by length (lists_of lanes.now) }
@@ -83,8 +83,7 @@ pub fn copy_lanes(alloc: Global, lanes: &[Vec<LaneCar>]) -> Result<Vec<Vec<LaneC
     Ok(copies)
 }
 
-/// Whether two lists have the same cars in the same order. The loop has no early exit, so that the compiler can compare
-/// many cars at once.
+/// Whether two lists have the same cars in the same order.
 fn are_same_cars(cars: &[LaneCar], others: &[LaneCar]) -> bool
     ensures { IsTrue result ↔ (cars.now ≡ others.now) }
 {

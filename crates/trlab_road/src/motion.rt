@@ -9,8 +9,7 @@ ghost use Rattle.trlab_road.specs.Stored.{no_car, place_of, SpeedsFitGaps, Speed
 
 use crate::car::LaneCar;
 
-/// The number of cars that are moved together: enough for the compiler to keep the loop over them and use vector
-/// instructions.
+/// The number of cars of a block: enough for the compiler to keep the loop and use vector instructions.
 const MOVED_TOGETHER: usize = 32;
 
 /// `MOVED_TOGETHER` cars of a list, from the index `at` on, after they have moved. Their speeds begin at the index

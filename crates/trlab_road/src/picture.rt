@@ -15,7 +15,7 @@ use trlab_bounds::roads::{MAX_LANES, MAX_LENGTH, MAX_LIMIT};
 /// The character of an empty cell.
 const DOT: u8 = b'.';
 
-/// The characters of the speeds from 0 to 35, the maximum.
+/// The characters of the speeds from 0 to the maximum.
 const CHARACTERS: [u8; 36] = *b"0123456789abcdefghijklmnopqrstuvwxyz";
 
 /// The character of a speed: its digit, and from 10 on a letter.
@@ -40,13 +40,13 @@ fn speed_shown(character: u8) -> Option<u32>
     }
 }
 
-/// Whether a character shows a speed of at most `max_speed`.
-fn shows_speed(max_speed: u32, character: u8) -> bool
-    requires { max_speed ≤ MAX_LIMIT }
-    ensures { IsTrue result ↔ ShowsSpeed max_speed character }
+/// Whether a character shows a speed of at most `most`.
+fn shows_speed(most: u32, character: u8) -> bool
+    requires { most ≤ MAX_LIMIT }
+    ensures { IsTrue result ↔ ShowsSpeed most character }
 {
     match speed_shown(character) {
-        Some(speed) => speed <= max_speed,
+        Some(speed) => speed <= most,
         None => false,
     }
 }
@@ -59,19 +59,19 @@ fn shows_cell(limit: u32, character: u8) -> bool
     character == DOT || shows_speed(limit, character)
 }
 
-/// Appends the picture of a lane to bytes: a dot for an empty cell, the character of the speed for a car. If allocation
-/// fails, the bytes are unchanged.
-pub fn push_picture(bytes: &mut Vec<u8>, cars: &[LaneCar], cells: u32) -> Result<(), AllocError>
+/// Appends the picture of a lane: a dot for an empty cell, the character of the speed for a car. If allocation fails,
+/// the bytes are unchanged.
+pub fn push_picture(out: &mut Vec<u8>, cars: &[LaneCar], cells: u32) -> Result<(), AllocError>
     requires sorted { IsSortedFrom 0 cells cars.now }
     requires at_most_max_limit { (k : ℕ) → k < length cars.now
         → (slice_index_or cars.now k no_car).speed ≤ MAX_LIMIT }
-    ensures added { OnOk result (bytes.new.items ≡ bytes.old.items ++ picture (cells_of cells cars.now)) }
-    ensures unchanged { OnErr result (bytes.new.items ≡ bytes.old.items) }
+    ensures added { OnOk result (out.new.items ≡ out.old.items ++ picture (cells_of cells cars.now)) }
+    ensures unchanged { OnErr result (out.new.items ≡ out.old.items) }
 {
-    let start = bytes.len();
-    bytes.resize(start + cells as usize, DOT)?;
+    let start = out.len();
+    out.resize(start + cells as usize, DOT)?;
     for k in 0..cars.len() {
-        bytes[start + place_at(cars, k) as usize] = speed_character(speed_at(cars, k));
+        out[start + place_at(cars, k) as usize] = speed_character(speed_at(cars, k));
     }
     Ok(())
 }

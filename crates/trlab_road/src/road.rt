@@ -147,7 +147,7 @@ impl Road {
         })
     }
 
-    /// A snapshot of this road, which only contracts can read. It takes no memory.
+    /// This road for contracts. The snapshot takes no memory.
     pub fn snapshot(&self) -> Snapshot<Road>
         ensures value { result.value ≡ self.now }
         ensures legal { IsLegal self.now }
@@ -185,12 +185,12 @@ impl Road {
     /// # Errors
     ///
     /// If allocation fails; then the bytes are unchanged.
-    pub fn push_picture(&self, bytes: &mut Vec<u8>, lane: u32) -> Result<(), AllocError>
+    pub fn push_picture(&self, out: &mut Vec<u8>, lane: u32) -> Result<(), AllocError>
         requires { lane < length self.now.lanes }
-        ensures added { OnOk result (bytes.new.items ≡ bytes.old.items ++ picture (lane_of self.now lane)) }
-        ensures unchanged { OnErr result (bytes.new.items ≡ bytes.old.items) }
+        ensures added { OnOk result (out.new.items ≡ out.old.items ++ picture (lane_of self.now lane)) }
+        ensures unchanged { OnErr result (out.new.items ≡ out.old.items) }
     {
-        push_picture(bytes, list_of(&self.lanes, lane), self.cells)
+        push_picture(out, list_of(&self.lanes, lane), self.cells)
     }
 
     /// Gives this road's memory to the room, for a later lane change.
@@ -320,8 +320,8 @@ impl Road {
 
     /// The surroundings of the k-th car in standing order on the other lane: its `side`, `sidegap` and `sideback`.
     ///
-    /// The result does not depend on `near`, but the time does: if you go car by car along a lane, pass the `next` of
-    /// the previous result as `near`, so that the search continues from there. With 0 it is a binary search.
+    /// If you go car by car along a lane and pass the `next` of the previous result as `near`, the search
+    /// continues from there; with any other `near`, such as 0, it is a binary search.
     pub fn beside(&self, k: u32, near: usize) -> SideGaps
         requires below { k < cars self.now }
         requires two { length self.now.lanes ≡ 2 }

@@ -15,9 +15,9 @@ abbrev pub slow_down : List Instr
 slow_down = Get R2 Gap ∷ Min R0 R0 R2 ∷ []
 
 -- randomization: if the flag in R3 is true, the speed in R0 is lowered by the 1 in R1, but not below 0;
--- otherwise it jumps to the index `go_index`
+-- otherwise a jump to the index `go`
 abbrev pub randomize : ℕ → List Instr
-randomize go_index = JumpFalse R3 go_index ∷ Min R1 R1 R0 ∷ Sub R0 R0 R1 ∷ []
+randomize go = JumpFalse R3 go ∷ Min R1 R1 R0 ∷ Sub R0 R0 R1 ∷ []
 
 -- slow starts: the flag in R3 is true with probability p0 / 2 ^ 31 if the speed in R0 is 0 (below the 1 in
 -- R1), and otherwise with p / 2 ^ 31; these are instructions 2 to 5 of the program
@@ -42,17 +42,15 @@ vdr_program p p0 = record {
       Get R0 Speed ∷ Num R1 1 ∷ draw_by_speed p p0 ++ accelerate ++ slow_down ++ randomize 14 ++ Go R0 ∷ [];
 }
 
--- writes speed + 1 to R1, and jumps to the index `stay_index` if the gap is at least speed + 1
+-- puts speed + 1 into R1, and jumps to the index `stay` if the gap is at least speed + 1
 abbrev pub stay_unless_hindered : ℕ → List Instr
-stay_unless_hindered stay_index =
-    Get R1 Speed ∷ Num R2 1 ∷ Add R1 R1 R2 ∷ Get R2 Gap ∷ JumpAtMost R1 R2 stay_index ∷ []
+stay_unless_hindered stay =
+    Get R1 Speed ∷ Num R2 1 ∷ Add R1 R1 R2 ∷ Get R2 Gap ∷ JumpAtMost R1 R2 stay ∷ []
 
--- jumps to the index `stay_index` if the sidegap is at most the speed + 1 in R1, or the sideback at most the
--- limit
+-- jumps to the index `stay` if the sidegap is at most the speed + 1 in R1, or the sideback at most the limit
 abbrev pub stay_unless_free : ℕ → List Instr
-stay_unless_free stay_index =
-    Get R2 SideGap ∷ JumpAtMost R2 R1 stay_index
-    ∷ Get R2 SideBack ∷ Get R3 Limit ∷ JumpAtMost R2 R3 stay_index ∷ []
+stay_unless_free stay =
+    Get R2 SideGap ∷ JumpAtMost R2 R1 stay ∷ Get R2 SideBack ∷ Get R3 Limit ∷ JumpAtMost R2 R3 stay ∷ []
 
 -- the change program of Rickert et al. (1996), with distances of this project's own: a car that wants to
 -- change lanes and may do so changes with probability c / 2 ^ 31; instruction 15 is `Stay`

@@ -32,7 +32,7 @@ pub fn nasch_instrs(alloc: Global, p: Chance) -> Result<Vec<Instr>, AllocError>
         Get(R2, Gap),
         Min(R0, R0, R2),
         Draw(R3, 0, p.get()),
-        JumpFalse(R3, 11), // to `Go`: the car does not brake
+        JumpFalse(R3, 11),
         Min(R1, R1, R0),
         Sub(R0, R0, R1),
         Go(R0),
@@ -52,8 +52,8 @@ pub fn vdr_instrs(alloc: Global, p: Chance, p0: Chance) -> Result<Vec<Instr>, Al
     let instrs = vec![in alloc;
         Get(R0, Speed),
         Num(R1, 1),
-        JumpAtMost(R1, R0, 5), // to the draw of a moving car
-        Draw(R3, 0, p0.get()), // the car is stopped
+        JumpAtMost(R1, R0, 5),
+        Draw(R3, 0, p0.get()),
         Jump(6),
         Draw(R3, 0, p.get()),
         Add(R0, R0, R1), // from here on as in `nasch`
@@ -61,7 +61,7 @@ pub fn vdr_instrs(alloc: Global, p: Chance, p0: Chance) -> Result<Vec<Instr>, Al
         Min(R0, R0, R2),
         Get(R2, Gap),
         Min(R0, R0, R2),
-        JumpFalse(R3, 14), // to `Go`: the car does not brake
+        JumpFalse(R3, 14),
         Min(R1, R1, R0),
         Sub(R0, R0, R1),
         Go(R0),
@@ -80,19 +80,19 @@ pub fn rickert_instrs(alloc: Global, c: Chance) -> Result<Vec<Instr>, AllocError
 {
     let instrs = vec![in alloc;
         Side(R0),
-        JumpFalse(R0, 15), // 15 is `Stay`: the side cell is not empty
+        JumpFalse(R0, 15),
         Get(R1, Speed),
         Num(R2, 1),
         Add(R1, R1, R2),
         Get(R2, Gap),
-        JumpAtMost(R1, R2, 15), // the gap does not hinder the car
+        JumpAtMost(R1, R2, 15),
         Get(R2, SideGap),
-        JumpAtMost(R2, R1, 15), // the gap ahead on the other lane is too small
+        JumpAtMost(R2, R1, 15),
         Get(R2, SideBack),
         Get(R3, Limit),
-        JumpAtMost(R2, R3, 15), // the gap behind there is too small
+        JumpAtMost(R2, R3, 15),
         Draw(R3, 1, c.get()),
-        JumpFalse(R3, 15), // by chance the car stays
+        JumpFalse(R3, 15),
         Cross,
         Stay,
     ]?;

@@ -39,7 +39,7 @@ impl From<AllocError> for StandardFault {
 /// The model of Nagel and Schreckenberg (1992), on one lane or on lanes that no car leaves.
 ///
 /// A car accelerates by one cell per step up to the limit, slows down to its gap, and then, with probability
-/// `p` on its random word 0, brakes by one.
+/// `p` on its word 0, brakes by one.
 ///
 /// # Errors
 ///
@@ -73,7 +73,7 @@ pub fn vdr(alloc: Global, p: Chance, p0: Chance) -> Result<Rule, StandardFault>
 ///
 /// A car crosses exactly if its side cell is empty, its gap is below its speed plus one, the gap ahead on the other
 /// lane is above its speed plus one, the gap behind there is above the limit, and an event of probability `c` happens
-/// on its random word 1. Then all cars move as with `nasch` and probability `p`.
+/// on its word 1. Then all cars move as with `nasch` and probability `p`.
 ///
 /// # Errors
 ///
@@ -88,8 +88,7 @@ pub fn rickert(alloc: Global, p: Chance, c: Chance) -> Result<Rule, StandardFaul
     Ok(Rule::new(motion, Some(change)))
 }
 
-/// Builds the program of the kind `K` with these instructions, which must be valid and accepted by the verifier; so only
-/// an allocation can fail.
+/// Builds the program of the kind `K` with these instructions, which the verifier accepts.
 ///
 /// # Errors
 ///

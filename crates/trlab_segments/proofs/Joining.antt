@@ -21,7 +21,7 @@ module _ {A : Type 0} (Fits : Part A → Type 0) (t : Tickets) where
     ended = joins.ended ∙ ap (λ x. x || is_ended e) first.ended;
   }
 
-  -- if two workers succeeded, their parts together are those of the joined drawer
+  -- the same for results of workers, if both succeeded
   pub told_parts : {B E : Type 0} (d e f : Drawer) (some more all : Result (Vec (Part A) B) E)
       → IfOk some (λ parts. HasParts Fits d parts.items) → IfOk more (λ parts. HasParts Fits e parts.items)
       → IfOk all (λ v. IsOkAnd some (λ a. IsOkAnd more (λ b. v.items ≡ a.items ++ b.items)))

@@ -209,7 +209,7 @@ not_whole xs counter count less some_of_them whole =
 pub whole_has : (xs : List ℕ) (n k : ℕ) → IsPermutation xs n → k < n → 0 < occurrences k xs
 whole_has xs n k whole less = let w = whole k in let o = once_at k n less in omega arith
 
--- the counter is at most the number of tickets plus MAX_WORKERS
+-- the counter is bounded
 pub bounded : (plan : Plan) (s : State ℕ TicketKnowledge) → SatisfiesTicketInvariant plan s → slice_index s.words 0 ≤ plan.count + MAX_WORKERS
 bounded plan s r = let a = r.known.counter_is in let b = total_le passes_at_end (λ u. u.passes) ended_le s.views in let c = r.known.passes in let e = r.drawers in omega arith
 

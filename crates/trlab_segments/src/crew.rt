@@ -177,15 +177,13 @@ impl<
     }
 }
 
-/// Asks all cars with one worker per pass of the drawer. Returns the drawer with its passes and all drawn tickets, and
-/// the answers of all workers, one part per segment.
-///
-/// It starts a thread for one worker, which gets one pass, and calls itself with the other passes. With the last pass
-/// it is worker 0 on the calling thread. If a thread cannot be started, the calling thread does its work too.
+/// Asks the cars with one worker per pass of the drawer. Each worker has its own thread, except worker 0: it works on
+/// the calling thread once the others were started. If a thread cannot be started, the calling thread does its work
+/// too.
 ///
 /// # Errors
 ///
-/// If an allocation fails in any worker, there is an error instead of the answers; the drawer is returned all the same.
+/// The second part is an error if an allocation fails in any worker.
 fn share<A: Drop + Send, P: Asked<A> + Sync, R: Threads + Sync, G: Gate + Sync>(
     rt: &R,
     alloc: Global,
@@ -230,17 +228,16 @@ fn share<A: Drop + Send, P: Asked<A> + Sync, R: Threads + Sync, G: Gate + Sync>(
 }
 
 /// The next road as `step_road` returns it, computed by 1 to `MAX_WORKERS` workers. It is the same for every number of
-/// workers and every gate. The key, the road's `number` and the `step` determine the random numbers.
+/// workers and every gate.
 ///
 /// The cars are cut into segments, four per worker but none without a car. In each of the two phases a worker draws the
 /// number of the next segment, passes the gate and asks the segment's cars, until no segment is left. The calling
-/// thread is worker 0. It starts the threads of the other workers before it draws, and also does the work of each
-/// worker whose thread cannot be started.
+/// thread is worker 0, and draws once the others were started; it also does the work of any that cannot be started.
 ///
 /// # Errors
 ///
 /// Those of `step_road`: `LanesMismatch` if the rule has a change program and the road has one lane, and
-/// `Memory` if an allocation fails in any thread. By then all threads have ended.
+/// `Memory` if an allocation fails, in any thread. All threads have ended then.
 pub fn step_shared<R: Threads + Sync, G: Gate + Sync>(
     rt: &R,
     alloc: Global,

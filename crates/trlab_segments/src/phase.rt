@@ -15,7 +15,7 @@ use trlab_road::Road;
 use trlab_step::{compute_crossings, compute_speeds};
 use trlab_verify::{Change, Motion};
 
-/// A program, the road for whose cars it runs, and the dice of the step.
+/// A program, the road for whose cars it runs, and the dice.
 #[derive(Drop)]
 pub struct Phase<'a, P> {
     pub program: &'a P,
@@ -34,7 +34,7 @@ pub trait Asked<A>: Sized {
     // Whether a list has the program's answers for the cars from one index of the standing order up to another.
     ghost answers: { Self → TheDice → Cells → ℕ → ℕ → List A → Type 0 };
 
-    /// Replaces a list by the program's answers for the cars of a segment, in standing order.
+    /// Replaces a list by the answers to the cars of a segment, in standing order.
     ///
     /// # Errors
     ///

@@ -69,7 +69,7 @@ impl<'a, R: Threads + Wait + Sync, G: Gate + Sync> Pool<'a, R, G> {
     }
 
     /// Calls `drive`, which drives a run, while helpers wait for the run's phases. All helpers have ended when `run`
-    /// returns, so a second call has no helpers. If no thread can be started, the calling thread asks all cars.
+    /// returns, and a second call has no helpers. If no thread can be started, the run goes on without them.
     pub fn run<T, D: FnMut() -> T>(&self, alloc: Global, drive: &mut D) -> T
         requires { D.pre drive.old }
         ensures { D.step drive.old result drive.new }
@@ -97,9 +97,8 @@ impl<'a, R: Threads + Wait + Sync, G: Gate + Sync> Pool<'a, R, G> {
     }
 }
 
-/// The number of workers, of at most `workers`, that save time on a road with `cars` cars: at least one, but at most
-/// one per processor and one per `CARS_PER_WORKER` cars (`DRAWING_CARS_PER_WORKER` if a program `draws` random
-/// numbers).
+/// The number of workers, of at most `workers`, that save time on a road with `cars` cars: at least one, but at most one
+/// per processor and one per `CARS_PER_WORKER` cars (`DRAWING_CARS_PER_WORKER` if a program `draws` random numbers).
 pub fn workers_for<R: Threads>(rt: &R, workers: u32, cars: u32, draws: bool) -> u32
     requires { 0 < workers }
     ensures at_least_one { 0 < result }
@@ -107,9 +106,9 @@ pub fn workers_for<R: Threads>(rt: &R, workers: u32, cars: u32, draws: bool) -> 
     ensures used { let share = if draws then DRAWING_CARS_PER_WORKER else CARS_PER_WORKER in
         result ≤ max 1 (cars / share) }
 {
-    let max_workers = within_processors(rt, workers);
-    let busy_workers = (cars / cars_per_worker(draws)).max(1);
-    busy_workers.min(max_workers)
+    let most = within_processors(rt, workers);
+    let busy = (cars / cars_per_worker(draws)).max(1);
+    busy.min(most)
 }
 
 /// The number of cars that keep a worker busy, if a program `draws` random numbers or if none does.

@@ -12,8 +12,7 @@ pub struct Segment {
     pub to: u32,
 }
 
-/// The number of segments for `workers` workers: four per worker, so that no worker waits long for the last segment,
-/// but at most one per car, so that none is empty.
+/// The number of segments for `workers` workers: four per worker, but at most one per car.
 pub fn segment_count(cars: u32, workers: u32) -> u32
     requires { (0 < workers) × (workers ≤ MAX_WORKERS) }
     ensures { result ≡ segment_count cars workers }
@@ -55,8 +54,8 @@ pub const MOTION_PHASE: u32 = 1;
 /// A worker passes the gate before it asks the cars of a segment. A gate influences no answer; it may hold a worker up,
 /// so that a test can observe several workers at once.
 pub trait Gate {
-    /// Called before a worker (0 is the calling thread) begins a segment of a phase (`CHANGE_PHASE` or `MOTION_PHASE`)
-    /// of a step of road `number`; the worker begins when the call returns.
+    /// Lets a worker (0 is the calling thread) begin a segment of a phase (`CHANGE_PHASE` or `MOTION_PHASE`) of a step
+    /// of the road with this number.
     fn pass(&self, number: u32, worker: u32, phase: u32, segment: u32);
 }
 

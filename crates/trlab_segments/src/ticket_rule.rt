@@ -50,7 +50,7 @@ impl Play<u8, TicketKnowledge> for ReadCounter {
     ghost then = { ReadsCounter };
 }
 
-/// The step that moves one pass from a drawer to a new drawer.
+/// One pass moves from a drawer to a new drawer.
 pub struct OnePass;
 
 impl Split<TicketKnowledge> for OnePass {
@@ -61,7 +61,7 @@ impl Split<TicketKnowledge> for OnePass {
     ghost right = { one_pass };
 }
 
-/// The step that joins two drawers into one.
+/// Two drawers become one.
 pub struct JoinDrawers;
 
 impl Join<TicketKnowledge> for JoinDrawers {

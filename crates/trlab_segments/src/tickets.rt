@@ -48,11 +48,10 @@ impl Tickets {
     /// If the counter cannot be allocated.
     pub fn start(alloc: Global, count: u32, drawers: u32) -> Result<(Tickets, Drawer), AllocError>
         requires { (0 < drawers) × (drawers ≤ MAX_WORKERS) }
-        ensures from { IfOk result (λ started. IsDrawerOf started.0 started.1) }
-        ensures count { IfOk result (λ started. ticket_count started.0 ≡ count) }
-        ensures drawers { IfOk result (λ started.
-            (drawers_of started.0 ≡ drawers) × (passes_of started.1 ≡ drawers)) }
-        ensures fresh { IfOk result (λ started. IsUnused started.1) }
+        ensures from { IfOk result (λ r. IsDrawerOf r.0 r.1) }
+        ensures count { IfOk result (λ r. ticket_count r.0 ≡ count) }
+        ensures drawers { IfOk result (λ r. (drawers_of r.0 ≡ drawers) × (passes_of r.1 ≡ drawers)) }
+        ensures fresh { IfOk result (λ r. IsUnused r.1) }
     {
         let plan = Plan { count, drawers };
         let (table, seat) = Table::of_words(alloc, &[0], &plan)?;
@@ -71,7 +70,7 @@ impl Tickets {
         requires { IsDrawerOf self.now drawer.old }
         ensures from { IsDrawerOf self.now drawer.new }
         ensures passes { passes_of drawer.new ≡ passes_of drawer.old }
-        ensures some { IfSome result (λ ticket. HasDrawn self.now drawer.old ticket drawer.new) }
+        ensures some { IfSome result (λ i. HasDrawn self.now drawer.old i drawer.new) }
         ensures none { IfNone result (
             (tickets_of drawer.new ≡ tickets_of drawer.old) × (is_ended drawer.new ≡ true)) }
         ensures ended { is_ended drawer.old ≡ true → (result ≡ None) × (is_ended drawer.new ≡ true) }
@@ -151,11 +150,11 @@ impl Tickets {
     pub fn finish(self, drawer: Drawer) -> Result<(), (Tickets, Drawer)>
         requires { IsDrawerOf self drawer }
         ensures ok { IsOk result ↔ HasAllPasses self drawer × IsPermutation (tickets_of drawer) (ticket_count self) }
-        ensures err { IfErr result (λ returned. (returned.0 ≡ self) × IsSameDrawer returned.1 drawer) }
+        ensures err { IfErr result (λ r. (r.0 ≡ self) × IsSameDrawer r.1 drawer) }
         ensures ended { HasAllPasses self drawer → is_ended drawer ≡ true → IsOk result }
     {
         let mut drawer = drawer;
-        // A `fetch_add` of 0 only reads the counter, which the law of its step (`ReadCounter`) states.
+        // Reads the counter, by the step that is fixed for this call: a `fetch_add` of 0.
         let next = self
             .table
             .shared

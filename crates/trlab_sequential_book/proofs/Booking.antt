@@ -26,9 +26,9 @@ use Rattle.trlab_sequential_book.specs.Machine.{lease_outcome, next_after, on_fr
 -- a job with these fields
 abbrev pub job_state : Seed → Sheet → ℕ → ℕ → ℕ → Bool → Option ℕ → JobState
 job_state seed sheet steps high done cancelled out =
-    record { seed = seed; sheet = sheet; steps = steps; high = high; done = done; cancelled = cancelled; lease_out = out }
+    record { seed = seed; sheet = sheet; steps = steps; high = high; done = done; cancelled = cancelled; out = out }
 
--- if index i is in range, a lookup of job i finds it
+-- a job that exists
 pub found : (jobs : List JobState) (i : ℕ) (j : JobState) → i < length jobs → j ≡ slice_index_or jobs i j → slice_get jobs i ≡ Some j
 found jobs i j h e = slice_get-get_or jobs i j h ∙ sym (ap Some e)
 
@@ -119,10 +119,10 @@ lease_lent s now i j lease view h e job fresh =
     let P : Option JobState → Type 0 = λ o. MatchOption o ⊥ (λ k. IsFresh k s.next lease) in
     subst (λ (t : BookState). IsFreshIfLent t.jobs t.next (Some lease)) view (subst P (sym here) fresh)
 
--- a lease that a job accepts begins at the steps done, has run no step that was not ordered, and runs the job's road
+-- the parts of `accepts_lease`
 pub own_parts : (lease : Offered) (job : JobState) → accepts_lease lease job ≡ true → (lease.base ≡ job.done) × (lease.step ≤ job.high) × (lease.same ≡ true)
 own_parts lease job h =
-    let a = (and_parts (is_out lease.number job.lease_out) ((lease.base == job.done) && (not (ltb job.high lease.step) && lease.same)) h).1 in
+    let a = (and_parts (is_out lease.number job.out) ((lease.base == job.done) && (not (ltb job.high lease.step) && lease.same)) h).1 in
     let b = and_parts (lease.base == job.done) (not (ltb job.high lease.step) && lease.same) a in
     let d = and_parts (not (ltb job.high lease.step)) lease.same b.1 in
     (eqb-true lease.base job.done b.0, ltb-false job.high lease.step (not_true (ltb job.high lease.step) d.0), d.1)
@@ -179,18 +179,18 @@ runs_not job now lease road sum view run other own =
 
 -- a lease that is returned is refused if it is not the one that is out, and accepted if it is
 pub back_refused : (lease : Offered) (job : JobState) → accepts_lease lease job ≡ false → give_back_outcome lease job ≡ refusal StrangerLease job
-back_refused lease job other = ap (λ own. if own then record { reply = Done; job = record job { done = lease.step; lease_out = None } } else refusal StrangerLease job) other
+back_refused lease job other = ap (λ own. if own then record { reply = Done; job = record job { done = lease.step; out = None } } else refusal StrangerLease job) other
 
 pub back_taken : (lease : Offered) (job : JobState) → accepts_lease lease job ≡ true → Done ≡ (give_back_outcome lease job).reply
 back_taken lease job own =
-    sym (ap (λ own. (if own then record { reply = Done; job = record job { done = lease.step; lease_out = None } } else refusal StrangerLease job).reply) own)
+    sym (ap (λ own. (if own then record { reply = Done; job = record job { done = lease.step; out = None } } else refusal StrangerLease job).reply) own)
 
 pub back_made : (lease : Offered) (job now : JobState) (step : ℕ) → job ≡ now → accepts_lease lease now ≡ true → step ≡ lease.step
-    → record job { done = step; lease_out = None } ≡ (give_back_outcome lease now).job
+    → record job { done = step; out = None } ≡ (give_back_outcome lease now).job
 back_made lease job now step view own at =
-    ap (λ (n : ℕ). record job { done = n; lease_out = None }) at
-    ∙ ap (λ (s : JobState). record s { done = lease.step; lease_out = None }) view
-    ∙ sym (ap (λ own. (if own then record { reply = Done; job = record now { done = lease.step; lease_out = None } } else refusal StrangerLease now).job) own)
+    ap (λ (n : ℕ). record job { done = n; out = None }) at
+    ∙ ap (λ (s : JobState). record s { done = lease.step; out = None }) view
+    ∙ sym (ap (λ own. (if own then record { reply = Done; job = record now { done = lease.step; out = None } } else refusal StrangerLease now).job) own)
 
 -- the reply to a call, and the state after it, of a book that is full
 pub full_told : (s : BookState) (call : Call) → has_full_history s ≡ true → Refused HistoryFull ≡ reply_of s call
@@ -231,7 +231,7 @@ counted s now false call told jobs count view room next more made put =
     let by : ℕ → BookState = λ n. record { count = n; next = s.next; jobs = jobs } in
     ap by more ∙ leads_made s now false call told jobs view room refl next made put
 
--- replies that lend nothing keep the number of the next lease
+-- replies that lend nothing
 pub next_number : (next : ℕ) (answer : Result ℕ BookFault) → next_after next (number_reply answer) ≡ next
 next_number next (Ok number) = refl
 next_number next (Err fault) = refl

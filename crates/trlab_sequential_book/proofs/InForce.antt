@@ -69,7 +69,7 @@ pub record FirstInForce (sheet : Sheet) (step : ℕ) (applied : List ExecutedSte
 one_ran : {a b : ExecutedStep} → Some a ≡ Some b → a ≡ b
 one_ran e = cc
 
--- if the first i steps were run under the rules in force, and the next step too, so were the first i + 1
+-- one more of them
 pub one_more_in_force : (sheet : Sheet) (step : ℕ) (applied : List ExecutedStep) (i : ℕ) (item : ExecutedStep) → FirstInForce sheet step applied i → i < length applied → item ≡ get_or applied i item
     → in_force sheet (step + i) ≡ Some item.rule → FirstInForce sheet step applied (i + 1)
 one_more_in_force sheet step applied i item before h e here = record {
@@ -84,7 +84,7 @@ one_more_in_force sheet step applied i item before h e here = record {
       ]);
 }
 
--- if all steps were run under the rules in force, they were run under the sheet
+-- all of them
 pub all_in_force : (sheet : Sheet) (step : ℕ) (applied : List ExecutedStep) (count : ℕ) → FirstInForce sheet step applied count → length applied ≤ count → RanUnderSheet sheet step applied
 all_in_force sheet step applied count first all k ran at = first.each k ran (within applied k ran count at all) at
   where
@@ -141,7 +141,7 @@ steady_in_force sheet step n entry ran (x ∷ more) is at long come steady begin
     one_of (y ∷ more) zero other P all at = subst P (one_ran at) (all 0 y (omega arith))
     one_of (y ∷ more) (suc k) other P all at = one_of more k other P (λ i d h. all (suc i) d (omega arith)) at
 
--- if all steps were run under the sheet, the first of them was run under the last entry, which is in force by then
+-- the converse
 pub first_in_force : (sheet : Sheet) (step n : ℕ) (entry : ℕ × Programs) (ran : ExecutedStep) (applied : List ExecutedStep) → IsSheet sheet
     → slice_get sheet n ≡ Some entry → length sheet ≡ suc n → entry.0 ≤ step
     → slice_get applied 0 ≡ Some ran → RanUnderSheet sheet step applied → entry.1 ≡ ran.rule

@@ -15,7 +15,7 @@ use Rattle.trlab_sequential_book.specs.{declared.lease.ExecutedStep.ExecutedStep
 use Rattle.trlab_sequential_book.specs.Leases.{LeadsTo, LeaseState, IsLease, with_executed_step}
 use Rattle.trlab_sequential_book.specs.{Comparison.{RunsRoadOfJob, run_seed, progress_of}, Machine.JobState}
 
--- if steps lead to a road, and one more step leads from there to the next road, all of them lead to the next road
+-- one more step
 pub leads_push : (key : List ℕ) (number step : ℕ) (road last next : Cells) (xs : List ExecutedStep) (ran : ExecutedStep) → LeadsTo key number step road xs last
     → IsNext ran.rule (dice_of key number (step + length xs)) last next ran.tally → LeadsTo key number step road (xs ++ ran ∷ []) next
 leads_push key number step road last next [] ran leads is =

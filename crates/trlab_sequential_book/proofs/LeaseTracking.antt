@@ -105,7 +105,7 @@ comes_sheet seed sheet (suc step) road sum comes = comes_sheet seed sheet step c
 -- the lease is out for this job, began at the steps done, ran steps that were ordered, and runs the job's
 -- road
 pub record IsOutFor (job : JobState) (lease : LeaseState) : Type 0 where
-  pub out : job.lease_out ≡ Some lease.number
+  pub out : job.out ≡ Some lease.number
   pub going : job.cancelled ≡ false
   pub steps : lease.steps ≡ job.steps
   pub base : lease.base.step ≡ job.done
@@ -113,7 +113,7 @@ pub record IsOutFor (job : JobState) (lease : LeaseState) : Type 0 where
   pub own : RunsRoadOfJob job lease
 
 abbrev pub Knows : LeaseState → JobState → Type 0
-Knows lease job = IsOutFor job lease ⊎ (is_out lease.number job.lease_out ≡ false)
+Knows lease job = IsOutFor job lease ⊎ (is_out lease.number job.out ≡ false)
 
 -- the lease has run as many steps as it is on
 abbrev pub IsOnStep : LeaseState → Type 0
@@ -161,7 +161,7 @@ giving_back : (offer : Offered) (lease : LeaseState) (job : JobState) → Knows 
 giving_back offer lease job knows = by_if (λ (o : JobOutcome). Knows lease o.job) (accepts_lease offer job) _ _ (inr refl) knows
 
 revoking : (lease : LeaseState) (job : JobState) → Knows lease job → Knows lease (revoke_outcome job).job
-revoking lease job knows = by_if (λ (o : JobOutcome). Knows lease o.job) (is_some job.lease_out) _ _ (inr refl) knows
+revoking lease job knows = by_if (λ (o : JobOutcome). Knows lease o.job) (is_some job.out) _ _ (inr refl) knows
 
 cancelling : (lease : LeaseState) (job : JobState) → Knows lease job → Knows lease (cancel_outcome job).job
 cancelling lease job knows = by_if (λ (o : JobOutcome). Knows lease o.job) (job.cancelled || (job.done == job.steps)) _ _ knows (inr refl)

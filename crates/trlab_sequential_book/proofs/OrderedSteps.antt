@@ -72,12 +72,12 @@ order_ordering offer job low =
 
 order_giving : (offer : Offered) (job : JobState) → IsOrdered job → IsOrdered (give_back_outcome offer job).job
 order_giving offer job low =
-    let back : JobOutcome = record { reply = reply.Done; job = record job { done = offer.step; lease_out = None } } in
+    let back : JobOutcome = record { reply = reply.Done; job = record job { done = offer.step; out = None } } in
     cond_both (accepts_lease offer job) back (refusal fault.StrangerLease job) (λ (o : JobOutcome). IsOrdered o.job)
     (λ own. (own_parts offer job own).1) (λ other. low)
 
 order_revoking : (job : JobState) → IsOrdered job → IsOrdered (revoke_outcome job).job
-order_revoking job low = by_if (λ (o : JobOutcome). IsOrdered o.job) (is_some job.lease_out) _ _ low low
+order_revoking job low = by_if (λ (o : JobOutcome). IsOrdered o.job) (is_some job.out) _ _ low low
 
 order_cancelling : (job : JobState) → IsOrdered job → IsOrdered (cancel_outcome job).job
 order_cancelling job low = by_if (λ (o : JobOutcome). IsOrdered o.job) (job.cancelled || (job.done == job.steps)) _ _ low low

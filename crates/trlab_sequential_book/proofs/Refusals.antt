@@ -41,7 +41,7 @@ after_room book made room = cond-false (has_full_history book) book (made_on boo
 
 free_parts : (job : JobState) → is_free job ≡ true → job.cancelled ≡ false
 free_parts job is =
-    let a = (and_parts (not (is_some job.lease_out)) (not job.cancelled && ltb job.done job.steps) is).1 in
+    let a = (and_parts (not (is_some job.out)) (not job.cancelled && ltb job.done job.steps) is).1 in
     not_true job.cancelled (and_parts (not job.cancelled) (ltb job.done job.steps) a).0
   where
     not_true : (b : Bool) → not b ≡ true → b ≡ false
@@ -64,7 +64,7 @@ module _ (lease : LeaseState) (book : BookState) (fresh : IsFreshIfLent book.job
   lent_by index first (Some job) found told =
       let ended = on_found book.jobs index job (lease_outcome index book.next) found in
       let parts = leased_parts (sym (ap (λ (s : JobsOutcome). s.reply) ended) ∙ told) in
-      let now : JobState = record job { lease_out = Some book.next } in
+      let now : JobState = record job { out = Some book.next } in
       let at : slice_get book.jobs lease.job ≡ Some job = ap (slice_get book.jobs) (sym parts.0) ∙ found in
       let is = fresh_of lease book.jobs book.next job at fresh in
       let free = (position-Some is_free book.jobs index job first).1 in
@@ -120,7 +120,7 @@ ordered_by false false job now told said other is = absurd (other fault.Stranger
 not_ordered : (order : Order) (why : BookFault) → reply.Refused why ≡ order_reply (Ok order) → ⊥
 not_ordered order why h = cc
 
--- the lease after one more step; it still runs the road of its job if the step's rule is the one in force
+-- the lease after the step
 module _ (old : LeaseState) (rule : Programs) (tally : StepTally) (road : Cells) where
   abbrev stepped : LeaseState
   stepped = with_executed_step old rule tally road
@@ -249,7 +249,7 @@ chosen false false x y z hb hc = absurd (cc hc)
 module _ (lease : LeaseState) (job : JobState) (out : IsOutFor job lease) where
   accepted : (same : Bool) → same ≡ true → accepts_lease (offered lease same) job ≡ true
   accepted same runs =
-      all_true (is_out lease.number job.lease_out) (lease.base.step == job.done) (not (ltb job.high lease.step)) same
+      all_true (is_out lease.number job.out) (lease.base.step == job.done) (not (ltb job.high lease.step)) same
       (ap (is_out lease.number) out.out ∙ same_number lease.number) (eq-eqb lease.base.step job.done out.base) (ap not (le-ltb job.high lease.step out.ordered)) runs
 
   orderable : lease.step < lease.steps → (job.cancelled || (lease.step == job.steps)) ≡ false
@@ -300,7 +300,7 @@ not_out : (lease : LeaseState) (book : BookState) (made : Call) (same : Bool) (w
     → IsTrue same ↔ RunsRoadOfItsJob book.jobs lease → is_event (reply.Refused why) ≡ true → IsNotOut book lease
 not_out lease book made same why tracks told offers verdict is_one = elim tracks.here.knows [
   | inl out ↦ absurd (not_refused lease book same why tracks out verdict is_one made offers told)
-  | inr other ↦ subst (λ (o : Option JobState). MatchOption o ⊥ (λ (k : JobState). is_out lease.number k.lease_out ≡ false)) (sym tracks.here.at) other
+  | inr other ↦ subst (λ (o : Option JobState). MatchOption o ⊥ (λ (k : JobState). is_out lease.number k.out ≡ false)) (sym tracks.here.at) other
 ]
 
 pub refused_leases_are_not_out : RefusedLeasesAreNotOut

@@ -57,7 +57,7 @@ giving_back_keeps : (lease : Offered) → Leaves (give_back_outcome lease)
 giving_back_keeps lease job = by_if (λ (o : JobOutcome). Keeps job o.job) (accepts_lease lease job) _ _ (record { seed = refl; steps = refl }) (same_job job)
 
 revoking_keeps : Leaves revoke_outcome
-revoking_keeps job = by_if (λ (o : JobOutcome). Keeps job o.job) (is_some job.lease_out) _ _ (record { seed = refl; steps = refl }) (same_job job)
+revoking_keeps job = by_if (λ (o : JobOutcome). Keeps job o.job) (is_some job.out) _ _ (record { seed = refl; steps = refl }) (same_job job)
 
 cancelling_keeps : Leaves cancel_outcome
 cancelling_keeps job = by_if (λ (o : JobOutcome). Keeps job o.job) (job.cancelled || (job.done == job.steps)) _ _ (same_job job) (record { seed = refl; steps = refl })

@@ -194,27 +194,26 @@ GoesThrough book (made ∷ events) old new =
     (next : LeaseState) × ((next ≡ old) ⊎ RanStep book made old next)
     × GoesThrough (after book made.call) events next new
 
--- a call offers the lease to the book: to order its next step, if the job has one more, or to give it back.
--- `same` is the verdict on it, whether it runs the road of its job
+-- a call offers the lease: with its next step, which the job has, or to give it back. `same` is the verdict
+-- on it
 abbrev pub Offers : Call → LeaseState → Bool → Type 0
 Offers made lease same =
     (made ≡ call.GiveBack (offered lease same)) ⊎ ((made ≡ call.Order (offered lease same)) × (lease.step < lease.steps))
 
 -- the job of the lease exists, and this lease is not out for it
 abbrev pub IsNotOut : BookState → LeaseState → Type 0
-IsNotOut book lease = MatchOption (slice_get book.jobs lease.job) ⊥ (λ job. is_out lease.number job.lease_out ≡ false)
+IsNotOut book lease = MatchOption (slice_get book.jobs lease.job) ⊥ (λ job. is_out lease.number job.out ≡ false)
 
--- in a history that replays, a lease went out in the event `lending`, and then ran only steps that the book
--- ordered, up to its state `now`. If the book refuses its order or its return, with the correct verdict `same`
--- on it, then it is not out: another call has ended it
+-- in a history that replays, a lease went out and ran only steps that the book ordered. If the book refuses
+-- its order or its return, with the correct verdict on it, then it is not out: another call has ended it
 abbrev pub RefusedLeasesAreNotOut : Type 0
 RefusedLeasesAreNotOut =
-    (history before events later : List Event) (lending : Event) (book : BookState) (lease now : LeaseState)
+    (history before events later : List Event) (out : Event) (book : BookState) (lease now : LeaseState)
     (made : Call) (same : Bool) (fault : BookFault) → Replays history book
-    → history ≡ before ++ lending ∷ (events ++ event made (Refused fault) ∷ later)
-    → WentOut (book_after before) lending lease
-    → GoesThrough (after (book_after before) lending.call) events lease now
+    → history ≡ before ++ out ∷ (events ++ event made (Refused fault) ∷ later)
+    → WentOut (book_after before) out lease
+    → GoesThrough (after (book_after before) out.call) events lease now
     → Offers made now same
-    → IsTrue same ↔ RunsRoadOfItsJob (book_after (before ++ lending ∷ events)).jobs now
+    → IsTrue same ↔ RunsRoadOfItsJob (book_after (before ++ out ∷ events)).jobs now
     → is_event (Refused fault) ≡ true
-    → IsNotOut (book_after (before ++ lending ∷ events)) now
+    → IsNotOut (book_after (before ++ out ∷ events)) now

@@ -14,8 +14,7 @@ use Rattle.trlab_sequential_book.specs.declared.event.Call.TheVariants as call
 use Rattle.trlab_sequential_book.specs.declared.event.Reply.TheVariants as reply
 
 -- a job: its seed and its sheet, the number of its steps, of steps ever ordered (`high`) and of steps done,
--- whether it was cancelled, and the number of the lease that is out, if one is. Steps below `high` keep the
--- rules under which they were ordered, even if their lease is revoked. For example, with `high` 5
+-- whether it was cancelled, and the number of the lease that is out, if one is. For example, with `high` 5
 -- and `done` 3 the steps 0 to 2 are done, and steps 3 and 4 are ordered but not done
 pub record JobState : Type 0 where
   pub seed : Seed
@@ -24,7 +23,7 @@ pub record JobState : Type 0 where
   pub high : ℕ
   pub done : ℕ
   pub cancelled : Bool
-  pub lease_out : Option ℕ
+  pub out : Option ℕ
 
 -- a book: the number of events that it has had, the number of its next lease, and its jobs
 pub record BookState : Type 0 where
@@ -55,7 +54,7 @@ new_job seed rule steps = record {
   high = 0;
   done = 0;
   cancelled = false;
-  lease_out = None;
+  out = None;
 }
 
 -- the outcome of `replace`: the rule is in force from step `high` on, the first that was never ordered, and
@@ -81,7 +80,7 @@ is_out number (Some out) = out == number
 -- have run no step that was not ordered, and run the job's road
 abbrev pub accepts_lease : Offered → JobState → Bool
 accepts_lease lease job =
-    is_out lease.number job.lease_out && ((lease.base == job.done) && (not (ltb job.high lease.step) && lease.same))
+    is_out lease.number job.out && ((lease.base == job.done) && (not (ltb job.high lease.step) && lease.same))
 
 -- the outcome of `order`: the lease's next step is ordered, so `high` is now above it, and the reply has the
 -- step from which its rule is in force. The fault is `Ended` if the job was cancelled or the lease has run
@@ -99,14 +98,14 @@ order_outcome lease job =
 abbrev pub give_back_outcome : Offered → JobState → JobOutcome
 give_back_outcome lease job =
     if accepts_lease lease job
-    then record { reply = reply.Done; job = record job { done = lease.step; lease_out = None } }
+    then record { reply = reply.Done; job = record job { done = lease.step; out = None } }
     else refusal fault.StrangerLease job
 
 -- the outcome of `revoke`: the lease that is out ends, and its steps are lost. The fault is `StrangerLease`
 -- if none is out
 abbrev pub revoke_outcome : JobState → JobOutcome
 revoke_outcome job =
-    if is_some job.lease_out then record { reply = reply.Done; job = record job { lease_out = None } }
+    if is_some job.out then record { reply = reply.Done; job = record job { out = None } }
     else refusal fault.StrangerLease job
 
 -- the outcome of `cancel`: the job is cancelled, and no lease is out. The fault is `Ended` if it was
@@ -114,7 +113,7 @@ revoke_outcome job =
 abbrev pub cancel_outcome : JobState → JobOutcome
 cancel_outcome job =
     if job.cancelled || (job.done == job.steps) then refusal fault.Ended job
-    else record { reply = reply.Done; job = record job { cancelled = true; lease_out = None } }
+    else record { reply = reply.Done; job = record job { cancelled = true; out = None } }
 
 -- the outcome of `read`: the reply has the number of steps done and the number of entries of the sheet, and
 -- the job stays as it is
@@ -123,14 +122,14 @@ read_outcome job = record { reply = reply.Seen job.done (length job.sheet); job 
 
 -- can the job be leased? It can if no lease is out, it was not cancelled, and not all its steps are done
 abbrev pub is_free : JobState → Bool
-is_free job = not (is_some job.lease_out) && (not job.cancelled && ltb job.done job.steps)
+is_free job = not (is_some job.out) && (not job.cancelled && ltb job.done job.steps)
 
 -- the outcome of `lease` if this job, with number `job_number`, is leased: lease number `lease_number` is
 -- out. The reply has both numbers, the steps done (the lease's next step) and the number of all steps
 abbrev pub lease_outcome : ℕ → ℕ → JobState → JobOutcome
 lease_outcome job_number lease_number job = record {
   reply = reply.Leased job_number lease_number job.done job.steps;
-  job = record job { lease_out = Some lease_number };
+  job = record job { out = Some lease_number };
 }
 
 -- the outcome of a call on the jobs of a book: the reply, and the jobs after the call

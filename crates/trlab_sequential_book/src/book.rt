@@ -27,7 +27,7 @@ use trlab_step::suits;
 /// The maximum number of jobs of a book.
 pub const MAX_JOBS: usize = 256;
 
-/// The maximum number of events of a book. After so many events a book refuses each call as `HistoryFull`.
+/// The maximum number of events of a book. After this number of events, a book refuses each call.
 pub const MAX_EVENTS: u32 = 1000000;
 
 /// A book of up to `MAX_JOBS` jobs, which are numbered from 0 and never removed.
@@ -37,7 +37,7 @@ pub const MAX_EVENTS: u32 = 1000000;
 pub struct Book {
     /// The number of events that the book has had.
     count: u32,
-    /// The number that the next lease gets.
+    /// The number of the next lease.
     next: u32,
     jobs: Vec<JobRecord>,
 }
@@ -78,7 +78,7 @@ impl Book {
         }
     }
 
-    /// Whether the book has had `MAX_EVENTS` events, so that it refuses each call as `HistoryFull`.
+    /// Whether the book has had `MAX_EVENTS` events. It then refuses each call as `HistoryFull`.
     pub fn has_full_history(&self) -> bool
         ensures { result ≡ has_full_history self.now }
     {
@@ -132,7 +132,7 @@ impl Book {
         self.add_job(alloc, seed, rule, steps)
     }
 
-    /// `submit_shared`, for a book whose history is not full.
+    /// Adds a job to a book whose history is not full.
     fn add_job(
         &mut self,
         alloc: Global,
@@ -204,13 +204,12 @@ impl Book {
         found.is_run_by(lease)
     }
 
-    /// Orders a lease's next step, and returns the rule in force there. It takes an allocator, as `lease` and `read`
-    /// do, but needs none: the order shares the rule with the job's sheet.
+    /// Orders a lease's next step, and returns the rule in force there. The order shares the rule with the job's sheet,
+    /// so the allocator is not used.
     ///
     /// # Errors
     ///
-    /// `HistoryFull`, `NoSuchJob`, `Ended` or `StrangerLease`; `Memory` only if the rule has so many owners that one
-    /// more cannot be counted.
+    /// `HistoryFull`, `NoSuchJob`, `Ended`, `StrangerLease` or `Memory`.
     pub fn order(&mut self, _: Global, lease: &Lease) -> Result<Order, BookFault>
         ensures reply { (runs_its_road : Bool) → (IsTrue runs_its_road ↔ RunsRoadOfItsJob self.old.jobs lease.now)
             → RepliesAs (is_memory result) (order_reply result) self.old (OrderCall (offered lease.now runs_its_road)) }
@@ -224,8 +223,7 @@ impl Book {
         self.order_as(lease, runs_its_road)
     }
 
-    /// `order`, for callers that already have the result of `lease_runs_its_road(lease)`, so that the roads are
-    /// compared once.
+    /// `order`, if `lease_runs_its_road(lease)` is known already.
     ///
     /// # Errors
     ///
@@ -263,8 +261,7 @@ impl Book {
         self.give_back_as(lease, runs_its_road)
     }
 
-    /// `give_back`, for callers that already have the result of `lease_runs_its_road(lease)`, so that the roads are
-    /// compared once.
+    /// `give_back`, if `lease_runs_its_road(lease)` is known already.
     ///
     /// # Errors
     ///
@@ -350,7 +347,7 @@ fn count_after<T>(count: u32, answer: &Result<T, BookFault>) -> u32
     }
 }
 
-// The calls of a book whose history is not full, as functions on its list of jobs. The book counts the events.
+// The calls as functions on the list of jobs. They do not count events.
 
 fn submit_in(
     jobs: &mut Vec<JobRecord>,
@@ -435,7 +432,7 @@ fn cancel_in(jobs: &mut Vec<JobRecord>, index: u32) -> Result<(), BookFault>
     found.cancel()
 }
 
-/// The smallest number of a free job, or `None` if no job is free.
+/// The smallest number of a free job.
 fn free_in(jobs: &[JobRecord]) -> Option<usize>
     ensures place { result ≡ position is_free jobs.now }
     ensures in_range { IfSome result (λ index. index < length jobs.now) }

@@ -13,8 +13,7 @@ pub struct Offered {
     pub base: u32,
     /// The next step of the lease.
     pub step: u32,
-    /// Whether the lease runs the road of its job: with the same key and road number, from the same road, under the
-    /// same rules.
+    /// Whether the lease runs the road of its job.
     pub same: bool,
 }
 
@@ -35,7 +34,6 @@ pub enum Call {
 /// The reply to a call.
 #[derive(Clone, Copy, PartialEq, Eq)]
 pub enum Reply {
-    /// The call was refused for this reason.
     Refused(BookFault),
     /// `submit`: the number of the new job. `replace`: the step from which the rule is in force.
     Number(u32),
@@ -57,7 +55,7 @@ pub enum Reply {
     },
     /// `give_back`, `revoke` or `cancel` succeeded.
     Done,
-    /// `read` succeeded: the steps done in the snapshot, and the number of entries of its sheet.
+    /// The steps done in a snapshot, and the number of entries of its sheet.
     Seen {
         step: u32,
         entries: u32,

@@ -22,23 +22,20 @@ use trlab_rules::Rule;
 use trlab_step::{StepRoom, StepTally, no_tally, suits, tally_sum};
 use trlab_words::Key;
 
-/// A job. Contracts do not see its road and its tally, because these follow from the seed, the sheet and the steps
-/// done.
+/// A job. Contracts do not see its road and its tally, which follow from the seed, the sheet and the steps done.
 pub(crate) struct JobRecord {
     seed: SharedSeed,
     sheet: Sheet,
     steps: u32,
-    /// The number of steps that were ever ordered. It never falls, so an ordered step keeps its rule, even if its lease
-    /// is revoked before it is run.
+    /// The number of steps that were ever ordered.
     high: u32,
-    /// The number of steps done: those of the leases that were given back.
+    /// The number of steps done.
     done: u32,
     cancelled: bool,
-    /// The number of the lease that is out; `None` if the job is not leased.
-    lease_out: Option<u32>,
-    /// The road after the steps done.
+    /// The number of the lease that is out.
+    out: Option<u32>,
+    /// The road at the steps done.
     road: SharedRoad,
-    /// The sums over the steps done, from the seed's `warm` on.
     tally: StepTally,
 }
 
@@ -52,7 +49,7 @@ impl Drop for JobRecord {
             high: _high,
             done: _done,
             cancelled: _cancelled,
-            lease_out: _lease_out,
+            out: _out,
             road: _road,
             tally: _tally,
         } = self;
@@ -72,7 +69,7 @@ impl Model for JobRecord {
       high = job.high;
       done = job.done;
       cancelled = job.cancelled;
-      lease_out = job.lease_out;
+      out = job.out;
     } };
 
     ghost invariant = { λ job. IsJob
@@ -83,7 +80,7 @@ impl Model for JobRecord {
           high = job.high;
           done = job.done;
           cancelled = job.cancelled;
-          lease_out = job.lease_out;
+          out = job.out;
         })
         job.road job.tally };
 }
@@ -109,7 +106,7 @@ impl JobRecord {
             high: 0,
             done: 0,
             cancelled: false,
-            lease_out: None,
+            out: None,
             road,
             tally: no_tally(),
         })
@@ -148,10 +145,10 @@ impl JobRecord {
         ensures reply { done_reply result ≡ (revoke_outcome self.old).reply }
         ensures job { self.new ≡ (revoke_outcome self.old).job }
     {
-        if self.lease_out.is_none() {
+        if self.out.is_none() {
             return Err(BookFault::StrangerLease);
         }
-        self.lease_out = None;
+        self.out = None;
         Ok(())
     }
 
@@ -164,7 +161,7 @@ impl JobRecord {
             return Err(BookFault::Ended);
         }
         self.cancelled = true;
-        self.lease_out = None;
+        self.out = None;
         Ok(())
     }
 
@@ -172,7 +169,7 @@ impl JobRecord {
     pub fn is_free(&self) -> bool
         ensures { result ≡ is_free self.now }
     {
-        self.lease_out.is_none() && !self.cancelled && self.done < self.steps
+        self.out.is_none() && !self.cancelled && self.done < self.steps
     }
 
     /// Lends the job. `index` is the job's number, `number` the lease's.
@@ -185,7 +182,7 @@ impl JobRecord {
         let road = Arc::new(alloc, copy)?;
         let base_road = self.road.share()?;
         let seed = self.seed.get();
-        self.lease_out = Some(number);
+        self.out = Some(number);
         Ok(Lease {
             job: index,
             number,
@@ -219,12 +216,12 @@ impl JobRecord {
             .are_in_force(lease.base_step(), lease.applied(), lease.is_steady())
     }
 
-    /// Whether a lease may be ordered or given back: it is the one that is out for this job, begins at the steps done,
-    /// has run no step that was not ordered, and runs the job's road (`runs_its_road`).
+    /// Whether a lease is out for this job, and may be ordered or given back. It must run the job's road
+    /// (`runs_its_road`), from the steps done, and at most up to the last ordered step.
     fn accepts_lease(&self, lease: &Lease, runs_its_road: bool) -> bool
         ensures { result ≡ accepts_lease (offered lease.now runs_its_road) self.now }
     {
-        match self.lease_out {
+        match self.out {
             Some(number) => {
                 number == lease.number()
                     && lease.base_step() == self.done
@@ -265,8 +262,7 @@ impl JobRecord {
         })
     }
 
-    /// The job's tally plus the tallies of the steps that a lease has run. Steps before the seed's `warm` are not
-    /// counted.
+    /// The job's tally plus those of a lease's steps. Steps before the seed's `warm` are not counted.
     fn tally_with(&self, lease: &Lease) -> StepTally
         requires base { lease.now.base.step ≡ self.now.done }
         requires own { RunsRoadOfJob self.now lease.now }
@@ -286,11 +282,7 @@ impl JobRecord {
         sum
     }
 
-    /// Ends a lease: its road and its tallies become the job's, and its steps are done.
-    ///
-    /// # Errors
-    ///
-    /// `StrangerLease`, with the lease, if the job does not accept it.
+    /// Gives the job the road and the step of its lease.
     pub fn give_back(&mut self, lease: Lease, runs_its_road: bool) -> Result<(), (Lease, BookFault)>
         requires { IsTrue runs_its_road → RunsRoadOfJob self.old lease }
         ensures reply { give_back_reply result ≡ (give_back_outcome (offered lease runs_its_road) self.old).reply }
@@ -302,8 +294,8 @@ impl JobRecord {
         }
         self.tally = self.tally_with(&lease);
         self.done = lease.step();
-        self.road.advance_to(lease.into_road());
-        self.lease_out = None;
+        self.road.come_to(lease.into_road());
+        self.out = None;
         Ok(())
     }
 

@@ -69,12 +69,10 @@ pub struct Lease {
     pub(crate) base_step: u32,
     pub(crate) base_road: SharedRoad,
     pub(crate) step: u32,
-    /// The road before the next step. Nobody shares it until the job takes it over, so steps can change it in place.
+    /// Not shared until the job takes it over.
     pub(crate) road: Arc<Road, Global>,
-    /// The steps that were run, in order.
     pub(crate) applied: Vec<ExecutedStep>,
-    /// If true, all steps that were run had the same rule, so one comparison shows that it was in force in all of them;
-    /// if false, they may have had several.
+    /// If true, all steps that were run had the same rule; if false, they may have had several.
     pub(crate) is_steady: bool,
     /// Memory that is reused by each step.
     pub(crate) room: StepRoom,
@@ -136,14 +134,14 @@ impl Lease {
         self.steps
     }
 
-    /// The random seed of the road.
+    /// The key of the road's random numbers.
     pub(crate) fn key(&self) -> &Key
         ensures { result.now ≡ self.now.key }
     {
         &self.key
     }
 
-    /// The number of the road, which together with the key determines its random numbers.
+    /// The number of the road, which with the key determines its random numbers.
     pub(crate) fn road_number(&self) -> u32
         ensures { result ≡ self.now.road_number }
     {
@@ -202,8 +200,7 @@ impl Lease {
         self.road
     }
 
-    /// Runs the ordered step. The executor computes the answers of the cars; the next road is the same for every
-    /// executor.
+    /// Runs the ordered step. The executor computes the answers of the cars; the result does not depend on it.
     ///
     /// # Errors
     ///

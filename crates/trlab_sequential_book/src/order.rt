@@ -11,7 +11,6 @@ pub struct Order {
     pub(crate) job: u32,
     pub(crate) lease: u32,
     pub(crate) step: u32,
-    /// The step from which the rule is in force.
     pub(crate) from: u32,
     pub(crate) rule: SharedRule,
     ghost fits: { step + 1 < 2 ^ 32 },

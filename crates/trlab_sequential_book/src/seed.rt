@@ -112,7 +112,7 @@ impl SharedSeed {
 /// An immutable road of a seed's run that several owners share.
 pub(crate) struct SharedRoad {
     seed: SharedSeed,
-    /// `None` if the road is the seed's own, which is not stored twice.
+    /// `None` if the road is the seed's own.
     held: Option<Arc<Road, Global>>,
 }
 
@@ -169,8 +169,8 @@ impl SharedRoad {
         }
     }
 
-    /// Replaces the road by the road at a later step. Other owners keep the earlier road.
-    pub(crate) fn advance_to(&mut self, road: Arc<Road, Global>)
+    /// Replaces the road by the road at a later step.
+    pub(crate) fn come_to(&mut self, road: Arc<Road, Global>)
         ensures { self.new ≡ arc_value road }
     {
         self.held = Some(road);

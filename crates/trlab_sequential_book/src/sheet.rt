@@ -40,7 +40,7 @@ impl Model for Sheet {
 }
 
 impl Sheet {
-    /// The sheet of a new job: one rule, in force from step 0 on.
+    /// The sheet with one rule, in force from step 0.
     pub(crate) fn new(alloc: Global, rule: SharedRule) -> Result<Sheet, AllocError>
         ensures { IfOk result (λ sheet. sheet ≡ (0, rule) ∷ []) }
     {
@@ -81,7 +81,6 @@ impl Sheet {
         ensures entry { entry_in_force self.now step ≡ Some result.now }
         ensures rule { in_force self.now step ≡ Some result.now.1 }
     {
-        // At least 1, because the first entry begins at step 0.
         let begun = self.entries.partition_point(|entry| entry.0 <= step);
         &self.entries[begun - 1]
     }
@@ -116,7 +115,7 @@ impl Sheet {
         }
     }
 
-    /// `are_in_force`, with one comparison per step.
+    /// `are_in_force`, by comparing the rule of each step.
     fn are_each_in_force(&self, first: u32, applied: &[ExecutedStep]) -> bool
         requires { first + length applied.now < 2 ^ 32 }
         ensures { IsTrue result ↔ RanUnderSheet self.now first applied.now }
@@ -153,8 +152,7 @@ impl Sheet {
     }
 }
 
-/// Makes room for an entry that begins at the step `from`, where no entry begins later. Drops the last entry if it
-/// begins at the same step, because the new entry replaces it.
+/// Makes room for an entry that begins at the step `from`. Drops the last entry if it begins there as well.
 fn make_room(entries: &mut Vec<(u32, SharedRule)>, from: u32) -> Result<(), BookFault>
     requires sheet { IsBookSheet entries.old.items }
     requires begin { BeginBy from entries.old.items }
@@ -167,7 +165,6 @@ fn make_room(entries: &mut Vec<(u32, SharedRule)>, from: u32) -> Result<(), Book
     ensures unchanged { OnErr result (entries.new.items ≡ entries.old.items) }
 {
     let Some(last) = entries.pop() else {
-        // A sheet is never empty.
         unreachable!()
     };
     if last.0 == from {

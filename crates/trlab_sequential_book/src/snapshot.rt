@@ -70,7 +70,7 @@ impl Snapshot {
         self.step
     }
 
-    /// The road after the steps done, with as many lanes and cars as at the start, and the same limit.
+    /// The road after these steps, with as many lanes and cars as at the start, and the same limit.
     pub fn road(&self) -> &Road
         ensures value { result.now ≡ self.now.road }
         ensures like { IsLegalLike self.now.seed.road result.now }

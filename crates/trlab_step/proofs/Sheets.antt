@@ -4,7 +4,7 @@ use Rattle.std.proofs.{Common.{All, if◌then◌else◌, eqb-true}, lemmas.Bool.
 use Rattle.trlab_rules.specs.Rules.{Programs}
 use Rattle.trlab_step.specs.Run.{Sheet, StepsIncreaseFrom, IsSheet, sheet_with}
 
--- the first later entry replaces the rule `first` if it is for step 0 (b is true), and otherwise follows it
+-- a later rule from step 0 on, or another one
 sheet_by : (b : Bool) (first : Programs) (entry : ℕ × Programs) (later : Sheet) → (entry.0 == 0) ≡ b → StepsIncreaseFrom 0 (entry ∷ later)
     → IsSheet (if b then entry ∷ later else (0, first) ∷ entry ∷ later)
 sheet_by true first entry later begins rises =
@@ -18,7 +18,7 @@ pub with_is_sheet : (first : Programs) (later : Sheet) → StepsIncreaseFrom 0 l
 with_is_sheet first [] rises = (refl, tt)
 with_is_sheet first (entry ∷ later) rises = sheet_by (entry.0 == 0) first entry later refl rises
 
--- each rule of a sheet has the property P
+-- a property of the rule and of each later one
 abbrev pub AllRules : (Programs → Type 0) → Sheet → Type 0
 AllRules P sheet = All (λ (entry : ℕ × Programs). P entry.1) sheet
 
@@ -31,7 +31,7 @@ all_by : (b : Bool) (P : Programs → Type 0) (first : Programs) (entry : ℕ ×
 all_by true P first entry later is all = all
 all_by false P first entry later is all = with_first P first (entry ∷ later) is all
 
--- if the rule `first` and each later rule have a property, each rule of their sheet has it
+-- is a property of each rule of their sheet
 pub with_all : (P : Programs → Type 0) (first : Programs) (later : Sheet) → P first → AllRules P later → AllRules P (sheet_with first later)
 with_all P first [] is all = with_first P first [] is all
 with_all P first (entry ∷ later) is all = all_by (entry.0 == 0) P first entry later is all

@@ -13,7 +13,7 @@ use trlab_road::Road;
 use trlab_verify::{Change, Motion};
 
 /// Sees the road of a step before its cars cross and move. It runs on the calling thread while other threads compute
-/// the answers, so that writing a row of the road delays the step less.
+/// the answers, so writing a row costs less time.
 pub trait StepObserver {
     // The relation of the observer before it sees a road, the road, and the observer after it has seen the road.
     ghost observes: { Self → Cells → Self → Type 0 };
@@ -36,8 +36,7 @@ impl StepObserver for NoObserver {
 /// Runs a program for all cars of a road, and replaces the contents of a list with their answers in standing order.
 ///
 /// The road is borrowed mutably, so that it can be moved to other threads; it comes back unchanged. The observer sees
-/// the road, even if an allocation fails. The observer is called once, although the contracts state only how it is after
-/// the call.
+/// it, even if an allocation fails. It is called once, but contracts only say how it is after the call.
 pub trait Executor {
     // The precondition of a call, for example the contracts of the closures that an executor calls.
     ghost is_ready: { Self → Type 0 };

@@ -186,7 +186,7 @@ pub fn move_part(
     Ok(speeds)
 }
 
-/// The speeds as `u32` numbers, in which embedding programs pass speeds.
+/// The speeds as `u32` numbers.
 fn speeds_to_u32(alloc: Global, speeds: &[u8]) -> Result<Vec<u32>, AllocError>
     ensures { IfOk result (λ numbers. numbers.items ≡ speeds.now) }
 {
@@ -212,14 +212,14 @@ pub fn commit_motion(alloc: Global, road: &Road, speeds: &[u32]) -> Result<Road,
     ensures clean { IfOk result (λ next. IsCleanMotion road.now next) }
     ensures legal { IfOk result (λ next. IsLegal next) }
 {
-    // only for the proof: the snapshot shows that the road is legal, so each speed fits into a byte
+    // only the proof reads it: the road is legal, so each speed fits into a byte
     let _start = road.snapshot();
     let mut next = road.copy(alloc)?;
     next.move_cars(&speeds_to_bytes(alloc, speeds)?);
     Ok(next)
 }
 
-/// The speeds as bytes, for `Road::move_cars`. None is cut, because each is at most `MAX_LIMIT`.
+/// The speeds as bytes; each is at most `MAX_LIMIT`.
 fn speeds_to_bytes(alloc: Global, speeds: &[u32]) -> Result<Vec<u8>, AllocError>
     requires { (k : ℕ) → k < length speeds.now → slice_index speeds.now k ≤ MAX_LIMIT }
     ensures { IfOk result (λ bytes. bytes.items ≡ speeds.now) }

@@ -12,7 +12,7 @@ use trlab_machine::{
 use trlab_road::Road;
 use trlab_verify::Motion;
 
-/// The lowest byte of each number of a column. A speed is at most 35, so its lowest byte is the speed itself.
+/// The lowest byte of each number of a column: the number itself, if it is at most 255.
 #[inline(always)]
 fn low_bytes<const N: usize>(numbers: &Column<N>) -> [u8; N]
     ensures { (k : ℕ) → k < N → slice_index result k ≡ slice_index numbers.now k % 256 }
@@ -61,8 +61,7 @@ pub fn compute_speeds(
     Ok(())
 }
 
-/// `compute_speeds` for cars that fit into one small block. A block of full size would be mostly empty, and its program
-/// would still run for all its entries.
+/// `compute_speeds` for cars that fit into one small block.
 fn compute_few_speeds(
     speeds: &mut Vec<u8>,
     road: &Road,

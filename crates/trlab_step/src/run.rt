@@ -16,16 +16,12 @@ use trlab_words::Key;
 /// A run of a road under a sheet of rules: the current step, the road at this step, and the sum of the tallies
 /// so far.
 pub struct Run {
-    /// The road at step 0, which only contracts read.
     start: Snapshot<Road>,
     key: Key,
-    /// The number of the road, which with the key determines its random words.
     number: u32,
-    /// The first step whose tally is counted.
     warm: u32,
     sheet: RunSheet,
     step: u32,
-    /// The road at the current step.
     road: Road,
     sum: StepTally,
     /// Memory that is reused by each step.

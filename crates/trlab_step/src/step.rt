@@ -91,7 +91,7 @@ pub fn take_step<E: Executor, O: StepObserver>(
     ensures seen { O.observes observer.old road.old observer.new }
     ensures unchanged { OnErr result (road.new ≡ road.old) }
 {
-    // only for the proof: the snapshot shows that the road is legal, so each call of a program is safe
+    // only the proof reads it: the road is legal, so each call of a program is safe
     let _start = road.snapshot();
     let motion = rule.motion();
     match rule.change() {
@@ -168,7 +168,7 @@ fn move_cars<E: Executor, O: StepObserver>(
     ensures seen { O.observes observer.old road.old observer.new }
     ensures unchanged { OnErr result (road.new ≡ road.old) }
 {
-    // only for the proof: the snapshot shows that the road is legal, so the counts of its cars fit into 32 bits
+    // only the proof reads it: the road is legal, so its cars are few enough to be counted
     let _start = road.snapshot();
     context.executor.speeds(context.alloc, speeds, road, motion, context.dice, observer)?;
     road.move_cars(speeds);

@@ -19,7 +19,6 @@ pub trait Ledger {
 impl Ledger for Brand {
     ghost use Rattle.std.specs.Prelude.{[]};
 
-    // a placeholder: the proof of each call that passes `Brand` picks the name
     ghost name = { record {
       words = 0;
       slots = 0;
@@ -37,9 +36,8 @@ pub struct Noted<E> {
     pub event: E,
 }
 
-/// The knowledge of a seat, the token with which a thread takes atomic steps. A strand knows its parts, the events that
-/// it added, and its clock, which is the smallest number that its next event may have; the keeper knows the whole list.
-/// Only contracts use this type.
+/// The knowledge of a seat: for a strand its parts, the events that it added, and its clock, the smallest number that
+/// its next event may have; for the keeper the whole list. Only contracts use this type.
 pub struct StrandKnowledge<E> {
     pub parts: u32,
     pub events: LinkedList<Noted<E>>,
@@ -70,7 +68,7 @@ impl<E> Play<E, StrandKnowledge<E>> for NoteEvent {
     ghost then = { NotesEvent };
 }
 
-/// The step that changes nothing, and lets the proof compare a strand with the list.
+/// The step that compares a strand with the list, and changes nothing.
 pub struct AuditList;
 
 impl<E> Play<E, StrandKnowledge<E>> for AuditList {
@@ -88,10 +86,10 @@ impl<E> Play<E, StrandKnowledge<E>> for SeeWholeList {
     ghost then = { SeesWholeList };
 }
 
-/// Takes the list from a seat into a new seat.
-pub struct TakeList;
+/// The list moves from a strand to a new seat.
+pub struct Apart;
 
-impl<E> Split<StrandKnowledge<E>> for TakeList {
+impl<E> Split<StrandKnowledge<E>> for Apart {
     ghost use Rattle.trlab_strands.specs.Knowledge.{without_list, list_seat};
 
     ghost left = { without_list };
@@ -99,10 +97,10 @@ impl<E> Split<StrandKnowledge<E>> for TakeList {
     ghost right = { list_seat };
 }
 
-/// Takes one part from a strand into a new strand.
-pub struct TakePart;
+/// One part moves from a strand to a new strand.
+pub struct OnePart;
 
-impl<E> Split<StrandKnowledge<E>> for TakePart {
+impl<E> Split<StrandKnowledge<E>> for OnePart {
     ghost use Rattle.trlab_strands.specs.Knowledge.{without_one_part, one_part};
 
     ghost left = { without_one_part };

@@ -6,8 +6,8 @@ ghost use Rattle.trlab_strands.specs.Knowledge.{IsLinearization, AreInList, firs
 ghost use Rattle.trlab_strands.specs.declared.knowledge.TheConstants.{ALL_PARTS};
 
 use crate::knowledge::{
-    AuditList, JoinStrands, Ledger, NoteEvent, OncePerEvent, SeeWholeList, StrandKnowledge,
-    TakeList, TakePart,
+    Apart, AuditList, JoinStrands, Ledger, NoteEvent, OncePerEvent, OnePart, SeeWholeList,
+    StrandKnowledge,
 };
 use atomic_table::{Seat, Table};
 use std::alloc::{AllocError, Global};
@@ -74,7 +74,7 @@ impl<E: Drop> Blank<E> {
         ensures events { (strand_events result.2 ≡ []) × (strand_clock result.2 ≡ 0) }
     {
         let Blank { table, mut seat } = self;
-        let list = table.shared.split_seat::<TakeList>(&mut seat);
+        let list = table.shared.split_seat::<Apart>(&mut seat);
         (
             Strands {
                 table,
@@ -96,19 +96,15 @@ impl<L: Ledger, E: Drop> Keeper<L, E> {
     ghost use Rattle.trlab_strands.specs.Tokens.{AddsEvent, CatchesUp, IsSameStrand, strand_events, keeper_list, strand_parts};
 
     /// Records an event as the next one of the list, and as the last one of this strand.
-    ///
-    /// An atomic step is taken with one seat, but this step changes both the list and the strand. So the strand takes
-    /// over the list for the step, and then returns it to the keeper; `look` and `audit` do so too.
     pub fn note(&mut self, strands: &Strands<L, E>, strand: &mut Strand<L, E>, event: &E)
         ensures list { keeper_list self.new ≡ keeper_list self.old ++ event.now ∷ [] }
         ensures strand { AddsEvent strand.old (keeper_list self.old) event.now strand.new }
     {
         let shared = &strands.table.shared;
-        let list = shared.split_seat::<TakeList>(&mut self.seat);
+        let list = shared.split_seat::<Apart>(&mut self.seat);
         shared.join_seat::<JoinStrands>(&mut strand.seat, list);
-        // word 0 stays 0: the step matters only for the knowledge that it changes
         shared.compare_exchange_with::<NoteEvent>(&mut strand.seat, 0, 0, 0, event);
-        self.seat = shared.split_seat::<TakeList>(&mut strand.seat);
+        self.seat = shared.split_seat::<Apart>(&mut strand.seat);
     }
 
     /// Lets a strand see the whole list: its clock rises to the length of the list. Nothing else changes.
@@ -117,10 +113,10 @@ impl<L: Ledger, E: Drop> Keeper<L, E> {
         ensures strand { CatchesUp strand.old (length (keeper_list self.old)) strand.new }
     {
         let shared = &strands.table.shared;
-        let list = shared.split_seat::<TakeList>(&mut self.seat);
+        let list = shared.split_seat::<Apart>(&mut self.seat);
         shared.join_seat::<JoinStrands>(&mut strand.seat, list);
         shared.load::<SeeWholeList>(&mut strand.seat, 0);
-        self.seat = shared.split_seat::<TakeList>(&mut strand.seat);
+        self.seat = shared.split_seat::<Apart>(&mut strand.seat);
     }
 
     /// Changes nothing, and shows how the list and a strand agree. Each event of the strand is in the list after its
@@ -137,10 +133,10 @@ impl<L: Ledger, E: Drop> Keeper<L, E> {
             → IsLinearization (keeper_list self.old) (strand_events strand.old) }
     {
         let shared = &strands.table.shared;
-        let list = shared.split_seat::<TakeList>(&mut self.seat);
+        let list = shared.split_seat::<Apart>(&mut self.seat);
         shared.join_seat::<JoinStrands>(&mut strand.seat, list);
         shared.load::<AuditList>(&mut strand.seat, 0);
-        self.seat = shared.split_seat::<TakeList>(&mut strand.seat);
+        self.seat = shared.split_seat::<Apart>(&mut strand.seat);
     }
 }
 
@@ -156,14 +152,14 @@ impl<L: Ledger, E: Drop> Strands<L, E> {
         ensures least { (strand_clock strand.new ≡ strand_clock strand.old)
             × (strand_clock result ≡ strand_clock strand.old) }
     {
-        let seat = self.table.shared.split_seat::<TakePart>(&mut strand.seat);
+        let seat = self.table.shared.split_seat::<OnePart>(&mut strand.seat);
         Strand {
             seat,
             ledger: PhantomData,
         }
     }
 
-    /// Joins two strands to one with the parts and the events of both.
+    /// One strand with the parts and the events of both.
     pub fn gather(&self, one: Strand<L, E>, other: Strand<L, E>) -> Strand<L, E>
         ensures parts { (strand_parts result ≡ strand_parts one + strand_parts other)
             × (strand_parts result ≤ ALL_PARTS) }
@@ -174,7 +170,6 @@ impl<L: Ledger, E: Drop> Strands<L, E> {
         let Strand { mut seat, .. } = one;
         let Strand { seat: joined, .. } = other;
         shared.join_seat::<JoinStrands>(&mut seat, joined);
-        // only for the proof: a strand has at most `ALL_PARTS` parts
         shared.load::<AuditList>(&mut seat, 0);
         Strand {
             seat,

@@ -96,7 +96,7 @@ impl<'a> Excerpt<'a> {
         self.bytes
     }
 
-    /// The rest of the excerpt after a prefix; `None` if it does not begin with this prefix.
+    /// The excerpt after a prefix, if it has this prefix.
     pub fn after(&self, prefix: &[u8]) -> Option<Excerpt<'a>>
         ensures { result ≡ without_prefix prefix.now self.now }
     {
@@ -140,7 +140,7 @@ impl<'a> Excerpt<'a> {
         if self.is_word() { Some(self) } else { None }
     }
 
-    /// The two words of the excerpt; `None` if it is not two words with one space between them.
+    /// Its two words, if it consists of two words and one space between them.
     pub fn two_words(&self) -> Option<(Excerpt<'a>, Excerpt<'a>)>
         ensures { result ≡ two_words self.now }
     {
@@ -152,8 +152,7 @@ impl<'a> Excerpt<'a> {
         }
     }
 
-    /// The value of the excerpt, if it is a number from `low` to `high`. The quantity of the number is for the
-    /// objection.
+    /// Its value, if it is a number from `low` to `high`.
     ///
     /// # Errors
     ///
@@ -168,7 +167,7 @@ impl<'a> Excerpt<'a> {
         }
     }
 
-    /// The value of the excerpt, if it is a number of at most `MAX_DIGITS` digits.
+    /// Its value, if it is a number of at most `MAX_DIGITS` digits.
     ///
     /// # Errors
     ///
@@ -191,7 +190,7 @@ impl<'a> Excerpt<'a> {
     }
 
     /// The objection that these bytes are not hexadecimal digits, two per byte.
-    pub fn not_hexadecimal(self) -> Objection<'a>
+    pub fn no_hex(self) -> Objection<'a>
         ensures { result ≡ Cause.Hex }
     {
         Objection::new(Cause::Hex, Wanted::Digits(self))

@@ -20,22 +20,22 @@ pub enum Cause {
     /// The key is not 64 hexadecimal digits.
     #[error("not a key of 64 hexadecimal digits")]
     Key,
-    /// A rule with lane changes on a road with one lane.
+    /// A change program on a road of one lane.
     #[error("a change program needs two lanes")]
     OneLane,
     /// The step is not above the step before it, or not below the number of steps.
     #[error("the step is not above the last one, or not below the number of steps")]
     Order,
-    /// A job has too many rules of later steps, or a sweep too many points.
+    /// More rules of later steps than a job may have, or more points than a sweep may have.
     #[error("too many `at` lines, or too many points")]
     TooMany,
-    /// The points up to this one take more steps together than a sweep may take.
+    /// The points so far take more steps together than a sweep may take.
     #[error("too many steps for one sweep")]
     Work,
     /// The bytes of a program are not hexadecimal.
     #[error("not in hexadecimal digits")]
     Hex,
-    /// The text has more bytes than `TEXT_LIMIT`.
+    /// The text is longer than a text may be.
     #[error("the text is too long")]
     TooBig,
     /// The lines of a block are not a program.
@@ -80,8 +80,7 @@ impl Cause {
     }
 }
 
-/// The number, from 1 to 8, of a fault in a program's lines. Failed allocations have numbers here and below only
-/// because each case needs one: they are reported as `TextFault::Memory`, and their numbers are never printed.
+/// The number, from 1 to 8, of a fault in a program's lines.
 fn why_number(why: Why) -> u64
     ensures { result ≡ why_number why }
 {

@@ -19,7 +19,7 @@ use trlab_asm::{Why, assemble};
 use trlab_code::{Code, CodeFault, Kind, decode};
 use trlab_verify::{AcceptedProgram, ProgramKind, VerifyFault, verify_as};
 
-/// Decodes a program of either kind. The inner result has the program, or the objection to its bytes.
+/// Decodes a program of either kind.
 fn code_of_bytes<'a>(alloc: Global, bytes: &[u8]) -> Result<Result<Code, Objection<'a>>, AllocError>
     ensures { IfOk result (BytesDecodeTo bytes.now) }
 {
@@ -61,7 +61,7 @@ pub fn parse_code<'a>(
     match hex::decode(alloc, digits.bytes()) {
         Ok(bytes) => code_of_bytes(alloc, &bytes),
         Err(FromHexError::OutOfMemory) => Err(AllocError),
-        Err(_) => Ok(Err(digits.not_hexadecimal())),
+        Err(_) => Ok(Err(digits.no_hex())),
     }
 }
 
@@ -150,7 +150,7 @@ fn program_part(alloc: Global, kind: Kind, rest: Rest<'_>) -> Result<(Code, Rest
     }
 }
 
-/// Verifies a program as one of the kind `K`. A rejection is reported at its first line, which has the number `first`.
+/// Verifies a program whose first line has the number `first`.
 fn accepted<'a, K: ProgramKind>(
     alloc: Global,
     first: u32,

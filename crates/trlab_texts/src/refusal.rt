@@ -24,7 +24,7 @@ pub enum Quantity {
 /// The input that a reader wanted when it rejected a file.
 #[derive(Drop)]
 pub enum Wanted<'a> {
-    /// Nothing: the cause already says what is needed.
+    /// Nothing to add to the cause.
     Nothing,
     /// One of these lines; `End` inside a program.
     Lines(LineNames),
@@ -51,7 +51,7 @@ pub enum Wanted<'a> {
         points: u32,
         steps: u32,
     },
-    /// As many cells as the first lane has; 0 if the first lane itself is too long.
+    /// As many cells as the first lane has; 0 if the first lane is too long.
     Cells {
         first: u32,
     },
@@ -74,10 +74,10 @@ pub struct Objection<'a> {
 }
 
 impl<'a> Model for Objection<'a> {
-    ghost use Rattle.trlab_texts.specs.declared.fault.Cause.{Cause as CauseOfFault};
+    ghost use Rattle.trlab_texts.specs.declared.fault.Cause.{Cause as WhatIsWrong};
     ghost use Rattle.trlab_texts.specs.Causes.{IsWantedFor};
 
-    ghost Value = { CauseOfFault };
+    ghost Value = { WhatIsWrong };
 
     ghost view = { λ objection. objection.cause };
 
@@ -85,7 +85,7 @@ impl<'a> Model for Objection<'a> {
 }
 
 impl<'a> Objection<'a> {
-    /// An objection with this cause, and the input that was wanted instead.
+    /// An objection, and the input that was wanted.
     pub fn new(cause: Cause, wanted: Wanted<'a>) -> Objection<'a>
         requires { IsWantedFor cause wanted }
         ensures { result ≡ cause }
@@ -93,7 +93,7 @@ impl<'a> Objection<'a> {
         Objection { cause, wanted }
     }
 
-    /// An objection without a wanted input, because its cause already says what is needed.
+    /// An objection whose cause says everything.
     pub fn bare(cause: Cause) -> Objection<'a>
         requires { IsWantedFor cause Nothing }
         ensures { result ≡ cause }
@@ -101,15 +101,15 @@ impl<'a> Objection<'a> {
         Objection::new(cause, Wanted::Nothing)
     }
 
-    /// The objection that this line is unexpected. The names of the wanted lines come later, from `at`.
+    /// The objection that another line is wanted.
     pub fn no_line() -> Objection<'a>
         ensures { result ≡ Cause.Line }
     {
         Objection::new(Cause::Line, Wanted::Lines(LineNames::none()))
     }
 
-    /// The refusal of a text because of this objection to the line `number`. If its cause is `Line`, a line with one of
-    /// these names is wanted.
+    /// The refusal of a text because of this line. If its cause is `Line`, a line with one of these names is
+    /// wanted.
     pub fn at(self, number: u32, names: LineNames) -> Refusal<'a>
         ensures { result ≡ TextFault.At number self.entry }
     {
@@ -155,7 +155,7 @@ impl<'a> Model for Refusal<'a> {
 }
 
 impl<'a> Refusal<'a> {
-    /// A refusal with this fault, and the input that was wanted instead.
+    /// A refusal, and the input that was wanted.
     pub fn new(fault: TextFault, wanted: Wanted<'a>) -> Refusal<'a>
         requires { IsWanted fault wanted }
         ensures { result ≡ fault }
@@ -163,7 +163,7 @@ impl<'a> Refusal<'a> {
         Refusal { fault, wanted }
     }
 
-    /// A refusal without a wanted input, because its fault already says what is needed.
+    /// A refusal whose fault says everything.
     pub fn bare(fault: TextFault) -> Refusal<'a>
         requires { IsWanted fault Nothing }
         ensures { result ≡ fault }

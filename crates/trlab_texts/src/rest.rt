@@ -20,7 +20,7 @@ use trlab_lines::next_line;
 pub struct Rest<'a> {
     unread: &'a [u8],
     number: u32,
-    /// Other names that the next line may have, those of optional lines. They are only for refusals.
+    /// Other names that the next line may have.
     also_wanted: LineNames,
 }
 
@@ -67,7 +67,7 @@ impl<'a> Rest<'a> {
         self.unread.is_empty()
     }
 
-    /// The same rest, but a refusal of its next line also lists this name, because an optional line could come here.
+    /// Adds a name that the next line may have; refusals list it.
     pub fn or(self, name: LineName) -> Rest<'a>
         ensures { result ≡ self.entry }
     {
@@ -153,7 +153,7 @@ impl<'a> Rest<'a> {
         }
     }
 
-    /// Returns the lines before the next line `end`, and the rest after it.
+    /// Returns the lines before the line `end`, and the rest after it.
     ///
     /// # Errors
     ///

@@ -9,7 +9,7 @@ use crate::fault::Cause;
 use trlab_bounds::programs::MAX_DIGITS;
 use trlab_lines::{cut, digits_value, is_numeral};
 
-/// The rest of a line after a prefix; `None` if the line does not begin with this prefix.
+/// The line after a prefix, if it has this prefix.
 pub fn without_prefix<'a>(prefix: &[u8], line: &'a [u8]) -> Option<&'a [u8]>
     ensures { option_map (λ rest. rest.now) result ≡ without_prefix prefix.now line.now }
 {
@@ -33,8 +33,7 @@ pub fn head_word(line: &[u8]) -> &[u8]
     }
 }
 
-/// The value of a word of at most ten decimal digits without a leading 0, except for the word `0`; `None` for any other
-/// word.
+/// The value of at most ten decimal digits, without a sign or a leading 0.
 fn number(word: &[u8]) -> Option<u64>
     ensures { MatchOption result
         ((n : ℕ) → n ≤ LONGEST_NUMBER → word.now ≢ decimal n)

@@ -210,7 +210,7 @@ step_keeps_order p q light heavy dice rear front next_rear next_front rear_tally
       leads_after p q light heavy dice rear front next_rear next_front rear_tally front_tally lead more is_light is_heavy legal front_legal one order step front_step phase.0 front_phase.0 phase.1 front_phase.1 phase.2 front_phase.2 later.value later.is,
     )
 
--- a run keeps the order of two roads, because each step does
+-- a run
 pub run_keeps_order : RunKeepsOrder
 run_keeps_order p q light heavy seed front road other lead zero more is_light is_heavy legal front_legal one order is front_is = (
   lead,

@@ -25,7 +25,7 @@ use Rattle.trlab_traffic.proofs.Capacities.{distance_uncounted, middle_cells, ne
 use Rattle.trlab_traffic.proofs.{Capacities.speeds_total, FreeFlow.one_rule, Courses.run_like}
 use Rattle.trlab_traffic.proofs.{Courses.sum_of_standing, DetectingRuns.{counted_so, uncounted_so}}
 
--- the sum of two functions over the cars is the sum of their two sums
+-- a sum of sums
 sum_two : (f g : Car → ℕ) (xs : List Car) → sum_by (λ (c : Car). f c + g c) xs ≡ sum_by f xs + sum_by g xs
 sum_two f g [] = refl
 sum_two f g (x ∷ xs) =
@@ -35,7 +35,7 @@ sum_two f g (x ∷ xs) =
     let c = sum_by-cons g x xs in
     omega (arith, rest, a, b, c)
 
--- the speed of one car, plus 1 if it brakes at random, is at most the limit
+-- one car
 by_limit_each : (b : Bool) (s limit : ℕ) → 1 ≤ limit → s ≤ limit → brake b s + cond b 1 0 ≤ limit
 by_limit_each true s limit some low = omega (arith, some, low)
 by_limit_each false s limit some low = omega (arith, low)
@@ -53,7 +53,7 @@ pub run_cells : (seed : Seed) (sheet : Sheet) (step : ℕ) (road : Cells) (sum :
 run_cells seed sheet zero road sum comes = ap all_cells comes.1
 run_cells seed sheet (suc step) road sum comes = next_cells comes.2 (dice_at seed step) comes.0 road comes.3 comes.5.next ∙ run_cells seed sheet step comes.0 comes.1 comes.4
 
--- each random braking of a step has cost a cell: the distance plus the number of brakings is under the triangle
+-- one step
 record Costs (chance : ℕ → ℕ) (dice : Dice) (road : Cells) (distance : ℕ) : Type 0 where
   by_limit : distance + braking_cars chance dice road ≤ road.limit * cars road
   by_empty_cells : distance + braking_cars_with_gap chance dice road ≤ empty_cells road
@@ -101,7 +101,7 @@ module _ (chance : ℕ → ℕ) (rule : Programs) (moves : ComputesSpeed (λ vie
   step_costs dice old new tally legal is =
       subst (Costs chance dice old) (sym is.1.distance) (motion_costs chance rule.motion moves dice old new legal (motion_alone rule dice old new tally stays is))
 
-  -- each random braking of a run has cost a cell, because each step has this property
+  -- a run
   run_costs : (seed : Seed) (step : ℕ) (road : Cells) (sum : StepTally) (braked with_gap : ℕ) → IsLegal seed.road → ComesTo seed (always rule) step road sum
       → HasBraked chance seed (always rule) step braked with_gap → BrakingCosts seed.road (step - seed.warm) sum.distance braked with_gap
   run_costs seed zero road sum braked with_gap legal comes has =

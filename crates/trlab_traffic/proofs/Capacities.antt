@@ -90,14 +90,14 @@ next_cells rule dice road next tally is =
     same_cells is.0.lanes next.lanes moved.same_lanes (λ l h. (moved.each_lane l h).same_length)
     ∙ middle_cells rule.change dice road is.0 tally.changes is.1.lane_change
 
--- roads with as many cars and cells have as many empty cells
+-- and so its empty cells
 pub same_empty : (road other : Cells) → cars other ≡ cars road → all_cells other ≡ all_cells road → empty_cells other ≡ empty_cells road
 same_empty road other count cells =
     let a = taken_or_empty road in
     let b = taken_or_empty other in
     omega (arith, a, b, count, cells)
 
--- a distance of a step within the bounds of the triangle
+-- a distance within bounds
 record Within (road : Cells) (distance : ℕ) : Type 0 where
   by_cells : distance ≤ empty_cells road
   by_limit : distance ≤ road.limit * cars road
@@ -138,8 +138,7 @@ record OnItsWay (seed : Seed) (step : ℕ) (road : Cells) (sum : StepTally) : Ty
   cells : all_cells road ≡ all_cells seed.road
   within : IsDistanceUnderTriangle seed.road (step - seed.warm) sum.distance
 
--- a bound on the distance of the counted steps also holds with the next step: if it is counted (`one_more`), and if it
--- is not (`none_more`)
+-- the distance after one more step, whether or not it is counted
 one_more : (m n most step warm : ℕ) → m ≤ (step - warm) * most → n ≤ most → warm ≤ step → m + n ≤ (suc step - warm) * most
 one_more m n most step warm before now counted =
     let e : suc step - warm ≡ suc (step - warm) = omega arith in

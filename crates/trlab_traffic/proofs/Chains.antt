@@ -50,7 +50,7 @@ sets_sum (true ∷ ring) f =
     let d = sets_sum ring (λ (r : Ring). f (true ∷ r)) in
     omega (arith, split, a, b, c, d)
 
--- functions that agree on all rings of n cells have the same sum over them
+-- equal terms
 pub rings_same : (n : ℕ) (f g : Ring → ℕ) → ((r : Ring) → length r ≡ n → f r ≡ g r) → rings n f ≡ rings n g
 rings_same zero f g same = same [] refl
 rings_same (suc n) f g same =

@@ -17,7 +17,7 @@ one_of a true least is = refl
 one_of false false least is = absurd (omega (arith, least))
 one_of true false least is = absurd cc
 
--- the digits of two neighbouring cells add up to the number of cars in them
+-- two cells as digits
 two_cells : (lane : Lane) (x : ℕ) → x < length lane → window (digit_at lane) x 2 ≡ digit (is_taken lane x) + digit (is_taken lane (ahead (length lane) x 1))
 two_cells lane x low =
     let d = digit_at lane in

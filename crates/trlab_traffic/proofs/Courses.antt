@@ -144,7 +144,7 @@ run_like seed sheet (suc step) road sum legal comes =
     let before = run_like seed sheet step comes.0 comes.1 legal comes.4 in
     like_next seed.road comes.0 road before (next_legal_like comes.2 (dice_at seed step) comes.0 road comes.3 before.legal comes.5.next)
 
--- cars of a legal road with the same number have the same speed
+-- a number has one speed on a legal road
 pub one_speed : (road : Cells) (car other : Car) → IsLegal road → IsAt road car → IsAt road other → car.number ≡ other.number → car.speed ≡ other.speed
 one_speed road car other legal here there same =
     let place = legal.once car other here there same in

@@ -35,7 +35,7 @@ same_drawn chance a b is low high =
       | inr certain ↦ lt-ltb (a / 2) chance (omega (arith, certain, low)) ∙ sym (lt-ltb (b / 2) chance (omega (arith, certain, high)))
     ]
 
--- all these random words have 32 bits
+-- words of 32 bits
 abbrev Small : List ℕ → Type 0
 Small words = (k : ℕ) → slice_index words k < 2 ^ 32
 
@@ -268,7 +268,7 @@ module _ (lanes cells limit n : ℕ) where
       (λ x h. same_cell (at (lane_of road l) x) (at (lane_of other l) x) (λ number speed. kept road other a b same l x number speed) (λ number speed. kept other road b a (sym same) l x number speed))) in
       ap (λ p. made p road.lanes) (a.same_limit ∙ sym b.same_limit) ∙ ap (made other.limit) cells_same
 
--- lanes of the same length have this length times their number of cells
+-- lanes of one length
 equal_cells : (lanes : List Lane) (n : ℕ) → ((l : ℕ) → l < length lanes → length (get_or lanes l []) ≡ n) → sum_by lane_cells lanes ≡ length lanes * n
 equal_cells [] n each = omega arith
 equal_cells (lane ∷ lanes) n each =

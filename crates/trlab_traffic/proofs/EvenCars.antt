@@ -40,7 +40,7 @@ spread cells n u v some before =
     let fits : (p + q) * n ≤ v * cells = omega (arith, a, b, step) in
     (le-div_iff_mul-le {k = n} {x = p + q} {y = v * cells} some).1 fits
 
--- the next car is less than cells / n + 2 cells further on
+-- and the next car is no further away than this
 near : (cells n u : ℕ) → 0 < n → place cells n (u + 1) < place cells n u + cells / n + 2
 near cells n u some =
     let p = place cells n u in
@@ -50,7 +50,7 @@ near cells n u some =
     let fits : (u + 1) * cells < (p + q + 2) * n = omega (arith, a, b) in
     (div-lt_iff_lt-mul {k = n} {x = (u + 1) * cells} {y = p + q + 2} some).1 fits
 
--- the place of car u + n is that of car u, a lap further on
+-- a lap further on
 again : (cells n u : ℕ) → 0 < n → place cells n (u + n) ≡ place cells n u + cells
 again cells n u some = ap (λ k. k / n) (add-mul u n cells) ∙ add-mul-div_left (u * cells) cells some
 
@@ -74,7 +74,7 @@ module _ (cells n : ℕ) (lane : Lane) (even : IsEvenlySpacedLane 1 cells n 0 la
         stopped = (some_pair_parts number number speed 0 (sym here ∙ sym (ap (at lane) to) ∙ stands number is.numbered)).1;
       }
 
-  -- the gap of each car is at least cells / n - 1
+  -- up to this distance ahead of a car there is no other
   pub gap_low : (x number speed : ℕ) → at lane x ≡ Some (number, speed) → cells / n ≤ gap lane x + 1
   gap_low x number speed here =
       let i = number in
@@ -117,7 +117,7 @@ module _ (cells n : ℕ) (lane : Lane) (even : IsEvenlySpacedLane 1 cells n 0 la
                 omega (arith, a, b, e, round, own, least, most, quotient)
           ])
 
-  -- the gap of each car is at most cells / n
+  -- and the next car is not much further ahead
   pub gap_high : (x number speed : ℕ) → 1 ≤ cells / n → at lane x ≡ Some (number, speed) → gap lane x ≤ cells / n
   gap_high x number speed some_room here =
       let i = number in

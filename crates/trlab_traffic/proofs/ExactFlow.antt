@@ -103,7 +103,7 @@ distance_is p ring e =
     ∙ distances_are p q first ring
     ∙ ap (λ c. c ^ trues ring * (q * free first ring)) e
 
--- the sum over rings of a sum over k is the sum over k of sums over rings
+-- sums by clusters
 rings_total : (n m : ℕ) (f : ℕ → Ring → ℕ) → rings n (λ (r : Ring). total (λ k. f k r) m) ≡ total (λ k. rings n (f k)) m
 rings_total n zero f = nothing n (λ (r : Ring). 0) (λ r. refl)
 rings_total n (suc m) f =

@@ -32,7 +32,7 @@ answer_is speed rule dice road car v moves legal here answers =
     let words = words_of dice car.number in
     one_answer_each rule.motion dice road car v (speed view words) answers (moves view words (motion_view_is_view road car legal here))
 
--- a car that does not brake keeps its speed
+-- with probability 0 no car brakes at random
 pub no_brake : (b : Bool) (v : ℕ) → b ≡ false → brake b v ≡ v
 no_brake true v none = absurd cc
 no_brake false v none = refl

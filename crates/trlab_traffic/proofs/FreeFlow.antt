@@ -163,7 +163,7 @@ free_flow_goes_on rule dice old new tally is legal free next =
     let motion = free_motion rule dice old new tally is legal free next in
     (free_go old new motion, free_after old new motion free)
 
--- if a function has the same value v for all cars of a list, its sum is their number times v
+-- cars of one speed
 pub sum_by-same : (f : Car → ℕ) (v : ℕ) (xs : List Car) → All (λ car. f car ≡ v) xs → sum_by f xs ≡ length xs * v
 sum_by-same f v [] all = omega arith
 sum_by-same f v (x ∷ xs) all =

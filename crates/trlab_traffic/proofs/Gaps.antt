@@ -24,7 +24,7 @@ same_way n x i j low high same =
     let b : x + j ≡ j + x = omega arith in
     ahead_once n i j x low high (sym (ap (λ k. k % n) a) ∙ same ∙ ap (λ k. k % n) b)
 
--- a whole lap leads back to the same place
+-- a whole lap
 round : (n x : ℕ) → x < n → ahead n x n ≡ x
 round n x low = add-mod_right x n ∙ mod-eq_of_lt low
 

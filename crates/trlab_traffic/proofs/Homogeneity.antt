@@ -36,11 +36,11 @@ module _ (r : ℕ) (road : Cells) (car : Car) (here : IsAt (rotate_road r road) 
   some_cell : 0 < length (lane_of road car.lane)
   some_cell = let low = place_low in omega (arith, low)
 
-  -- the car is on the road that was not rotated
+  -- it is there
   pub stood : IsAt road (car_before r road car)
   stood = sym (turned_at r (lane_of road car.lane) car.place place_low) ∙ on_own
 
-  -- on the rotated road a car has the view that it has on the road that was not rotated
+  -- and has the same view
   pub motion_view_turned : motion_view_of (rotate_road r road) car ≡ motion_view_of road (car_before r road car)
   motion_view_turned =
       let own = lane_of road car.lane in

@@ -29,7 +29,7 @@ ahead_none n x low = let e : x + 0 ≡ x = omega arith in ap (λ k. k % n) e ∙
 pub ahead_more : (n x i j : ℕ) → ahead n (ahead n x i) j ≡ ahead n x (i + j)
 ahead_more n x i j = let e : x + i + j ≡ x + (i + j) = omega arith in mod-add-mod (x + i) n j ∙ ap (λ k. k % n) e
 
--- i cells and then j cells ahead lead to the same cell as j cells and then i cells
+-- in either order
 pub ahead_swap : (n x i j : ℕ) → ahead n (ahead n x i) j ≡ ahead n (ahead n x j) i
 ahead_swap n x i j = let e : i + j ≡ j + i = omega arith in ahead_more n x i j ∙ ap (ahead n x) e ∙ sym (ahead_more n x j i)
 
@@ -57,7 +57,7 @@ behind_ahead n x low =
 pub ahead_behind : (n x : ℕ) → x < n → behind n (ahead n x 1) 1 ≡ x
 ahead_behind n x low = ahead_swap n x 1 (n - 1) ∙ behind_ahead n x low
 
--- each number up to n that passes a test is at most the largest one that does
+-- a number that passes is at most the largest that does
 at_least : (test : ℕ → Bool) (n g : ℕ) → g ≤ n → test g ≡ true → g ≤ largest test n
 at_least test zero g low passes = low
 at_least test (suc n) g low passes =
@@ -69,7 +69,7 @@ at_least test (suc n) g low passes =
       ])
     ]
 
--- the largest number up to n that passes a test is at most n
+-- the largest is within the bound
 greatest_within : (test : ℕ → Bool) (n : ℕ) → largest test n ≤ n
 greatest_within test zero = omega arith
 greatest_within test (suc n) =
@@ -156,7 +156,7 @@ total_next w (suc m) =
     (λ x low. let e : x + 1 ≡ suc x = omega arith in ap w (ap (λ k. k % n) e ∙ mod-eq_of_lt (let k : suc x < n = omega arith in k))) in
     omega (arith, last, first, rest)
 
--- a sum over all cells of a ring is the same from any cell on
+-- and at any cell
 pub total_turned : (w : ℕ → ℕ) (n r : ℕ) → total (λ x. w (ahead n x r)) n ≡ total w n
 total_turned w n zero = total_same (λ x. w (ahead n x 0)) w n (λ x low. ap w (ahead_none n x low))
 total_turned w n (suc r) =
@@ -166,7 +166,7 @@ total_turned w n (suc r) =
     ∙ total_next v n
     ∙ total_turned w n r
 
--- a sum is 0 if all its terms are
+-- a sum of zeros
 pub total_none : (w : ℕ → ℕ) (n : ℕ) → ((y : ℕ) → y < n → w y ≡ 0) → total w n ≡ 0
 total_none w zero none = refl
 total_none w (suc n) none =
@@ -197,7 +197,7 @@ pub total_add : (a b : ℕ → ℕ) (n : ℕ) → total (λ x. a x + b x) n ≡ 
 total_add a b zero = refl
 total_add a b (suc n) = let rest = total_add (λ x. a (suc x)) (λ x. b (suc x)) n in omega (arith, rest)
 
--- a sum of sums is the same in either order
+-- in either order
 pub total_swap : (f : ℕ → ℕ → ℕ) (m n : ℕ) → total (λ x. total (λ y. f x y) n) m ≡ total (λ y. total (λ x. f x y) m) n
 total_swap f m zero = total_none (λ x. 0) m (λ x low. refl)
 total_swap f m (suc n) =

@@ -92,7 +92,7 @@ uncounted_so : (b : Bool) (sum so_far tally : StepTally) → sum ≡ (if b then 
 uncounted_so true sum so_far tally is h = absurd (true≢false h)
 uncounted_so false sum so_far tally is h = is
 
--- the bound holds for k + 1 steps if it holds for k steps and for one more
+-- one more step
 more_steps : (n k d s d1 s1 : ℕ) → k * n ≤ d + s → n ≤ d1 + s1 → suc k * n ≤ d + d1 + (s + s1)
 more_steps n k d s d1 s1 before now = let e = suc-mul k n in omega (arith, before, now, e)
 
@@ -161,7 +161,7 @@ run_keeps_below_peak seed sheet step road sum legal comes =
 
 -- Lane changes: few of them.
 
--- the sum over the lanes of a road of two lanes has two terms
+-- sums over two lanes
 pub two_sum : (g : Lane → ℕ) (lanes : List Lane) → length lanes ≡ 2 → sum_by g lanes ≡ g (get_or lanes 0 []) + g (get_or lanes 1 [])
 two_sum g [] two = absurd (omega (arith, two))
 two_sum g (a ∷ []) two = absurd (omega (arith, two))

@@ -30,7 +30,7 @@ smallest_least f (suc n) j low =
       | inr before ↦ let rest = smallest_least f n j before in omega (arith, rest)
     ]
 
--- the smallest of the numbers f 0 to f n is one of them: f j
+-- and equals one of them
 record Attains (f : ℕ → ℕ) (n j : ℕ) : Type 0 where
   low : j ≤ n
   is : smallest_to n f ≡ f j
@@ -204,7 +204,7 @@ cars_at seed legal start sheet stays step road is =
     (λ none. absurd none) step road (subst (λ j. IsRoadAt seed sheet j road) (sym e) is) in
     record { car = a.now; far = a.gone; course = subst (λ j. Course seed sheet start.next (λ i. gap_of seed.road (start.car i)) j road a.now a.gone) e a.on_course }
 
--- the distance of a car in the k steps after step `begin`
+-- the distance of a car in k steps from some step on
 module _ (seed : Seed) (legal : IsLegal seed.road) (sheet : Sheet) (stays : EachRule StaysInLane sheet) (begin : ℕ) (Quick : Type 0)
     (quick : Quick → (step : ℕ) (road : Cells) (rule : Programs) (c : Car) (v : ℕ) → begin ≤ step → IsRoadAt seed sheet step road → in_force sheet step ≡ Some rule
     → IsLegalLike seed.road road → IsAt road c → AnswersSpeed rule.motion (dice_at seed step) road c v → min seed.road.limit (gap_of road c) ≤ v) where
@@ -235,7 +235,7 @@ module _ (seed : Seed) (legal : IsLegal seed.road) (sheet : Sheet) (stays : Each
         least = λ fast. let m = a.least fast n low in omega (arith, m, before, after, place);
       }
 
--- in a run from its start a car goes at most as far as the minimum principle allows, and exactly as far if `Quick` holds
+-- from the start on
 record FromStart (seed : Seed) (car : Car) (step far : ℕ) (Quick : Type 0) : Type 0 where
   most : far ≤ newell_distance seed.road.limit (lane_of seed.road car.lane) car.place step
   least : Quick → newell_distance seed.road.limit (lane_of seed.road car.lane) car.place step ≤ far
@@ -271,7 +271,7 @@ gap_answers rule seed is t road other c v under like there answers =
     let limit : min road.limit (gap_of road c) ≡ min seed.road.limit (gap_of road c) = ap (λ k. min k (gap_of road c)) like.same_limit in
     omega (arith, answer, limit)
 
--- the speed of a car in the Nagel-Schreckenberg model without randomization
+-- and without randomization
 safe_answer : (rule : Programs) (seed : Seed) → IsNasch 0 rule → (step : ℕ) (road : Cells) (other : Programs) (c : Car) (v : ℕ) → in_force (always rule) step ≡ Some other
     → IsLegalLike seed.road road → IsAt road c → AnswersSpeed other.motion (dice_at seed step) road c v → v ≡ min (min (c.speed + 1) seed.road.limit) (gap_of road c)
 safe_answer rule seed is t road other c v under like there answers =
@@ -297,7 +297,7 @@ ready_answers rule seed is legal t road other c v late at_step under like there 
       | inr gained ↦ omega (arith, safe, gained, late)
     ]
 
--- without randomization a car moves at least by its gap or by v_max, whichever is smaller, once cars have had time to accelerate
+-- as under each rule without randomization
 answers_of : (rule : Programs) (seed : Seed) (delay begin : ℕ) → AcceleratesIn seed.road.limit delay rule → IsLegal seed.road → delay ≤ begin → (step : ℕ) (road : Cells) (other : Programs) (c : Car) (v : ℕ) → begin ≤ step
     → IsRoadAt seed (always rule) step road → in_force (always rule) step ≡ Some other → IsLegalLike seed.road road → IsAt road c → AnswersSpeed other.motion (dice_at seed step) road c v → min seed.road.limit (gap_of road c) ≤ v
 answers_of rule seed delay begin (inl nasch) legal late step road other c v after is under like there answers =

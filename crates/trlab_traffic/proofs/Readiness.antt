@@ -161,7 +161,7 @@ tight_gap limit lane x car here some =
     let before = blocked lane x (gap lane x) (i + 1) ((suc x + i) % length lane) there.0 (clear_within_gap lane x (gap lane x) (omega arith)) there.1 (omega arith) (ap (λ k. k % length lane) e) in
     omega (arith, before, below)
 
--- if the limit times a is at most the limit times b, a is at most b
+-- as many steps as cars
 each_has_one : (limit a b : ℕ) → 1 ≤ limit → limit * a ≤ limit * b → a ≤ b
 each_has_one limit a b some less =
     elim (cases_lt b a) [

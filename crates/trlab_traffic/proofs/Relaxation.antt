@@ -15,7 +15,7 @@ use Rattle.trlab_traffic.proofs.{Regimes.{nasch_moves_by, safe_by, slow_moves_by
 use Rattle.trlab_traffic.proofs.{Leaping.leaps_itself, Readiness.{AreQuick, settles, quickens, Leaping}}
 use Rattle.trlab_traffic.proofs.Readiness.{Suffices, OnWay, ready, leapt_far, leap_on}
 
--- if some steps suffice for a lane to relax, more steps suffice too
+-- more steps suffice too
 pub more_suffice : (limit cells count a b : ℕ) → Suffices limit cells count a → a ≤ b → Suffices limit cells count b
 more_suffice limit cells count a b soon more =
     let e : a + (b - a) ≡ b = omega (arith, more) in

@@ -79,7 +79,7 @@ module _ (braking : ℕ → Bool) (answer : ℕ → ℕ) (old new : Lane) (m : L
       let to : ahead (length old) x (answer x) ≡ y = ap (ahead (length old) x) one ∙ behind_ahead (length old) y low in
       taken y found.0.0 (answer x) (subst (λ k. at new k ≡ Some (found.0.0, answer x)) to (m.arrives x found.0.0 found.0.1 found.1))
 
-  -- the cell of a car that does not move is taken after the step
+  -- a car stays
   stays : (y : ℕ) (car : ℕ × ℕ) → at old y ≡ Some car → going braking old y ≡ false → is_some (at new y) ≡ true
   stays y car here still =
       let none = answer_is y car here ∙ ap (λ b. cond b 1 0) still in
@@ -141,7 +141,7 @@ taken_is p dice lane x =
     ∙ ap (λ b. (is_some (at lane x) && not (going braking lane x)) || b) (moves_is p dice lane back)
     ∙ ap (λ n. (is_some (at lane x) && not (going braking lane x)) || going braking lane (behind n x 1)) (ring_long lane)
 
--- with the limit 1 a car moves by its gap or by 1, whichever is smaller, whatever its speed was
+-- the speeds
 slow : (speed gap : ℕ) → min (min (speed + 1) 1) gap ≡ min 1 gap
 slow speed gap = omega arith
 

@@ -18,7 +18,7 @@ greatest_same test other zero same = refl
 greatest_same test other (suc n) same =
     ap (λ (b : Bool). cond b (suc n) (largest test n)) (same (suc n)) ∙ ap (λ k. cond (other (suc n)) (suc n) k) (greatest_same test other n same)
 
--- if the cells over two distances have the same contents, both distances are clear or neither is
+-- distances over equal cells are equally clear
 clear_same : (lane other : Lane) (way there : ℕ → ℕ) (g : ℕ) → ((j : ℕ) → at lane (way j) ≡ at other (there j)) → is_clear lane way g ≡ is_clear other there g
 clear_same lane other way there zero same = refl
 clear_same lane other way there (suc g) same =
@@ -88,7 +88,7 @@ turned_more a b road =
     (length-map (map (rotate_lane b) road.lanes) (rotate_lane a) ∙ length-map road.lanes (rotate_lane b) ∙ sym (length-map road.lanes (rotate_lane (a + b))))
     (λ l on. lane_turned a (rotate_road b road) l ∙ ap (rotate_lane a) (lane_turned b road l) ∙ lane_turned_more a b (lane_of road l) ∙ sym (lane_turned (a + b) road l))
 
--- the cell j cells ahead on a rotated lane is the one that was r cells further ahead
+-- the cells ahead
 pub turned_ahead : (r : ℕ) (lane : Lane) (x j : ℕ) → 0 < length lane → at (rotate_lane r lane) (ahead (length lane) x j) ≡ at lane (ahead (length lane) (ahead (length lane) x r) j)
 turned_ahead r lane x j some =
     turned_at r lane (ahead (length lane) x j) (ahead_below (length lane) x j some) ∙ ap (at lane) (ahead_swap (length lane) x j r)

@@ -27,7 +27,7 @@ total_less f g (suc n) (suc k) each low less =
     let rest = total_less (λ i. f (suc i)) (λ i. g (suc i)) n k (λ i low. each (suc i) (omega (arith, low))) (omega (arith, low)) less in
     omega (arith, first, rest)
 
--- if v times a is below v times n, a is below n
+-- fewer steps than cars
 fewer : (v a n : ℕ) → v * a < v * n → a < n
 fewer v a n less =
     elim (cases_lt a n) [

@@ -116,7 +116,7 @@ module _ (v : ℕ) (road : Cells) (legal : IsLegal road) where
             legal.once (car_in car.lane car.place car.number was.before) (car_in other.lane other.place other.number also.before) was.was also.was same;
       }
 
-  -- the cars of a road with changed speeds have the gaps that they had
+  -- and it has the gaps that it had
   sped_room : (g : ℕ) → ((car : Car) → IsAt road car → g ≤ gap (lane_of road car.lane) car.place) → (car : Car) → IsAt (sped_road v road) car → g ≤ gap (lane_of (sped_road v road) car.lane) car.place
   sped_room g room car here =
       let was = was_there car here in

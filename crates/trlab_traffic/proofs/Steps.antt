@@ -56,7 +56,7 @@ middle_like (Some change) dice road middle changes legal phase =
       same_count = lane_change_same_count crosses road middle legal crossed free;
     }
 
--- the road after a motion is legal, and like the road before it
+-- and after the motion
 pub moved_like : (motion : CheckedProgram) (dice : Dice) (road next : Cells) → IsLegal road → IsMotionPhase motion dice road next → IsLegalLike road next
 moved_like motion dice road next legal phase =
     let speeds = phase.0 in

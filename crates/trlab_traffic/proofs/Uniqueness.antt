@@ -13,7 +13,7 @@ use Rattle.trlab_traffic.proofs.{Stationary.weights_are_stationary, Hops.{has_ot
 use Rattle.trlab_traffic.proofs.{RingWords.by_new, Clusters.{each_cell, falses, same, same_not, same_self}}
 use Rattle.trlab_traffic.proofs.Hops.{before_hop, after_hop, others, hop_long, hop_cars, leads_on, is_itself}
 
--- a product of positive numbers is positive
+-- products
 some_product : (a b : ℕ) → 0 < a → 0 < b → 0 < a * b
 some_product zero b some other = absurd (omega (arith, some))
 some_product (suc a) zero some other = absurd (omega (arith, other))

@@ -59,7 +59,7 @@ gap_none lane x next there =
       | inr none ↦ omega (arith, none)
     ]
 
--- a car with an empty cell ahead has a gap
+-- and a car in front of an empty cell has one
 pub gap_some : (lane : Lane) (x : ℕ) (car : ℕ × ℕ) → at lane x ≡ Some car → at lane (ahead (length lane) x 1) ≡ None → 1 ≤ gap lane x
 gap_some lane x car here free =
     let low = inside lane x car here in
@@ -175,7 +175,7 @@ slow_speeds old new motion one l x number speed here =
     ∙ ap (λ (limit : ℕ). min (min (speed + 1) limit) (gap (lane_of old l) x)) one
     ∙ slow speed (gap (lane_of old l) x)
 
--- each lane follows rule 184
+-- each lane follows the rule
 lane_by_184 : (old new : Cells) (motion : SafeMotion old new) → old.limit ≡ 1 → (l : ℕ) → l < length old.lanes → IsElementaryStep 184 (lane_of old l) (lane_of new l)
 lane_by_184 old new motion one l on =
     by_184 (motion.speeds l) (lane_of old l) (lane_of new l) (motion.moves.each_lane l on) (slow_speeds old new motion one l)

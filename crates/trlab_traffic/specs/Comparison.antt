@@ -27,9 +27,8 @@ pub record IsNoFasterStep (road : Cells) (fast slow : StepTally) : Type 0 where
   pub cell_each : fast.distance ≤ slow.distance + cars road
   pub no_fewer_stop : fast.stopped ≤ slow.stopped
 
--- in the Nagel-Schreckenberg model a step with braking probability q / 2 ^ 31 (the rule `heavy`) is no faster
--- than one with p / 2 ^ 31 (the rule `light`), if p is at most q; both start from the same legal road, with
--- the same dice
+-- in the Nagel-Schreckenberg model a step with braking probability q / 2 ^ 31 is no faster than one with
+-- p / 2 ^ 31, if p is at most q; both start from the same legal road, with the same dice
 abbrev pub RandomizationSlowsSteps : Type 0
 RandomizationSlowsSteps =
     (p q : ℕ) (light heavy : Programs) (dice : Dice) (road next other : Cells) (fast slow : StepTally)
@@ -106,12 +105,10 @@ SafeChangesCostNobodyInVdr =
 -- after `step` steps no car has gone further, and if every step is counted (`warm` is 0), the distance of all
 -- cars together is not larger
 pub record IsNoFaster (seed : Seed) (slow fast : Sheet) (step : ℕ) : Type 0 where
-  pub each_car : (number slow_distance fast_distance : ℕ)
-      → HasGone seed slow step number slow_distance → HasGone seed fast step number fast_distance
-      → slow_distance ≤ fast_distance
-  pub all_cars : (slow_road fast_road : Cells) (slow_sum fast_sum : StepTally) → seed.warm ≡ 0
-      → ComesTo seed slow step slow_road slow_sum → ComesTo seed fast step fast_road fast_sum
-      → slow_sum.distance ≤ fast_sum.distance
+  pub each_car : (number far most : ℕ)
+      → HasGone seed slow step number far → HasGone seed fast step number most → far ≤ most
+  pub all_cars : (road other : Cells) (sum most : StepTally) → seed.warm ≡ 0
+      → ComesTo seed slow step road sum → ComesTo seed fast step other most → sum.distance ≤ most.distance
 
 -- a rule accelerates by at most one: for every view in range and all random words its motion program answers
 -- at most the car's speed plus one
@@ -179,7 +176,7 @@ SlowStartsSlowRuns =
     → IsNoFaster seed (always heavy) (always light) step
 
 -- Attractiveness (Liggett 1985) of the Nagel-Schreckenberg model with v_max = 1: if each car on one road is
--- at least as far ahead as the same car on another road, it stays so under the same random words.
+-- at least as far ahead as the same car on another road, this stays so under the same random words.
 
 -- `further` is the same car as `car`, on another road with the same lanes: it is on the same lane, `lead`
 -- cells ahead of the place that `car` has on `road`
@@ -202,8 +199,8 @@ pub record IsOrdered (lead : ℕ → ℕ) (rear front : Cells) : Type 0 where
       → gap (lane_of front there.car.lane) there.car.place + lead number
       ≡ gap (lane_of rear here.car.lane) here.car.place + lead next
 
--- `rear` and `front` are the roads after a step. The lead of a car on `front` was `lead` before the step, and
--- is now `later`: it has grown by the car's speed on `front`, and shrunk by its speed on `rear`
+-- a car that has moved by its speed on the roads `rear` and `front` had the lead `lead` before, and now
+-- `later`
 pub record LeadsFollowSpeeds (lead later : ℕ → ℕ) (rear front : Cells) : Type 0 where
   pub by_speeds : (car same : Car) → IsAt rear car → IsAt front same → same.number ≡ car.number
       → later car.number + car.speed ≡ lead car.number + same.speed
@@ -226,10 +223,9 @@ StepKeepsOrder =
 -- `heavy`
 pub record LeadsFollowDistances (seed : Seed) (front : Cells) (light heavy : Programs) (step : ℕ)
     (lead later : ℕ → ℕ) : Type 0 where
-  pub by_distances : (number rear_distance front_distance : ℕ)
-      → HasGone seed (always heavy) step number rear_distance
-      → HasGone (seed_from seed front) (always light) step number front_distance
-      → later number + rear_distance ≡ lead number + front_distance
+  pub by_distances : (number far most : ℕ) → HasGone seed (always heavy) step number far
+      → HasGone (seed_from seed front) (always light) step number most
+      → later number + far ≡ lead number + most
 
 -- in the Nagel-Schreckenberg model with v_max = 1 two runs from legal roads in order stay in order, with
 -- the same key and road number: no car of the run from the rear road, under the braking probability

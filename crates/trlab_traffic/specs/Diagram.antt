@@ -16,12 +16,12 @@ abbrev pub FlowsOnTriangle : Seed → ℕ → StepTally → Type 0
 FlowsOnTriangle seed step sum = sum.distance ≡ counted_steps seed step * max_distance seed.road
 
 -- a lane or road whose cars need `delay` steps to reach v_max, the limit, and can together move at most
--- `max_step` cells per step, has relaxed at step `step` if the first `delay` steps are over and one car at
--- v_max can move `max_step` cells from then until the end of this step. So with N cars and E empty cells,
+-- `most` cells per step, has relaxed at step `step` if the first `delay` steps are over and one car at
+-- v_max can move `most` cells from then until the end of this step. So with N cars and E empty cells,
 -- `step` is at least `delay`, and at least delay - 1 + min(N, E / v_max)
-pub record HasRelaxed (limit delay max_step step : ℕ) : Type 0 where
+pub record HasRelaxed (limit delay most step : ℕ) : Type 0 where
   pub to_accelerate : delay ≤ step
-  pub to_spread : max_step ≤ limit * (step + 1 - delay)
+  pub to_spread : most ≤ limit * (step + 1 - delay)
 
 -- in the Nagel-Schreckenberg model without randomization the flow of a run from any legal road of one lane
 -- is min(v_max * density, 1 - density) if it has relaxed at step `warm`
@@ -42,8 +42,8 @@ NaschReachesTriangleByLane =
     (rule : Programs) (seed : Seed) (step : ℕ) (road : Cells) (sum : StepTally)
     → IsNasch 0 rule → IsLegal seed.road
     → ((l : ℕ) → l < length seed.road.lanes
-    → let max_step = lane_max_distance seed.road.limit (lane_of seed.road l) in
-    HasRelaxed seed.road.limit seed.road.limit max_step seed.warm)
+    → let most = lane_max_distance seed.road.limit (lane_of seed.road l) in
+    HasRelaxed seed.road.limit seed.road.limit most seed.warm)
     → ComesTo seed (always rule) step road sum
     → sum.distance ≡ counted_steps seed step * sum_by (lane_max_distance seed.road.limit) seed.road.lanes
 

@@ -82,9 +82,8 @@ pub record ShareLane (l : ℕ) (road other : Cells) : Type 0 where
 -- share lane `l`, so do their next roads, `next` and `next_other`, under the same rule and with the same dice
 abbrev pub StepKeepsLanesApart : Type 0
 StepKeepsLanesApart =
-    (rule : Programs) (dice : Dice) (road other next next_other : Cells)
-    (tally other_tally : StepTally) (l : ℕ)
-    → StaysInLane rule → IsNext rule dice road next tally → IsNext rule dice other next_other other_tally
+    (rule : Programs) (dice : Dice) (road other next next_other : Cells) (tally count : StepTally) (l : ℕ)
+    → StaysInLane rule → IsNext rule dice road next tally → IsNext rule dice other next_other count
     → ShareLane l road other → ShareLane l next next_other
 
 -- without lane changes the run of lane `l` does not depend on the other lane: if two starts share lane `l`,
@@ -92,10 +91,9 @@ StepKeepsLanesApart =
 -- number
 abbrev pub RunKeepsLanesApart : Type 0
 RunKeepsLanesApart =
-    (seed : Seed) (start : Cells) (sheet : Sheet) (step : ℕ) (road other : Cells)
-    (sum other_sum : StepTally) (l : ℕ)
-    → EachRule StaysInLane sheet → ComesTo seed sheet step road sum
-    → ComesTo (record seed { road = start }) sheet step other other_sum
+    (seed : Seed) (start : Cells) (sheet : Sheet) (step : ℕ) (road other : Cells) (sum count : StepTally)
+    (l : ℕ) → EachRule StaysInLane sheet → ComesTo seed sheet step road sum
+    → ComesTo (record seed { road = start }) sheet step other count
     → ShareLane l seed.road start → ShareLane l road other
 
 -- The light cone without lane changes: within t steps a car influences only cells up to v_max * t cells

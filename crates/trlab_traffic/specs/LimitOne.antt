@@ -21,9 +21,9 @@ abbrev pub digit : Bool → ℕ
 digit taken = if taken then 1 else 0
 
 -- is a cell taken after a step of Wolfram's elementary automaton `number`? It is if digit k of `number` in
--- binary, counted from 0 at the right, is 1. The three binary digits of k are the states before the step of
--- the cell behind, the cell itself (`own`) and the cell ahead, 1 if taken. For example, 184 is 10111000, and
--- the states 1, 0, 0 give k = 4: digit 4 of 184 is 1, because the car behind moves into the cell
+-- binary, counted from 0 at the right, is 1; the binary digits of k are the cells behind, own and ahead
+-- before the step, 1 if taken. For example, 184 is 10111000, and cells 1, 0, 0 give k = 4: a car comes from
+-- behind
 abbrev pub elementary_rule : ℕ → Bool → Bool → Bool → Bool
 elementary_rule number behind own ahead =
     nat_eq (number / 2 ^ (4 * digit behind + 2 * digit own + digit ahead) % 2) 1

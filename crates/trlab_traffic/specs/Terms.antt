@@ -28,7 +28,7 @@ counted_steps seed step = step - seed.warm
 
 -- the same seed with another initial road
 abbrev pub seed_from : Seed → Cells → Seed
-seed_from seed road = record seed { road = road }
+seed_from seed front = record seed { road = front }
 
 -- The cells of a road, taken or empty.
 

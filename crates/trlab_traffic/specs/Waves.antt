@@ -109,11 +109,10 @@ abbrev pub smallest_to : ℕ → (ℕ → ℕ) → ℕ
 smallest_to zero f = f 0
 smallest_to (suc n) f = min (smallest_to n f) (f (suc n))
 
--- how far the car at place x of a lane moves in `step` steps by Newell's minimum principle: each of the cars
--- ahead sets a bound, and the smallest bound counts. The j-th car ahead, for j = 0 to `step`, acts with a
--- delay of j steps, one from each car to the car behind it; in the other step - j steps it moves at
--- most limit * (step - j) cells, and all gaps up to it can be closed. For j = 0 it is the car itself, driving
--- at the limit
+-- how far the car at place x of a lane moves in `step` steps by Newell's minimum principle: the smallest of
+-- the bounds that are set by the j-th car ahead, for j = 0 to `step`. This car acts with a delay of j
+-- steps, one for each car between; by then it has moved at most limit * (step - j) cells, and all gaps up
+-- to it can be closed. For j = 0 it is the car itself, driving at the limit
 abbrev pub newell_distance : ℕ → Lane → ℕ → ℕ → ℕ
 newell_distance limit lane x step = smallest_to step (λ j. limit * (step - j) + gaps_ahead lane x j)
 
@@ -121,10 +120,10 @@ newell_distance limit lane x step = smallest_to step (λ j. limit * (step - j) +
 -- as far as the minimum principle allows
 abbrev pub MinimumPrinciple : Type 0
 MinimumPrinciple =
-    (rule : Programs) (seed : Seed) (step : ℕ) (car : Car) (distance : ℕ)
+    (rule : Programs) (seed : Seed) (step : ℕ) (car : Car) (far : ℕ)
     → ReachesSpeedAtOnce rule → IsLegal seed.road → IsAt seed.road car
-    → HasGone seed (always rule) step car.number distance
-    → distance ≡ newell_distance seed.road.limit (lane_of seed.road car.lane) car.place step
+    → HasGone seed (always rule) step car.number far
+    → far ≡ newell_distance seed.road.limit (lane_of seed.road car.lane) car.place step
 
 -- under such a rule, if every step is counted (`warm` is 0), the distance of a run is the sum of these
 -- distances over the cars of the initial road. So it follows from this road without computing any step
@@ -140,30 +139,28 @@ MinimumPrincipleGivesDistance =
 -- each car of a run from a legal road goes exactly as far as the minimum principle allows
 abbrev pub Rule184MinimumPrinciple : Type 0
 Rule184MinimumPrinciple =
-    (rule : Programs) (seed : Seed) (step : ℕ) (car : Car) (distance : ℕ)
+    (rule : Programs) (seed : Seed) (step : ℕ) (car : Car) (far : ℕ)
     → IsNasch 0 rule → IsLegal seed.road → seed.road.limit ≡ 1 → IsAt seed.road car
-    → HasGone seed (always rule) step car.number distance
-    → distance ≡ newell_distance seed.road.limit (lane_of seed.road car.lane) car.place step
+    → HasGone seed (always rule) step car.number far
+    → far ≡ newell_distance seed.road.limit (lane_of seed.road car.lane) car.place step
 
 -- without randomization the minimum principle holds from every step on at which cars have had time to reach
 -- v_max, in the Nagel-Schreckenberg model from step v_max on. A car of a run from a legal road has gone
--- `distance` cells at such a step, at which the road is `first`; in the next k steps it goes exactly as far as
--- the minimum principle allows from there, so that it has then gone `later_distance` cells
+-- `far` cells at such a step, where the road is `first`; in the next k steps it goes exactly as far as the
+-- minimum principle allows from there
 abbrev pub MinimumPrincipleLater : Type 0
 MinimumPrincipleLater =
-    (rule : Programs) (seed : Seed) (delay step k : ℕ) (first road : Cells) (car : Car)
-    (distance later_distance : ℕ)
+    (rule : Programs) (seed : Seed) (delay step k : ℕ) (first road : Cells) (car : Car) (far more : ℕ)
     → AcceleratesIn seed.road.limit delay rule → IsLegal seed.road → delay ≤ step
     → IsRoadAt seed (always rule) step first → IsAt first car → IsRoadAt seed (always rule) (step + k) road
-    → HasGone seed (always rule) step car.number distance
-    → HasGone seed (always rule) (step + k) car.number later_distance
-    → later_distance ≡ distance + newell_distance seed.road.limit (lane_of first car.lane) car.place k
+    → HasGone seed (always rule) step car.number far → HasGone seed (always rule) (step + k) car.number more
+    → more ≡ far + newell_distance seed.road.limit (lane_of first car.lane) car.place k
 
 -- under any sheet of rules without lane changes no car of a run from a legal road goes further than the
 -- minimum principle allows
 abbrev pub NobodyBeatsMinimumPrinciple : Type 0
 NobodyBeatsMinimumPrinciple =
-    (sheet : Sheet) (seed : Seed) (step : ℕ) (car : Car) (distance : ℕ)
+    (sheet : Sheet) (seed : Seed) (step : ℕ) (car : Car) (far : ℕ)
     → EachRule StaysInLane sheet → IsLegal seed.road → IsAt seed.road car
-    → HasGone seed sheet step car.number distance
-    → distance ≤ newell_distance seed.road.limit (lane_of seed.road car.lane) car.place step
+    → HasGone seed sheet step car.number far
+    → far ≤ newell_distance seed.road.limit (lane_of seed.road car.lane) car.place step

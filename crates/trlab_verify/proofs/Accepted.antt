@@ -5,7 +5,7 @@ use Rattle.std.proofs.{Common.leb-false, lemmas.Option.slice_get_within}
 use Rattle.trlab_code.specs.declared.program.Kind.{Kind, TheVariants.{Motion, Change}}
 use Rattle.trlab_code.specs.declared.instruction.Instr.{Instr, TheVariants.{Go, Cross, Stay}}
 use Rattle.trlab_code.specs.{Program.{Program, IsValidProgram}, Flow.{target, falls, is_end, on_target}}
-use Rattle.trlab_notes.{specs.{Reasons.is_allowed_in_both, Notes.Note}, proofs.Steps.{IsClear, clear, not_false}}
+use Rattle.trlab_notes.{specs.{Reasons.is_of_kind, Notes.Note}, proofs.Steps.{IsClear, clear, not_false}}
 use Rattle.trlab_verify.specs.{Verified.IsChecked, Verdict.{HasPath, IsLongest, IsForward, IsAccepted}}
 use Rattle.trlab_verify.proofs.{Reasons.noted, Runs.sound, Ways.{either_of, both_of}}
 
@@ -17,7 +17,7 @@ all_clear kind program accepted pc i e =
     (m, clear kind program.kind (length program.instrs) pc m i h)
 
 -- an end is allowed only in programs of one kind
-end_kind : (kind own : Kind) (i : Instr) → is_end i ≡ true → is_allowed_in_both kind own i ≡ true → own ≡ kind
+end_kind : (kind own : Kind) (i : Instr) → is_end i ≡ true → is_of_kind kind own i ≡ true → own ≡ kind
 end_kind Motion Motion i e h = refl
 end_kind Change Change i e h = refl
 end_kind Motion Change (Go a) e h = absurd (cc h)

@@ -11,7 +11,7 @@ use Rattle.trlab_notes.{specs.declared.note.AbstractValue.AbstractValue, proofs.
 use Rattle.trlab_notes.specs.{declared.reasons.Reason.{Reason, TheVariants.WrongProgram}, Transfer.next_note}
 use Rattle.trlab_notes.specs.Notes.{Note, with_side, value_with_side, level_between, known_level}
 use Rattle.trlab_notes.specs.Notes.{same_variable, entry, entry_values, entry_level, IsNoMorePrecise}
-use Rattle.trlab_notes.specs.{Notes.IsNoStronger, Reasons.{reason_against, reason_number, is_allowed_in_both}}
+use Rattle.trlab_notes.specs.{Notes.IsNoStronger, Reasons.{reason_against, reason_number, is_of_kind}}
 use Rattle.trlab_notes.proofs.{Monotone.{Reaches, clear_up, passes}, Steps.{IsClear, clear, not_false}}
 use Rattle.trlab_verify.specs.Verdict.{note_at, first_reason_at, reason_number_at, IsRefused}
 use Rattle.trlab_verify.proofs.{Checking.ChecksBy, Reasons.noted, Runs.fetch}
@@ -26,7 +26,7 @@ both_closed : Closed Both
 both_closed = record { regs = λ r. tt; limit = refl; gap = refl }
 
 -- an instruction that may appear in programs of both kinds reads variables that both may read
-reaches : (kind own : Kind) (i : Instr) → (kind ≡ own → ⊥) → is_allowed_in_both kind own i ≡ true → Reaches Both both_closed i
+reaches : (kind own : Kind) (i : Instr) → (kind ≡ own → ⊥) → is_of_kind kind own i ≡ true → Reaches Both both_closed i
 reaches Motion own (Get d Speed) ne h = refl
 reaches Motion own (Get d Limit) ne h = refl
 reaches Motion own (Get d Gap) ne h = refl
@@ -94,7 +94,7 @@ module _ (kind : Kind) (program : Program) (note : ℕ → Note) (checks : Check
   abbrev code : List Instr
   code = program.instrs
 
-  stands : (pc : ℕ) (i : Instr) → pc < at → slice_get code pc ≡ Some i → is_allowed_in_both kind program.kind i ≡ true
+  stands : (pc : ℕ) (i : Instr) → pc < at → slice_get code pc ≡ Some i → is_of_kind kind program.kind i ≡ true
   stands pc i lt e =
       let (m, em, h) = noted kind program pc i e (refused.first pc lt) in
       not_false _ (clear kind program.kind (length code) pc m i h).allowed

@@ -74,7 +74,7 @@ AreNotesOfRejected kind program table = (at : ℕ) × (reason : ℕ)
 abbrev pub mark_value : Mark → AbstractValue
 mark_value Unset = Unknown
 mark_value (Num lo hi) = Between lo hi
-mark_value (Flag implied) = Implies implied
+mark_value (Flag imp) = Implies imp
 
 -- the abstract value of a variable in a form: for a register, the value that its mark means, and `Unknown` if
 -- it has no mark; for an input, its range, or `Unknown` if programs of kind `kind` may not read it

@@ -90,13 +90,13 @@ IsSent kind code pc note =
     ((pc ≡ 0) × (note ≡ entry kind))
     ⊎ ((p : ℕ) × (p < pc) × Sends kind code p pc note)
 
--- the first reason against the instruction at pc, one of len instructions, in a program that names `own_kind` and
--- is judged as one of `kind`: `Unreachable` if it has no note, otherwise the first of the reasons 2 to 12 that
--- holds; `None` if none holds, or there is a note but no instruction
+-- the first reason against the instruction at pc, one of len instructions: `Unreachable` if it has no note,
+-- otherwise the first of the reasons 2 to 12 that holds; `None` if none holds, or there is a note but no
+-- instruction
 abbrev pub first_reason_at : Kind → Kind → ℕ → ℕ → Option Note → Option Instr → Option Reason
-first_reason_at kind own_kind len pc None instr = Some Unreachable
-first_reason_at kind own_kind len pc (Some note) None = None
-first_reason_at kind own_kind len pc (Some note) (Some instr) = reason_against kind own_kind len pc note instr
+first_reason_at kind own len pc None instr = Some Unreachable
+first_reason_at kind own len pc (Some note) None = None
+first_reason_at kind own len pc (Some note) (Some instr) = reason_against kind own len pc note instr
 
 -- the number of the first reason against the instruction of a program at pc, 1 to 12; `None` if no reason
 -- holds

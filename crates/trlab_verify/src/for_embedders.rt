@@ -38,7 +38,7 @@ fn follows(instr: Instr, pc: usize, q: usize) -> bool
     (instr.falls() && q == pc + 1) || jumps_to(instr, q)
 }
 
-/// Whether control may go from some instruction to the one at q.
+/// Whether some instruction leads to the one at q.
 fn is_reached(instrs: &[Instr], q: usize) -> bool
     requires { length instrs.now ≤ MAX_INSTRUCTIONS }
     ensures { IsTrue result ↔ ((pc : ℕ) × Follows instrs.now pc q) }
@@ -51,8 +51,7 @@ fn is_reached(instrs: &[Instr], q: usize) -> bool
     false
 }
 
-/// Whether the note that a form means is no stronger than `note`; false if a known level of the form is above
-/// `BELOW`.
+/// Whether the note that a form means is no stronger than another.
 fn is_within(kind: Kind, form: &Note, note: &StoredNote) -> bool
     ensures { IsTrue result ↔ IsNoStronger (meaning kind form.now) (note_of note.now) }
 {
@@ -75,7 +74,7 @@ fn checks_next(kind: Kind, table: &[Note], pc: usize, note: &StoredNote, instr: 
         return true;
     }
     match next_note(note, instr) {
-        Some(sent) => is_within(kind, &table[next], &sent),
+        Some(falling) => is_within(kind, &table[next], &falling),
         None => true,
     }
 }
@@ -92,8 +91,7 @@ fn checks_target(kind: Kind, table: &[Note], note: &StoredNote, instr: Instr) ->
     to >= table.len() || is_within(kind, &table[to], &jump_note(note, instr))
 }
 
-/// Whether a table checks at `pc`: its note there has no known level above 2, the instruction is reached, there is no
-/// reason to reject it, and the notes that it sends are at least as strong as those in the table.
+/// Whether a table checks at `pc`, and no known level there is above 2.
 fn checks_at(kind: Kind, instrs: &[Instr], table: &[Note], pc: usize) -> bool
     requires inside { pc < length instrs.now }
     requires at_most_max_instructions { length instrs.now ≤ MAX_INSTRUCTIONS }

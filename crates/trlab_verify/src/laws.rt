@@ -12,7 +12,7 @@ ghost use Rattle.trlab_verify.specs.Verdict.{IsSent, note_at, IsLongest, IsAccep
 ghost use Rattle.trlab_verify.specs.Verified.{IsChecked};
 ghost use Rattle.trlab_verify.specs.Tables.{IsNoStrongerThanVerdictNote, Checks, AreVerdictNotes, HasCertificate, note_in};
 
-/// Each program that is accepted as one of a kind is safe, with the length of its longest path as its budget.
+/// Each program that is accepted as one of a kind is safe within its longest path.
 pub fn accepted_is_safe()
     ensures { (kind : Kind) (program : Program) (budget : ℕ) →
         IsAccepted kind program → IsLongest program.instrs 0 budget → IsSafe kind program.instrs budget }

@@ -44,7 +44,7 @@ fn mark_value(mark: Mark) -> AbstractValue
     match mark {
         Mark::Unset => AbstractValue::Unknown,
         Mark::Num(low, high) => AbstractValue::Between(low, high),
-        Mark::Flag(implied) => AbstractValue::Implies(implied),
+        Mark::Flag(imp) => AbstractValue::Implies(imp),
     }
 }
 
@@ -55,12 +55,11 @@ fn mark_of(value: AbstractValue) -> Mark
     match value {
         AbstractValue::Unknown => Mark::Unset,
         AbstractValue::Between(low, high) => Mark::Num(low, high),
-        AbstractValue::Implies(implied) => Mark::Flag(implied),
+        AbstractValue::Implies(imp) => Mark::Flag(imp),
     }
 }
 
-/// The abstract values of the variables of a form, in the order of their numbers: the registers as the form marks them,
-/// the inputs as at the start of a program.
+/// The abstract values of a form's variables, in the order of their numbers.
 fn variables(kind: Kind, form: &Note) -> [AbstractValue; VARIABLES]
     ensures { (x : AVariable) → value_in result x ≡ form_value kind form.now x }
 {
@@ -71,8 +70,8 @@ fn variables(kind: Kind, form: &Note) -> [AbstractValue; VARIABLES]
     variables
 }
 
-/// Whether no known level of the variable with the number x to another is above `BELOW`.
-fn are_valid_from(values: &[AbstractValue; VARIABLES], levels: &[u8; VARIABLES], x: usize) -> bool
+/// Whether no known level of the variable with the number x is above `BELOW`.
+fn has_levels_from(values: &[AbstractValue; VARIABLES], levels: &[u8; VARIABLES], x: usize) -> bool
     requires { x < VARIABLES }
     ensures { IsTrue result ↔ ((y : ℕ) → y < VARIABLES →
         known_level_from values.now x y (slice_index levels.now y) ≤ BELOW) }
@@ -86,11 +85,11 @@ fn are_valid_from(values: &[AbstractValue; VARIABLES], levels: &[u8; VARIABLES],
 }
 
 /// Whether no known level is above `BELOW`, the largest level.
-fn are_valid(values: &[AbstractValue; VARIABLES], levels: &[[u8; VARIABLES]; VARIABLES]) -> bool
+fn has_levels(values: &[AbstractValue; VARIABLES], levels: &[[u8; VARIABLES]; VARIABLES]) -> bool
     ensures { IsTrue result ↔ AreValidLevels values.now levels.now }
 {
     for x in 0..VARIABLES {
-        if !are_valid_from(values, &levels[x], x) {
+        if !has_levels_from(values, &levels[x], x) {
             return false;
         }
     }
@@ -104,7 +103,7 @@ pub fn read(kind: Kind, form: &Note) -> Option<StoredNote>
     ensures stored { IfSome result (λ stored. note_of stored ≡ closure (meaning kind form.now)) }
 {
     let values = variables(kind, form);
-    if !are_valid(&values, &form.levels) {
+    if !has_levels(&values, &form.levels) {
         return None;
     }
     Some(StoredNote::new(values, &form.levels, form.side))
@@ -126,8 +125,7 @@ pub fn write(kind: Kind, note: &StoredNote) -> Note
     }
 }
 
-/// The form of the entry note, with the levels at the start of a program; the stored note has also those that follow
-/// from its ranges, which a form need not list.
+/// The form of the entry note. Its levels are the levels at the start of a program, except those that ranges imply.
 pub fn first_note(kind: Kind) -> Note
     ensures { meaning kind result ≡ entry kind }
 {

@@ -93,7 +93,6 @@ impl<K: ProgramKind> Model for AcceptedProgram<K> {
 }
 
 impl<K: ProgramKind> AcceptedProgram<K> {
-    /// The accepted program of a code, with the length of its longest path as its budget.
     pub(crate) fn new(code: Code, budget: u32) -> AcceptedProgram<K>
         requires { IsChecked K.KIND (record { program = code; budget = budget }) }
         ensures program { result.program ≡ code }

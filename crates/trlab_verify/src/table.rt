@@ -35,8 +35,7 @@ impl From<AllocError> for NotesFault {
     }
 }
 
-/// The form of the stored note of the instruction at `pc`. The first one is written without the levels that follow from
-/// ranges, as the entry note is defined.
+/// The form of the stored note of the instruction at `pc`. The first form has only the levels at the start.
 fn write_at(kind: Kind, pc: usize, stored: &StoredNote) -> Note
     requires { HasInputRanges kind (note_of stored.now) }
     ensures first { pc ≡ 0 → meaning kind result ≡ entry kind }
@@ -117,7 +116,7 @@ pub fn notes(alloc: Global, code: &Code) -> Result<Vec<Note>, NotesFault>
     judge_notes(alloc, kind, instrs, &mut stored)
 }
 
-/// The number of instructions with a note if the verdict is this rejection: an unreachable instruction has none.
+/// The number of instructions with a note if the verdict is this rejection.
 fn noted_count(rejection: Rejection) -> usize
     ensures { result ≡ noted_count rejection.at (reason_number rejection.reason) }
 {

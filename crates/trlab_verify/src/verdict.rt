@@ -13,8 +13,7 @@ use std::alloc::{AllocError, Global};
 use trlab_code::{Code, Instr, Kind, MAX_INSTRUCTIONS};
 use trlab_notes::{Reason, StoredNote, join, join_itself, jump_note, next_note, reason_against};
 
-/// Joins a note with the notes that arrived at `pc` before. The first one is joined with itself, so that its flags
-/// include its knowledge of the side cell, as those of every join do.
+/// Joins a note with the notes that arrived at `pc` before.
 fn add_incoming(notes: &mut [Option<StoredNote>], pc: usize, note: StoredNote)
     requires { pc < length notes.old }
     ensures { (q : ℕ) → stored_note_at notes.new q ≡ (if nat_eq q pc
@@ -39,8 +38,8 @@ fn send_next(notes: &mut [Option<StoredNote>], pc: usize, note: &StoredNote, ins
     if next >= notes.len() {
         return;
     }
-    if let Some(sent) = next_note(note, instr) {
-        add_incoming(notes, next, sent);
+    if let Some(falling) = next_note(note, instr) {
+        add_incoming(notes, next, falling);
     }
 }
 
@@ -70,7 +69,7 @@ pub fn send(notes: &mut [Option<StoredNote>], pc: usize, note: &StoredNote, inst
     send_jump(notes, note, instr);
 }
 
-/// A rejection: the first rejected instruction, counted from 0, and the first reason there.
+/// The first rejected instruction, counted from 0, and the first reason there.
 #[derive(Clone, Copy)]
 pub struct Rejection {
     pub at: u32,
@@ -93,11 +92,10 @@ pub fn start_notes(
     Ok(notes)
 }
 
-/// Judges the instructions in order up to the first rejection, and sends the notes of each to those that may follow it.
-/// The program is judged as one of `kind`; `own_kind` is the kind that it names itself, which may be another.
+/// Judges the instructions in order up to the first rejection, and sends each one's notes to those that may follow.
 pub fn judge(
     kind: Kind,
-    own_kind: Kind,
+    own: Kind,
     instrs: &[Instr],
     notes: &mut [Option<StoredNote>],
 ) -> Option<Rejection>
@@ -106,7 +104,7 @@ pub fn judge(
     requires one_each { length notes.old ≡ length instrs.now }
     requires begins { (q : ℕ) → q < length instrs.now →
         stored_note_at notes.old q ≡ maybe_closure (incoming kind instrs.now 0 q) }
-    ensures verdict { let program : Program = record { kind = own_kind; instrs = instrs.now } in
+    ensures verdict { let program : Program = record { kind = own; instrs = instrs.now } in
         MatchOption result (IsAccepted kind program)
         (λ rejection. IsRefused kind program rejection.at (reason_number rejection.reason)) }
     ensures stored { result ≡ None → (q : ℕ) → q < length instrs.now →
@@ -122,7 +120,7 @@ pub fn judge(
                 reason: Reason::Unreachable,
             });
         };
-        if let Some(reason) = reason_against(kind, own_kind, instrs.len(), pc, &note, instr) {
+        if let Some(reason) = reason_against(kind, own, instrs.len(), pc, &note, instr) {
             return Some(Rejection {
                 at: pc as u32,
                 reason,
@@ -133,7 +131,7 @@ pub fn judge(
     None
 }
 
-/// The verdict on a program as one of `kind`: its rejection, or `None` if it is accepted.
+/// The verdict on a program as one of kind `kind`: its rejection, or `None` if it is accepted.
 pub fn verdict(alloc: Global, kind: Kind, code: &Code) -> Result<Option<Rejection>, AllocError>
     ensures { IfOk result (λ rejection.
         MatchOption rejection (IsAccepted kind code.now)

@@ -26,7 +26,7 @@ pub enum VerifyFault {
     Memory,
 }
 
-/// The length of the longest path from the next instruction; 0 if control never continues there.
+/// The longest path from the next instruction, 0 if it cannot follow.
 fn longest_of_next(instr: Instr, pc: usize, longest: &[u32; MAX_INSTRUCTIONS]) -> u32
     requires { IsTrue (falls instr) → pc + 1 < MAX_INSTRUCTIONS }
     ensures { result ≡ (if falls instr then slice_index longest.now (pc + 1) else 0) }
@@ -34,7 +34,7 @@ fn longest_of_next(instr: Instr, pc: usize, longest: &[u32; MAX_INSTRUCTIONS]) -
     if instr.falls() { longest[pc + 1] } else { 0 }
 }
 
-/// The length of the longest path from the target of a jump; 0 for other instructions.
+/// The longest path from a jump's target, 0 if there is none.
 fn longest_of_target(instr: Instr, longest: &[u32; MAX_INSTRUCTIONS]) -> u32
     requires { IfSome (target instr) (λ target. target < MAX_INSTRUCTIONS) }
     ensures { result ≡ option_map_or (λ target. slice_index longest.now target) (target instr) 0 }
@@ -45,7 +45,7 @@ fn longest_of_target(instr: Instr, longest: &[u32; MAX_INSTRUCTIONS]) -> u32
     }
 }
 
-/// The length of the longest path from the instruction at `pc`; `longest` has the lengths from all later instructions.
+/// The longest path from the instruction at `pc`; `longest` has those from the later ones.
 fn longest_from(instrs: &[Instr], pc: usize, longest: &[u32; MAX_INSTRUCTIONS]) -> u32
     requires inside { pc < length instrs.now }
     requires at_most_max_instructions { length instrs.now ≤ MAX_INSTRUCTIONS }
@@ -59,8 +59,7 @@ fn longest_from(instrs: &[Instr], pc: usize, longest: &[u32; MAX_INSTRUCTIONS]) 
     next.max(longest_of_target(instr, longest)) + 1
 }
 
-/// The length of the longest path through a program without backward jumps, in instructions. All paths go forward, so
-/// one sweep from the last instruction to the first finds it.
+/// The length of the longest path through a program without backward jumps, in instructions.
 pub fn longest_path(instrs: &[Instr]) -> u32
     requires at_least_one_instruction { 1 ≤ length instrs.now }
     requires at_most_max_instructions { length instrs.now ≤ MAX_INSTRUCTIONS }

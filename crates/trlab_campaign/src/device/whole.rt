@@ -29,7 +29,6 @@ pub fn read_text<S: Source>(alloc: Global, reader: &mut S) -> Result<Vec<u8>, Fa
     ensures works { OnOk result (S.failed reader.new ≡ false) }
 {
     let mut text = Vec::new(alloc);
-    // Pieces, because the length of the input is not known before its end is read.
     let mut piece = [0u8; 4096];
     while text.len() <= TEXT_LIMIT {
         let room = (TEXT_LIMIT + 1 - text.len()).min(4096);

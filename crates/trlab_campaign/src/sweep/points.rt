@@ -1,5 +1,5 @@
-//! The points of a sweep. Each has the counts of one road, which is run from its start by a runner of the book, or by
-//! the caller if the book has no complete run of it.
+//! The points of a sweep: the counts of a road that is run from its start, by a runner of the book or by the
+//! caller.
 
 ghost use Rattle.std.specs.Prelude.{◌≡◌, IfOk, IfSome, IsTrue, length};
 ghost use Rattle.trlab_diagram.specs.Tables.{IsMeasured};
@@ -28,7 +28,6 @@ pub fn even_road(alloc: Global, sweep: &Sweep, cars: u32) -> Result<Road, AllocE
     match Road::even(alloc, sweep.lanes, sweep.length, sweep.limit, cars) {
         Ok(road) => Ok(road),
         Err(RoadFault::Memory) => Err(AllocError),
-        // The precondition excludes all other faults.
         Err(_) => unreachable!(),
     }
 }

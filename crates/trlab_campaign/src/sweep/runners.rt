@@ -29,7 +29,7 @@ use trlab_strands::{Blank, Ledger};
 struct Batch {
     first: u32,
     end: u32,
-    /// Whether the last point has at least as many cars as the first. Then the jobs are in reverse order (`place`).
+    /// Whether the last point has at least as many cars as the first.
     is_rising: bool,
 }
 
@@ -77,16 +77,15 @@ impl Batch {
     fn most_cars(self, sweep: &Sweep) -> u32
         requires { self.end ≤ length sweep.now.cars }
     {
-        let mut max_cars = 0;
+        let mut most = 0;
         for number in self.first..self.end {
-            max_cars = max_cars.max(sweep.cars[number as usize]);
+            most = most.max(sweep.cars[number as usize]);
         }
-        max_cars
+        most
     }
 
     /// Maps the index of a point in the batch to the index of its job, and back. If the numbers of cars rise, the order
-    /// is reversed, so that the slowest roads come first: a runner that began the slowest road last would run it while
-    /// the others have nothing to do.
+    /// is reversed: a runner that began the slowest road last would drive it while the others have nothing to do.
     fn place(self, index: u32) -> u32
         requires { index < self.end - self.first }
         ensures { result < self.end - self.first }

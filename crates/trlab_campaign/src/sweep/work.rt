@@ -23,14 +23,12 @@ pub struct WorkGate<'a, O> {
     count: u32,
     /// The steps of each point.
     steps: u32,
-    /// The work of all points, in cars times steps.
     whole: u64,
-    /// The work that was counted so far.
     done: AtomicU64,
     ghost count_is: { count ≡ length cars.now },
 }
 
-/// The work of the first `points` points: the number of cars of each, times its `steps` steps.
+/// The work of the first `points` points.
 fn work_of(cars: &[u32], steps: u32, points: usize) -> u64 {
     let mut work: u64 = 0;
     for count in cars.iter().take(points) {
@@ -65,8 +63,8 @@ impl<'a, O: ProgressObserver> WorkGate<'a, O> {
         }
     }
 
-    /// Counts the first `points` points of the sweep as done. This also counts the steps that the caller ran itself,
-    /// which passed no gate.
+    /// Counts the first `points` points of the sweep as done. The steps that the caller ran passed no gate, and
+    /// count now.
     pub fn count_points(&self, points: usize)
         requires at_least_one { 1 ≤ points }
         requires at_most_all { points ≤ self.now.count }
@@ -74,10 +72,10 @@ impl<'a, O: ProgressObserver> WorkGate<'a, O> {
         if self.is_watching
             && let Ok(number) = u32::try_from(points)
         {
-            let after = work_of(self.cars, self.steps, points);
-            let before = self.done.fetch_max(after, Ordering::SeqCst);
-            if before < after {
-                self.report(before, after, number);
+            let there = work_of(self.cars, self.steps, points);
+            let before = self.done.fetch_max(there, Ordering::SeqCst);
+            if before < there {
+                self.report(before, there, number);
             }
         }
     }

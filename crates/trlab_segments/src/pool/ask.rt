@@ -22,8 +22,7 @@ use trlab_road::Road;
 use trlab_step::{Caller, Executor, StepObserver};
 use trlab_verify::{Change, Motion};
 
-/// The number of times that the caller checks whether helpers still hold the task before it yields to other threads: a
-/// helper may be waiting for the caller's processor.
+/// The number of times that the caller checks whether a helper is left before it yields to other threads.
 const SPINS_BEFORE_YIELD: u32 = 1000;
 
 /// Waits until no helper holds the task, and returns it.
@@ -81,7 +80,6 @@ impl<'a, R: Wait, G: Gate> Pool<'a, R, G> {
     )
         ensures { O.observes observer.old (arc_value task.now).brief.road observer.new }
     {
-        // Without another owner the phase stays closed, and the caller asks all cars.
         if let Ok(shared) = Arc::try_clone(task) {
             slot.set_task(self.rt, Some(shared));
             self.rendezvous.wake();

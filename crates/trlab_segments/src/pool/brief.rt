@@ -1,4 +1,4 @@
-//! The brief of a phase, which threads share: a program, the dice, the road, and the tickets of the road's segments.
+//! The question of a phase, as threads share it: a program, dice, the road, and the tickets of its segments.
 
 ghost use Rattle.std.specs.Prelude.{◌≡◌, ◌<◌, ◌≤◌, IfOk, OnErr, OnOk};
 ghost use Rattle.trlab_bounds.specs.declared.runs.TheConstants.{MAX_WORKERS};
@@ -33,8 +33,8 @@ pub struct Brief<P> {
 }
 
 /// The number of segments for `workers` workers: as many as in a single step, and more on a road of many cars, so that
-/// no worker waits long for the last one. A program runs for a block of up to `BLOCK_CARS` cars at once. The blocks of
-/// a segment are full, or nearly so, because a block of few cars takes as long as a full one.
+/// no worker waits long for the last one. Their blocks are full, or nearly so, because a block of few cars takes as
+/// long as a full one.
 fn segments_for(cars: u32, workers: u32) -> u32
     requires { (0 < workers) × (workers ≤ MAX_WORKERS) }
     ensures { first_car cars result result ≡ cars }
@@ -61,14 +61,13 @@ pub fn brief_of<A, P: Asked<A> + Drop>(
     workers: u32,
 ) -> Result<(Brief<P>, Drawer), AllocError>
     requires { (0 < workers) × (workers ≤ MAX_WORKERS) }
-    ensures asked { IfOk result (λ begun. IsBriefOf program.now dice.now road.old begun.0) }
-    ensures cut { IfOk result (λ begun. CoversAllCars begun.0) }
-    ensures new { IfOk result (λ begun. HasDrawnNone begun.0.tickets begun.1) }
+    ensures asked { IfOk result (λ r. IsBriefOf program.now dice.now road.old r.0) }
+    ensures cut { IfOk result (λ r. CoversAllCars r.0) }
+    ensures new { IfOk result (λ r. HasDrawnNone r.0.tickets r.1) }
     ensures unchanged { OnErr result (road.new ≡ road.old) }
 {
     let count = segments_for(road.cars(), workers);
-    // The road that takes its place, because a reference cannot be left without a value: one lane of one cell, with
-    // maximum speed 1 and no cars.
+    // An empty road: one lane of one cell, maximum speed 1, no cars.
     let Ok(empty) = Road::even(alloc, 1, 1, 1, 0) else {
         return Err(AllocError);
     };

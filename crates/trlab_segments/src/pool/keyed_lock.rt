@@ -43,7 +43,7 @@ impl<T, K> Play<Option<T>, K> for Release {
     ghost then = { λ state before found after. Unit {0} };
 }
 
-/// A lock around a value that fits a key. Its one word is 0 if the value is free to take, and 1 if a thread has it.
+/// A lock around a value that fits a key. One word records whether a thread has the value.
 #[derive(Drop)]
 pub struct KeyedLock<T: Keyed<K>, K> {
     pub table: Table<Option<T>, K, K, LockRule<T, K>, Global>,
@@ -85,7 +85,6 @@ impl<K, T: Keyed<K> + Drop> KeyedLock<T, K> {
         for _ in rt.forever() {
             let (found, mut seat) = shared.swap_new_seat::<Acquire<T, K>>(0, 1);
             if found == 0 {
-                // The slot has a value, because the word was 0.
                 let value = shared.exchange(&mut seat, 0, None).unwrap();
                 return (value, Guard { seat });
             }

@@ -15,8 +15,7 @@ use trlab_verify::{Change, Motion};
 /// calling thread's own work between two phases on a road of about 10,000 cars.
 pub const SPINS_BEFORE_SLEEP: u32 = 30000;
 
-/// The number of phases for which a helper sleeps at once after it has checked for a phase without success: the next
-/// phases will probably be as late, and checks in vain take time from other threads.
+/// After a helper has checked for a phase without success, the number of phases for which it sleeps without a check.
 const NAPS: u32 = 32;
 
 /// The open phase, at most one at a time, and a number that grows with each phase.
@@ -48,7 +47,7 @@ impl Rendezvous {
         self.phase_number.wake_all();
     }
 
-    /// Ends the run, and wakes all helpers so that they stop.
+    /// Shuts down all helpers.
     pub fn close(&self) {
         self.closed.store(true, Ordering::SeqCst);
         self.wake();
@@ -59,8 +58,8 @@ impl Rendezvous {
         self.closed.load(Ordering::SeqCst)
     }
 
-    /// Sleeps until the phase number differs from `seen`, and returns it. The system compares the lower 32 bits of the
-    /// number with those of `seen` before a thread sleeps, so no wake-up is missed.
+    /// Sleeps until the phase number differs from `seen`, and returns it. The system compares the number before a
+    /// thread sleeps, so no wake-up is missed.
     fn wait_for_phase<R: Wait>(&self, rt: &R, seen: u64) -> u64 {
         for _ in rt.forever() {
             let now = self.phase_number.load(Ordering::SeqCst);
@@ -83,8 +82,8 @@ impl Rendezvous {
         false
     }
 
-    /// Checks for the next phase, unless the helper has `naps` left: the number of phases for which it still sleeps at
-    /// once. Returns the new number of naps.
+    /// Checks for the next phase, unless the helper is to sleep at once for `naps` more phases. Returns the new value
+    /// of `naps`.
     fn watch(&self, seen: u64, naps: u32) -> u32 {
         if naps > 0 {
             naps - 1

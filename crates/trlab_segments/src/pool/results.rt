@@ -14,11 +14,9 @@ use std::alloc::AllocError;
 /// The passes that no helper has taken yet, the tickets that helpers have drawn, and their answers.
 #[derive(Drop)]
 pub struct Results<A> {
-    /// The passes that no helper has taken; `None` if none is left.
     pub reserve: Option<Drawer>,
-    /// The passes and tickets that helpers have deposited; `None` before the first deposit.
     pub done: Option<Drawer>,
-    /// The parts that helpers have deposited, or an error if an allocation failed in a helper.
+    /// An error if an allocation failed in a helper.
     pub parts: Result<Vec<Part<A>>, AllocError>,
 }
 
@@ -26,8 +24,7 @@ impl<A, P: Asked<A>> Keyed<Brief<P>> for Results<A> {
     ghost fits = { λ brief results. AreResults P.answers P.can_ask brief results };
 }
 
-/// Takes a pass from the reserve for a helper, if one is left. The helper is the worker with the returned number, from
-/// 1 on; worker 0 is the caller.
+/// Takes a pass from the reserve for a helper, if one is left, together with the helper's worker number, from 1 on.
 pub fn take_pass<A: Drop, P: Asked<A>>(
     brief: &Brief<P>,
     results: Results<A>,

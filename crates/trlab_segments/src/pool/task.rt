@@ -17,7 +17,7 @@ use std::mem;
 use std::sync::{Arc, Mutex, Wait};
 use trlab_road::Road;
 
-/// A phase that is under way: its brief, and the results so far, which always fit the brief.
+/// The brief of a phase, and the results so far, which always fit the brief.
 #[derive(Drop)]
 pub struct Task<A, P: Asked<A>> {
     pub brief: Brief<P>,
@@ -61,7 +61,6 @@ impl<A: Copy + Drop, P: Asked<A> + Drop> Task<A, P> {
         self.results.take(rt)
     }
 
-    /// Puts the results back, so that other threads can take them.
     fn put_back(&self, results: Results<A>, guard: Guard<Results<A>, Brief<P>>)
         requires results { AreResults P.answers P.can_ask self.now.brief results }
         requires from { guard.seat.table_id ≡ self.now.results.table.shared.table_id }
@@ -126,8 +125,7 @@ impl<A: Copy + Drop, P: Asked<A> + Drop> Task<A, P> {
     }
 }
 
-/// The open phase of one kind, of motion or of lane changes, if there is one: the caller puts it in, and helpers find
-/// it.
+/// The slot of at most one phase of a kind: the caller puts the phase in, and its helpers find it.
 #[derive(Drop)]
 pub struct TaskSlot<A, P: Asked<A>> {
     open: Mutex<Option<Arc<Task<A, P>, Global>>>,
@@ -147,7 +145,6 @@ impl<A: Drop, P: Asked<A> + Drop> TaskSlot<A, P> {
             let mut open = self.open.lock(rt);
             mem::replace(&mut *open, task)
         };
-        // After the lock is released: if no helper has the earlier phase, this frees its memory.
         drop(before);
     }
 

@@ -27,13 +27,13 @@ FALSE = [
     FalseStatement(
         law="nobody_beats_nasch", file="Comparison",
         runs=(ONE_STEP, ONE_STEP),
-        old="→ slow_distance ≤ fast_distance", new="→ slow_distance + 1 ≤ fast_distance",
+        old="most → far ≤ most", new="most → far + 1 ≤ most",
         law_says="gone(1)[0] <= b.gone(1)[0]", false_says="gone(1)[0] + 1 <= b.gone(1)[0]",
     ),
     FalseStatement(
         law="nobody_beats_nasch", file="Comparison",
         runs=(ONE_STEP, ONE_STEP),
-        old="→ slow_sum.distance ≤ fast_sum.distance", new="→ slow_sum.distance + 1 ≤ fast_sum.distance",
+        old="→ sum.distance ≤ most.distance", new="→ sum.distance + 1 ≤ most.distance",
         law_says="D <= b.D", false_says="D + 1 <= b.D",
     ),
     FalseStatement(
@@ -211,13 +211,13 @@ FALSE = [
     FalseStatement(
         law="cars_go_distance", file="Following",
         runs=(ONE_STEP,),
-        old="× HasGone seed sheet step number distance", new="× HasGone seed sheet step (number + 1) distance",
+        old="× HasGone seed sheet step number far", new="× HasGone seed sheet step (number + 1) far",
         law_says="len(gone(1)) >= 1", false_says="len(gone(1)) >= 2",
     ),
     FalseStatement(
         law="cars_go_distance", file="Following",
         runs=(ONE_STEP,),
-        old="→ distance ≡ other", new="→ distance ≡ other + 1",
+        old="→ far ≡ other", new="→ far ≡ other + 1",
         law_says="gone(1)[0] == gone(1)[0]", false_says="gone(1)[0] == gone(1)[0] + 1",
     ),
     FalseStatement(

@@ -91,7 +91,7 @@ FALSE = [
     FalseStatement(
         law="nasch_reaches_triangle", file="Diagram",
         runs=(job(3, NO_BRAKING, 5, "01......", warm=4), job(3, NO_BRAKING, 4, "01......", warm=3)),
-        old="max_step ≤ limit * (step + 1 - delay)", new="max_step ≤ limit * (step + 2 - delay)",
+        old="most ≤ limit * (step + 1 - delay)", new="most ≤ limit * (step + 2 - delay)",
         law_says="min(v * N, E) <= v * (warm + 1 - v) and D == T * min(v * N, E)",
         false_says="not min(v * N, E) <= v * (warm + 2 - v) or b.D == b.T * min(v * N, E)",
     ),
@@ -99,13 +99,10 @@ FALSE = [
         law="nasch_reaches_triangle", file="Diagram",
         runs=(job(2, NO_BRAKING, 3, "0..", warm=2), job(2, NO_BRAKING, 1, "0..")),
         old=(
-            "let max_step = lane_max_distance seed.road.limit (lane_of seed.road l) in\n"
-            "    HasRelaxed seed.road.limit seed.road.limit max_step"
+            "let most = lane_max_distance seed.road.limit (lane_of seed.road l) in\n"
+            "    HasRelaxed seed.road.limit seed.road.limit most"
         ),
-        new=(
-            "let max_step = lane_max_distance seed.road.limit (lane_of seed.road l) in\n"
-            "    HasRelaxed seed.road.limit 0 max_step"
-        ),
+        new="let most = lane_max_distance seed.road.limit (lane_of seed.road l) in\n    HasRelaxed seed.road.limit 0 most",
         law_says="D == T * min(v * N, E)", false_says="b.D == b.T * min(v * N, E)",
     ),
     FalseStatement(
@@ -205,7 +202,7 @@ FALSE = [
     FalseStatement(
         law="kinematic_waves", file="Diagram",
         runs=(job(3, NO_BRAKING, 5, "01......"),),
-        old="max_step ≤ limit * (step + 1 - delay)", new="max_step ≤ limit * (step + 2 - delay)",
+        old="most ≤ limit * (step + 1 - delay)", new="most ≤ limit * (step + 2 - delay)",
         law_says="moved(4, 5, 3)", false_says="moved(3, 4, 3)",
     ),
     FalseStatement(
@@ -237,7 +234,7 @@ FALSE = [
     FalseStatement(
         law="minimum_principle", file="Waves",
         runs=(ONE_STEP,),
-        old="→ distance ≤ newell_distance", new="→ distance + 1 ≤ newell_distance",
+        old="→ far ≤ newell_distance", new="→ far + 1 ≤ newell_distance",
         law_says="gone(1)[0] <= minimum(1)[0]", false_says="gone(1)[0] + 1 <= minimum(1)[0]",
     ),
     FalseStatement(

@@ -5,7 +5,7 @@ use Rattle.trlab_road.specs.Stored.{LaneCar, no_car}
 use Rattle.trlab_campaign.proofs.LaneCounts.{at_most}
 use Rattle.trlab_campaign.proofs.counting.count_cars.Goals as goal
 
--- the byte of a test is 1 if it is true, and 0 otherwise
+-- a test as a number
 byte_is : (b : Bool) → bool_byte b ≡ cond b 1 0
 byte_is true = refl
 byte_is false = refl

@@ -8,11 +8,11 @@ no_flag side Unknown other = refl
 no_flag side (Between lo hi) other = refl
 no_flag side (Implies imp) other = absurd (other imp refl)
 
-pub returns-then-implied : goal.returns-then-implied
-returns-then-implied c = rw (c.in-Implies.is, c.if-implied.true)
+pub returns-then-imp : goal.returns-then-imp
+returns-then-imp c = rw (c.in-Implies.is, c.if-imp.true)
 
-pub returns-else-implied : goal.returns-else-implied
-returns-else-implied c = rw (c.in-Implies.is, c.if-implied.false)
+pub returns-else-imp : goal.returns-else-imp
+returns-else-imp c = rw (c.in-Implies.is, c.if-imp.false)
 
 pub returns-in_default : goal.returns-in_default
 returns-in_default c = no_flag c.args.side _ c.in_default.not-Implies

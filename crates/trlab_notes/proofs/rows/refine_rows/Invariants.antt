@@ -7,5 +7,5 @@ abbrev pub invariant-loop-x : goal.invariant-loop-x
 invariant-loop-x l = record {
   all : length l.refined ≡ VARIABLES;
   so_far : (k : ℕ) → k < l.x → (y : ℕ) → y < VARIABLES → level_of l.refined k y ≡
-      cond (nat_eq y k) (level_of l.rows k k) (max (level_of l.rows k y) (chain (level_in l.fn.to_p k) l.fn.level (level_in l.fn.from_q y)));
+      cond (nat_eq y k) (level_of l.rows k k) (max (level_of l.rows k y) (chain (level_in l.fn.first k) l.fn.level (level_in l.fn.last y)));
 }

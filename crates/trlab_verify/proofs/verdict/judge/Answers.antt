@@ -17,7 +17,7 @@ judged_to P pc below here q le = below_more P pc below here q (omega arith)
 pub returns-in_default-clause-verdict : goal.returns-in_default-clause-verdict
 returns-in_default-clause-verdict c = record {
   within = c.loop-pc-test.true;
-  here = unreached c.args.kind c.args.own_kind c.args.instrs.now c.loop-pc.pc (no_note _ (sym (c.loop-pc.invariant.incoming_so_far c.loop-pc.pc (omega arith) c.loop-pc-test.true) ∙ ap maybe_note (get_or_default c.loop-pc.notes c.loop-pc.pc None _ (below_same c.loop-pc.pc c.loop-pc.auto.notes c.requires.one_each c.loop-pc-test.true) ∙ is_none _ c.in_default.not-Some)));
+  here = unreached c.args.kind c.args.own c.args.instrs.now c.loop-pc.pc (no_note _ (sym (c.loop-pc.invariant.incoming_so_far c.loop-pc.pc (omega arith) c.loop-pc-test.true) ∙ ap maybe_note (get_or_default c.loop-pc.notes c.loop-pc.pc None _ (below_same c.loop-pc.pc c.loop-pc.auto.notes c.requires.one_each c.loop-pc-test.true) ∙ is_none _ c.in_default.not-Some)));
   first = c.loop-pc.invariant.no_fault;
 }
 
@@ -27,7 +27,7 @@ returns-in-Some-reason_against-clause-verdict c =
     let w = whose (note_at c.args.kind c.args.instrs.now c.loop-pc.pc) n (sym (ap maybe_note (get_or_default c.loop-pc.notes c.loop-pc.pc None _ (below_same c.loop-pc.pc c.loop-pc.auto.notes c.requires.one_each c.loop-pc-test.true) ∙ c.in-Some.is)) ∙ c.loop-pc.invariant.incoming_so_far c.loop-pc.pc (omega arith) c.loop-pc-test.true) in
     record {
       within = c.loop-pc-test.true;
-      here = tested c.args.kind c.args.own_kind c.args.instrs.now c.loop-pc.pc w.0 _ _ w.1 (slice_get-get_or c.args.instrs.now c.loop-pc.pc _ c.loop-pc-test.true) (reason_same c.args.kind c.args.own_kind (length c.args.instrs.now) c.loop-pc.pc w.0 n _ w.2 ∙ sym c.in-Some-reason_against.ensures);
+      here = tested c.args.kind c.args.own c.args.instrs.now c.loop-pc.pc w.0 _ _ w.1 (slice_get-get_or c.args.instrs.now c.loop-pc.pc _ c.loop-pc-test.true) (reason_same c.args.kind c.args.own (length c.args.instrs.now) c.loop-pc.pc w.0 n _ w.2 ∙ sym c.in-Some-reason_against.ensures);
       first = c.loop-pc.invariant.no_fault;
     }
 
@@ -42,13 +42,13 @@ loop-pc-preserved c =
     let n = note_of c.in-Some.note in
     let w = whose (note_at c.args.kind c.args.instrs.now c.loop-pc.pc) n (sym (ap maybe_note (get_or_default c.loop-pc.notes c.loop-pc.pc None _ (below_same c.loop-pc.pc c.loop-pc.auto.notes c.requires.one_each c.loop-pc-test.true) ∙ c.in-Some.is)) ∙ c.loop-pc.invariant.incoming_so_far c.loop-pc.pc (omega arith) c.loop-pc-test.true) in
     let ei = slice_get-get_or c.args.instrs.now c.loop-pc.pc (Num R0 0) c.loop-pc-test.true in
-    let clean = clear c.args.kind c.args.own_kind (length c.args.instrs.now) c.loop-pc.pc n (get_or c.args.instrs.now c.loop-pc.pc (Num R0 0)) (sym c.reason_against.ensures ∙ c.in_default-reason_against.is) in
+    let clean = clear c.args.kind c.args.own (length c.args.instrs.now) c.loop-pc.pc n (get_or c.args.instrs.now c.loop-pc.pc (Num R0 0)) (sym c.reason_against.ensures ∙ c.in_default-reason_against.is) in
     let old : (q : ℕ) → q ≤ c.loop-pc.pc → q < length c.args.instrs.now → stored_note_at c.loop-pc.notes q ≡ maybe_closure (note_at c.args.kind c.args.instrs.now q) → stored_note_at c.send.new.notes q ≡ maybe_closure (note_at c.args.kind c.args.instrs.now q) =
     λ q le lt e. c.send.ensures q (below_same q c.loop-pc.auto.notes c.requires.one_each lt) ∙ (none_back c.loop-pc.pc q n _ _ le clean.forward ∙ e) in
     record {
       done = below_more _ _ (λ q lt. old q (omega arith) (omega (arith, lt, c.loop-pc-test.true)) (c.loop-pc.invariant.done q lt)) (old c.loop-pc.pc (omega arith) c.loop-pc-test.true (c.loop-pc.invariant.incoming_so_far c.loop-pc.pc (omega arith) c.loop-pc-test.true));
       incoming_so_far = λ q ge lt. c.send.ensures q (below_same q c.loop-pc.auto.notes c.requires.one_each lt) ∙ rw add-one (one_more_kept c.args.kind c.args.instrs.now c.loop-pc.pc q w.0 n _ _ w.1 ei w.2 (c.loop-pc.invariant.incoming_so_far q (omega arith) lt));
-      no_fault = below_more _ _ c.loop-pc.invariant.no_fault (tested c.args.kind c.args.own_kind c.args.instrs.now c.loop-pc.pc w.0 _ None w.1 ei (reason_same c.args.kind c.args.own_kind (length c.args.instrs.now) c.loop-pc.pc w.0 n _ w.2 ∙ sym c.reason_against.ensures ∙ c.in_default-reason_against.is));
+      no_fault = below_more _ _ c.loop-pc.invariant.no_fault (tested c.args.kind c.args.own c.args.instrs.now c.loop-pc.pc w.0 _ None w.1 ei (reason_same c.args.kind c.args.own (length c.args.instrs.now) c.loop-pc.pc w.0 n _ w.2 ∙ sym c.reason_against.ensures ∙ c.in_default-reason_against.is));
     }
 
 pub bounds-notes-pc : goal.bounds-notes-pc

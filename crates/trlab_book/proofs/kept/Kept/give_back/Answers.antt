@@ -4,9 +4,9 @@ use Rattle.trlab_sequential_book.specs.{Machine.BookState, declared.event.Call.T
 use Rattle.trlab_book.proofs.Replaying.{IsPut, makes_offered, put, replays_put, tells_put}
 use Rattle.trlab_book.proofs.kept.Kept.give_back.Goals as goal
 
-event : (c : goal.After-append_event)
-    → IsPut c.make_room.new.self.book c.give_back_as-answer.new.self (GiveBack (offered c.args.lease c.lease_runs_its_road-runs_its_road.result)) (give_back_reply c.give_back_as-answer.result) c.make_room.new.self.history.items c.append_event.new.history.items
-event c = put false (λ is. absurd (false≢true is)) (λ is. absurd (false≢true is)) c.give_back_as-answer.ensures.reply c.give_back_as-answer.ensures.state (ap GiveBack c.offered.ensures) c.reply_to_give_back-reply.ensures c.append_event.ensures
+event : (c : goal.After-put_event)
+    → IsPut c.make_room.new.self.book c.give_back_as-answer.new.self (GiveBack (offered c.args.lease c.lease_runs_its_road-runs_its_road.result)) (give_back_reply c.give_back_as-answer.result) c.make_room.new.self.history.items c.put_event.new.history.items
+event c = put false (λ is. absurd (false≢true is)) (λ is. absurd (false≢true is)) c.give_back_as-answer.ensures.reply c.give_back_as-answer.ensures.state (ap GiveBack c.offered.ensures) c.reply_to_give_back-reply.ensures c.put_event.ensures
 
 pub invariant_of-self : goal.invariant_of-self
 invariant_of-self c = record { replays = replays_put (event c) c.make_room.new.self.replays }

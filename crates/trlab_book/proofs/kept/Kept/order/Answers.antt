@@ -5,9 +5,9 @@ use Rattle.trlab_book.proofs.Replaying.{IsPut, makes_offered, memory_free, memor
 use Rattle.trlab_book.proofs.Replaying.{tells_put}
 use Rattle.trlab_book.proofs.kept.Kept.order.Goals as goal
 
-event : (c : goal.After-append_event)
-    → IsPut c.make_room.new.self.book c.order_as-answer.new.self (OrderCall (offered c.args.lease.now c.lease_runs_its_road-runs_its_road.result)) (order_reply c.order_as-answer.result) c.make_room.new.self.history.items c.append_event.new.history.items
-event c = put (is_memory c.order_as-answer.result) (memory_free c.order_as-answer.result _ c.order_as-answer.ensures.full_history) (λ is. ap order_reply (memory_is c.order_as-answer.result is)) c.order_as-answer.ensures.reply c.order_as-answer.ensures.state (ap OrderCall c.offered.ensures) c.reply_to_order-reply.ensures c.append_event.ensures
+event : (c : goal.After-put_event)
+    → IsPut c.make_room.new.self.book c.order_as-answer.new.self (OrderCall (offered c.args.lease.now c.lease_runs_its_road-runs_its_road.result)) (order_reply c.order_as-answer.result) c.make_room.new.self.history.items c.put_event.new.history.items
+event c = put (is_memory c.order_as-answer.result) (memory_free c.order_as-answer.result _ c.order_as-answer.ensures.full_history) (λ is. ap order_reply (memory_is c.order_as-answer.result is)) c.order_as-answer.ensures.reply c.order_as-answer.ensures.state (ap OrderCall c.offered.ensures) c.reply_to_order-reply.ensures c.put_event.ensures
 
 pub invariant_of-self : goal.invariant_of-self
 invariant_of-self c = record { replays = replays_put (event c) c.make_room.new.self.replays }

@@ -28,10 +28,10 @@ pub invariant_of-self : goal.invariant_of-self
 invariant_of-self c =
     let j = c.self.inside in
     let lease = c.args.lease in
-    let state = job_state j.seed j.sheet j.steps j.high j.done j.cancelled j.lease_out in
+    let state = job_state j.seed j.sheet j.steps j.high j.done j.cancelled j.out in
     let own : accepts_lease (offered lease c.args.runs_its_road) c.args.self.now ≡ true = sym c.accepts_lease.ensures ∙ c.if-not-accepts_lease.false in
     let parts = own_parts (offered lease c.args.runs_its_road) state (subst (λ (s : JobState). accepts_lease (offered lease c.args.runs_its_road) s ≡ true) (sym c.self.view_is) own) in
-    rw (c.step-self-inside.ensures.value, c.advance_to.ensures, c.into_road.ensures) (record {
+    rw (c.step-self-inside.ensures.value, c.come_to.ensures, c.into_road.ensures) (record {
       ordered = parts.1;
       within = c.self.invariant.within;
       begin = c.self.invariant.begin;
@@ -44,5 +44,5 @@ returns-clause-reply c = back_taken (offered c.args.lease c.args.runs_its_road) 
 pub returns-clause-job : goal.returns-clause-job
 returns-clause-job c =
     let j = c.self.inside in
-    let state = job_state j.seed j.sheet j.steps j.high j.done j.cancelled j.lease_out in
+    let state = job_state j.seed j.sheet j.steps j.high j.done j.cancelled j.out in
     back_made (offered c.args.lease c.args.runs_its_road) state c.args.self.now c.step-self-inside.result c.self.view_is (sym c.accepts_lease.ensures ∙ c.if-not-accepts_lease.false) c.step-self-inside.ensures.value

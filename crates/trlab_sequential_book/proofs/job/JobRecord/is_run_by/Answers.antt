@@ -7,7 +7,7 @@ use Rattle.trlab_sequential_book.proofs.job.JobRecord.is_run_by.Goals as goal
 pub returns-then-not-equals : goal.returns-then-not-equals
 returns-then-not-equals c =
     let j = c.self.inside in
-    let state = job_state j.seed j.sheet j.steps j.high j.done j.cancelled j.lease_out in
+    let state = job_state j.seed j.sheet j.steps j.high j.done j.cancelled j.out in
     let run = subst (λ (s : JobState). IsReachedByRun (progress_of s.seed s.sheet s.done j.road j.tally)) c.self.view_is c.self.invariant.run in (
       λ h. absurd (false≢true h),
       λ own. absurd (runs_not state c.args.self.now c.args.lease.now _ _ c.self.view_is run
@@ -17,7 +17,7 @@ returns-then-not-equals c =
 pub returns : goal.returns
 returns c =
     let j = c.self.inside in
-    let state = job_state j.seed j.sheet j.steps j.high j.done j.cancelled j.lease_out in
+    let state = job_state j.seed j.sheet j.steps j.high j.done j.cancelled j.out in
     let run = subst (λ (s : JobState). IsReachedByRun (progress_of s.seed s.sheet s.done j.road j.tally)) c.self.view_is c.self.invariant.run in
     let rules = rw (c.base_step.ensures, c.applied.ensures.value) at c.are_in_force.ensures in
     runs_where state c.args.self.now c.args.lease.now _ _ c.are_in_force.result c.self.view_is run

@@ -11,7 +11,7 @@ invariant_of-self c =
     let i = c.self.invariant in
     let l = c.args.lease.now in
     let own : accepts_lease (offered l c.args.runs_its_road) c.args.self.now ≡ true = sym c.accepts_lease.ensures ∙ c.if-not-accepts_lease.false in
-    let state = job_state j.seed j.sheet j.steps j.high j.done j.cancelled j.lease_out in
+    let state = job_state j.seed j.sheet j.steps j.high j.done j.cancelled j.out in
     let P : JobState → Type 0 = λ s. accepts_lease (offered l c.args.runs_its_road) s ≡ true in
     let parts = own_parts (offered l c.args.runs_its_road) state (subst P (sym c.self.view_is) own) in
     let by = parts.1 in
@@ -38,7 +38,7 @@ returns-clause-fits c =
     let l = c.args.lease.now in
     let own : accepts_lease (offered l c.args.runs_its_road) c.args.self.now ≡ true = sym c.accepts_lease.ensures ∙ c.if-not-accepts_lease.false in
     let parts = own_parts (offered l c.args.runs_its_road) c.args.self.now own in
-    let state = job_state j.seed j.sheet j.steps j.high j.done j.cancelled j.lease_out in
+    let state = job_state j.seed j.sheet j.steps j.high j.done j.cancelled j.out in
     let way = way_begins state c.args.self.now l _ j.tally c.self.view_is c.self.invariant.run c.step-step.ensures.lease (c.requires parts.2) parts.0 in
     record {
       job = search rules;

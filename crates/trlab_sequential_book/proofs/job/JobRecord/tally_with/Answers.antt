@@ -8,7 +8,7 @@ use Rattle.trlab_sequential_book.proofs.job.JobRecord.tally_with.Goals as goal
 pub loop-ran-init : goal.loop-ran-init
 loop-ran-init c =
     let j = c.self.inside in
-    let state = job_state j.seed j.sheet j.steps j.high j.done j.cancelled j.lease_out in
+    let state = job_state j.seed j.sheet j.steps j.high j.done j.cancelled j.out in
     let at = ap (λ (s : JobState). s.done) c.self.view_is in
     let base = c.requires.base in
     (omega arith, way_begins state c.args.self.now c.args.lease.now _ j.tally c.self.view_is c.self.invariant.run c.applied-ran-items.ensures.lease c.requires.own c.requires.base)

@@ -1,7 +1,7 @@
 use Rattle.std.proofs.Common.{◌≡◌, ℕ, ◌<◌, ◌^◌, map, decimal, arith, rules}
 use Rattle.csv.specs.Records.{fields_of}
 use Rattle.trlab_diagram.{specs.Tables.{flow_of, window_columns}, proofs.Rows.{AreSmall, window_row}}
-use Rattle.trlab_diagram.proofs.series.fill_row.Goals as goal
+use Rattle.trlab_diagram.proofs.series.put_window.Goals as goal
 
 -- a number of 64 bits fits in 128 bits
 fits : (n : ℕ) → n < 2 ^ 64 → n < 2 ^ 128
