@@ -10,13 +10,13 @@ const SUSPICIOUSLY_SMALL: u32 = 2147;
 /// The number of decimals of a printed probability: enough to distinguish any two of them.
 const DECIMALS: u32 = 11;
 
-/// Adds a probability p, which the input states as p x 2^31.
-pub fn push_probability(facts: &mut Draft, parts: u32) {
-    let p = Amount::of(u64::from(parts), u64::from(CERTAIN), DECIMALS);
+/// Adds a probability with its name. The input states it as a multiple of 2^-31.
+pub fn push_probability(facts: &mut Draft, name: &str, parts: u32) {
+    let probability = Amount::of(u64::from(parts), u64::from(CERTAIN), DECIMALS);
     let warning = if 0 < parts && parts <= SUSPICIOUSLY_SMALL {
         " Warning: less than one in a million. 2147483648 means always."
     } else {
         ""
     };
-    writeln!(facts, "  p = {p} ({parts}).{warning}");
+    writeln!(facts, "  {name} = {probability} ({parts}).{warning}");
 }

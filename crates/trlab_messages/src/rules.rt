@@ -11,18 +11,27 @@ use trlab_lines::cut;
 use trlab_rules::Rule;
 use trlab_texts::word::{head_word, number_from};
 
-/// A rule has at most this many probabilities.
-const MAX_PROBABILITIES: u32 = 2;
+/// The names of the probabilities in the line of each model, in their order.
+const NASCH_NAMES: [&str; 2] = ["p", "p"];
+const VDR_NAMES: [&str; 2] = ["p", "p0"];
+const RICKERT_NAMES: [&str; 2] = ["p", "c"];
 
-/// Adds the probabilities after the name of a rule.
+/// Adds the probabilities after the name of a model.
 fn push_probabilities(facts: &mut Draft, words: &[u8]) {
+    let names = if words.starts_with(b"vdr") {
+        &VDR_NAMES
+    } else if words.starts_with(b"rickert") {
+        &RICKERT_NAMES
+    } else {
+        &NASCH_NAMES
+    };
     let mut left = words;
-    for _ in 0..MAX_PROBABILITIES {
+    for name in names {
         let Some((_, rest)) = cut(left, b' ') else {
             break;
         };
         if let Ok(parts) = number_from(0, CERTAIN, head_word(rest)) {
-            push_probability(facts, parts);
+            push_probability(facts, *name, parts);
         }
         left = rest;
     }

@@ -59,7 +59,7 @@ fn push_draws(alloc: Global, facts: &mut Draft, program: Listing<'_>) -> Result<
             };
             let line = Quoted(program.line(pc as u32).line);
             writeln!(facts, "line {draw}: {line}");
-            push_probability(facts, parts);
+            push_probability(facts, "p", parts);
             draws.push(draw)?;
         }
     }
