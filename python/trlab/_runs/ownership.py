@@ -102,19 +102,24 @@ class Lease(NamedTuple):
 
     @contextmanager
     def task(self) -> Iterator[None]:
-        """Marks, for the end of the run, that a task of this process is running."""
+        """Marks that a task of this process is running, so that the run waits for it when it ends."""
         with owned(Path(f"{self.path}.{machine()}-{os.getpid()}-{secrets.token_hex(8)}")) as mark:
             mark.touch()
             yield
 
-    def is_here(self) -> bool:
+    def is_of_this_process(self) -> bool:
         """Whether the run belongs to this process."""
-        return (self.machine, self.process) == (machine(), os.getpid())
+        return self._is_of_this_machine() and self.process == os.getpid()
 
     def is_over(self) -> bool:
-        """Whether the run has ended, also by a kill if it was on this machine."""
-        return not os.path.exists(self.path) or (self.machine == machine() and not is_running(self.process))
+        """Whether the run has ended. A process that was killed leaves the file, but is missed on its own machine."""
+        return not os.path.exists(self.path) or (self._is_of_this_machine() and not is_running(self.process))
 
-    def can_be_seen(self) -> bool:
-        """Whether this machine would notice the end of the run."""
-        return self.machine == machine() or os.path.exists(self.path)
+    def is_visible(self) -> bool:
+        """Whether this process can see the file while the run continues. Another machine cannot if it does not share
+        the folder, and a missing file does not mean there that the run is over."""
+        return self._is_of_this_machine() or os.path.exists(self.path)
+
+    def _is_of_this_machine(self) -> bool:
+        """Whether the run belongs to a process of this machine."""
+        return self.machine == machine()
