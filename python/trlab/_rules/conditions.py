@@ -52,7 +52,7 @@ class Conditions(Expressions):
                 self.reject(node, operator, "is not possible: a rule compares with <, <=, >, >=, == and !=")
         sums = [self.sum(operand) for operand in [node.left, *node.comparators]]
         skip = Label()
-        with self.at(node):
+        with self.placed_at(node):
             *first_comparisons, last_comparison = zip(node.ops, sums, sums[1:])
             for operator, left, right in first_comparisons:
                 # One comparison that is false decides the whole.
@@ -63,7 +63,7 @@ class Conditions(Expressions):
 
     def _branch_at_value(self, value: Value, node: ast.expr, target: Label, when: bool) -> None:
         """The same for a value: a flag, or a number, which is true unless it is 0."""
-        with self.at(node):
+        with self.placed_at(node):
             if isinstance(value, Flag):
                 self.emitter.emit("jtrue" if when else "jfalse", None, value.register, target=target)
             else:
