@@ -8,7 +8,7 @@ import os
 import warnings
 from pathlib import Path
 from collections.abc import Iterator
-from typing import IO, Optional, Union
+from typing import IO, NamedTuple, Optional, Union
 
 from .location import find_program, printed_by, sha256_of_program
 from .ownership import new_path, owned, remove_left
@@ -109,7 +109,14 @@ def key_of(request: Request) -> str:
     return digest.hexdigest()
 
 
-def program_identity() -> tuple[str, str]:
+class ProgramIdentity(NamedTuple):
+    """The version of a program and its SHA-256."""
+
+    version: str
+    sha256: str
+
+
+def program_identity() -> ProgramIdentity:
     """The version of the program and its SHA-256."""
     path = find_program()
     stat = os.stat(path)
@@ -117,9 +124,11 @@ def program_identity() -> tuple[str, str]:
 
 
 @functools.lru_cache(maxsize=None)
-def _identity(path: str, modified: int, size: int, inode: int) -> tuple[str, str]:
-    """The version and SHA-256 of a program, which is read once as long as the file does not change."""
-    return (printed_by(path, "--version") or "").split("\n")[0], sha256_of_program(path)
+def _identity(path: str, modified: int, size: int, inode: int) -> ProgramIdentity:
+    """The identity of a program, which is read only once as long as the file does not change: the other arguments are
+    those of the file, and part of the key of `lru_cache`."""
+    version = (printed_by(path, "--version") or "").split("\n")[0]
+    return ProgramIdentity(version, sha256_of_program(path))
 
 
 def _warn_that_nothing_is_kept(folder: Path, fault: OSError) -> None:

@@ -91,7 +91,7 @@ class Study:
         tables = dict(self.results(**options))
         in_order = {place: tables[place] for place in self.inputs}
         frame = tidy(in_order, self.names, self._roads, keep=options.get("errors") == "keep")
-        frame.attrs["trlab"] = {"trlab": __version__, "program": program_identity()[1], "parameters": list(self.names)}
+        frame.attrs["trlab"] = {"trlab": __version__, "program": program_identity().sha256, "parameters": list(self.names)}
         return frame
 
 
