@@ -119,7 +119,7 @@ MUTANTS = list(map(Mutant._make, [
     ("_analysis/columns.py", "isinstance(value, (Real, Decimal, numpy.bool_))",
      "isinstance(value, (Real, Decimal, numpy.bool_, str))"),
     # Results as frames.
-    ("_analysis/frames.py", "if not (keep and isinstance(fault, NoRows)):", "if not keep:"),
+    ("_analysis/frames.py", "if not (keep and isinstance(error, NoRows)):", "if not keep:"),
     ("_analysis/frames.py", "    errors.update((place, \"no result yet\") for place in missing)\n", ""),
     ("_analysis/frames.py", "roads[\"cars\"][0] / roads[\"cells\"] for roads",
      "float(as_fraction(value)) for value, roads in zip(choices.density, runs.values()) for _ in [0] if True or roads"),

@@ -64,8 +64,8 @@ class Cache:
         with owned(new_path(self.folder, "new")) as path:
             try:
                 file = open(path, "x+b")
-            except OSError as fault:
-                _warn_that_nothing_is_kept(self.folder, fault)
+            except OSError as error:
+                _warn_that_nothing_is_kept(self.folder, error)
                 yield from run(request)
                 return
             with file:
@@ -96,8 +96,8 @@ class Cache:
             os.replace(path, self.path(key))
         except IsADirectoryError:
             raise ResultFilesError(f"{self.path(key)} is a folder, and the cache needs this name: remove it") from None
-        except OSError as fault:
-            _warn_that_nothing_is_kept(self.folder, fault)
+        except OSError as error:
+            _warn_that_nothing_is_kept(self.folder, error)
 
 
 def key_of(request: Request) -> str:
@@ -131,11 +131,11 @@ def _identity(path: str, modified: int, size: int, inode: int) -> ProgramIdentit
     return ProgramIdentity(version, sha256_of_program(path))
 
 
-def _warn_that_nothing_is_kept(folder: Path, fault: OSError) -> None:
-    """Warns that outputs are not kept in a folder that cannot be written to. Raises any other fault."""
-    if fault.errno not in _READ_ONLY:
-        raise fault
-    message = f"new outputs are not kept, because {folder} cannot be written to: {fault.strerror}"
+def _warn_that_nothing_is_kept(folder: Path, error: OSError) -> None:
+    """Warns that outputs are not kept in a folder that cannot be written to. Raises any other error."""
+    if error.errno not in _READ_ONLY:
+        raise error
+    message = f"new outputs are not kept, because {folder} cannot be written to: {error.strerror}"
     warnings.warn(message, TrlabWarning, stacklevel=2)
 
 

@@ -88,5 +88,5 @@ def _decoded(output: bytes) -> str:
     """An output as text. Raises `OutputFormatError` if it is not one."""
     try:
         return output.decode("utf-8")
-    except UnicodeDecodeError as fault:
-        raise OutputFormatError(f"the program wrote bytes that are not text: {fault}") from None
+    except UnicodeDecodeError as error:
+        raise OutputFormatError(f"the program wrote bytes that are not text: {error}") from None

@@ -56,9 +56,9 @@ class Processes:
             try:
                 command = [*command_of(program), *request.arguments]
                 process = Child(command, stdin=source, stdout=subprocess.PIPE, stderr=messages)
-            except OSError as fault:
-                if fault.errno in _NOT_FOUND:
-                    raise ProgramNotFoundError(f"{program} cannot be run: {fault.strerror}") from None
+            except OSError as error:
+                if error.errno in _NOT_FOUND:
+                    raise ProgramNotFoundError(f"{program} cannot be run: {error.strerror}") from None
                 raise
             self._add(process)
         return process

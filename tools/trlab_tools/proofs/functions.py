@@ -51,10 +51,11 @@ def base_name(kind: str) -> str:
 def without_parameters(head: str) -> str:
     """What follows the parameters of an `impl`."""
     depth = 0
-    for at, sign in enumerate(head):
-        depth += (sign == "<") - (sign == ">" and head[at - 1] != "-")
+    for place, sign in enumerate(head):
+        # (The arrow of a function type closes nothing.)
+        depth += (sign == "<") - (sign == ">" and head[place - 1] != "-")
         if depth == 0:
-            return head[at + 1:] if sign == ">" else head
+            return head[place + 1:] if sign == ">" else head
     return head
 
 
