@@ -61,6 +61,16 @@ class _Piece(NamedTuple):
     chi2: float
 
 
+class _Halves(NamedTuple):
+    """Two halves of parabolas with a common vertex: its height, their bends, and the residuals of the means. The matrix
+    `solve` gives the changes of the height, of both bends and of the place of the vertex from the residuals."""
+
+    height: float
+    bends: list[float]
+    residuals: Array
+    solve: Array
+
+
 class _Pair(NamedTuple):
     """Two polynomials: `rising` for the points from `first` to before `place`, and `falling` for those from `place` to
     before `end`. The matrix `solve` gives the coefficients of both, those of `rising` first, from the means."""
@@ -144,31 +154,36 @@ class Curve:
     def _skewed(self, first: int, end: int) -> Iterator[Fit]:
         """The curve of two halves of parabolas with the same vertex, if it is inside: by the method of Gauss and Newton,
         from the vertex of the parabola on."""
-        start = self._piece(first, end, 2).coefficients
-        if end - first - 4 < LEAST_FREEDOM or start[2] >= 0:
+        _, slope, bend = self._piece(first, end, 2).coefficients
+        if end - first - 4 < LEAST_FREEDOM or bend >= 0:
             return
-        places, mean, weights = self.places[first:end], self.mean[first:end], 1 / self.sem[first:end]
-        vertex = -start[1] / (2 * start[2])
+        places = self.places[first:end]
+        vertex = -slope / (2 * bend)
         for _ in range(MAX_TURNS):
             if not places[1] <= vertex <= places[-2]:
                 return
-            distance = places - vertex
-            halves = numpy.stack([distance < 0, distance >= 0], axis=1).astype(float)
-            design = numpy.column_stack([numpy.ones(len(places)), -halves * distance[:, None] ** 2])
-            height, *bends = numpy.linalg.pinv(design * weights[:, None]) @ (mean * weights)
-            residuals = mean - design @ [height, *bends]
-            jacobian = numpy.column_stack([design, 2 * distance * (halves @ bends)])
-            solve = numpy.linalg.pinv(jacobian * weights[:, None]) * weights
-            step = float(solve[3] @ residuals)
+            halves = self._halves(first, end, vertex)
+            step = float(halves.solve[3] @ halves.residuals)
             vertex += step
             if abs(step) < CONVERGED_STEP:
                 break
-        if min(bends) > 0 and abs(step) < MAX_LAST_STEP:
-            chi2 = float(((residuals * weights) ** 2).sum()) * self._scale
-            # The parameters are the height, the two bends and the vertex, so that place and height are two of them.
+        if min(halves.bends) > 0 and abs(step) < MAX_LAST_STEP:
+            chi2 = float(((halves.residuals * (1 / self.sem[first:end])) ** 2).sum()) * self._scale
+            # Place and height of the maximum are two of the four parameters.
             rows = numpy.eye(4)
-            top = self._top(solve, first, end, vertex, rows[3], float(height), rows[0])
+            top = self._top(halves.solve, first, end, vertex, rows[3], halves.height, rows[0])
             yield Fit(chi2, 4, end - first, len(self.mean) - end + first, top, has_corner=False)
+
+    def _halves(self, first: int, end: int, vertex: float) -> _Halves:
+        """The halves of parabolas through these points that have their vertex at this place."""
+        mean, weights = self.mean[first:end], 1 / self.sem[first:end]
+        distance = self.places[first:end] - vertex
+        is_in_half = numpy.stack([distance < 0, distance >= 0], axis=1).astype(float)
+        design = numpy.column_stack([numpy.ones(len(distance)), -is_in_half * distance[:, None] ** 2])
+        height, *bends = numpy.linalg.pinv(design * weights[:, None]) @ (mean * weights)
+        jacobian = numpy.column_stack([design, 2 * distance * (is_in_half @ bends)])
+        solve = numpy.linalg.pinv(jacobian * weights[:, None]) * weights
+        return _Halves(float(height), bends, mean - design @ [height, *bends], solve)
 
     def _top(
         self, solve: Array, first: int, end: int, x: float, x_row: Array, y: float, y_row: Array,

@@ -11,7 +11,7 @@ from collections.abc import Iterator
 from typing import IO, NamedTuple, Optional, Union
 
 from .location import find_program, printed_by, sha256_of_program
-from .ownership import new_path, owned, remove_left
+from .ownership import new_path, owned, remove_abandoned
 from .._errors import IncompleteOutputError, ParameterError, ResultFilesError, TrlabWarning
 from .processes import run
 from .requests import Length, Request
@@ -44,7 +44,7 @@ class Cache:
             raise ParameterError(
                 f"the cache needs the path of a folder, and {self.folder} is a file, or below one"
             ) from None
-        remove_left(self.folder)
+        remove_abandoned(self.folder)
 
     def path(self, key: str) -> Path:
         """The path of the output with this key."""

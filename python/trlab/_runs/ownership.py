@@ -56,16 +56,16 @@ def remove_owned() -> None:
             path.unlink(missing_ok=True)
 
 
-def remove_left(folder: Path) -> None:
+def remove_abandoned(folder: Path) -> None:
     """Removes the files of `new_path` whose processes were on this machine and have ended."""
     for file in folder.glob(f".*{_MARK}{machine()}-*-*"):
-        if _is_left(file):
-            # Those in a read-only folder stay.
+        if _is_abandoned(file):
+            # Files in a read-only folder stay.
             with suppress(OSError):
                 file.unlink(missing_ok=True)
 
 
-def _is_left(file: Path) -> bool:
+def _is_abandoned(file: Path) -> bool:
     """Whether the process of a file of this machine has ended. The number of the process is in the name of the file."""
     *_, process, _ = file.name.split("-")
     return process.isdecimal() and not is_running(int(process))

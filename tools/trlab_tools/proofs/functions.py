@@ -34,12 +34,12 @@ class Function(NamedTuple):
         """The path of the module of its file."""
         return re.sub(r"^src/((lib|main)\.rt)?|\.rt$", "", self.file).replace("/", "::")
 
-    def path_in(self, every: Collection[str]) -> Optional[str]:
-        """Its path, of all those of a crate as the prover names them, or None."""
+    def path_in(self, paths: Collection[str]) -> Optional[str]:
+        """Its path, out of the paths by which the prover names the functions of its crate, or None."""
         last = rf"{re.escape(self.owner)}\w*::{self.name}" if self.owner else self.name
-        in_module = [path for path in every if re.fullmatch(rf"{self.module}(::)?{last}", path)]
-        # (a method is named by the module of its type, which may be another file's)
-        candidates = in_module or [path for path in every if self.owner and re.fullmatch(rf"(\w+::)*{last}", path)]
+        in_module = [path for path in paths if re.fullmatch(rf"{self.module}(::)?{last}", path)]
+        # A method is named by the module of its type, which may be in another file.
+        candidates = in_module or [path for path in paths if self.owner and re.fullmatch(rf"(\w+::)*{last}", path)]
         return min(candidates, key=len) if candidates else None
 
 
