@@ -7,13 +7,13 @@ from __future__ import annotations
 from collections.abc import Iterable, Mapping, Sequence
 from typing import Any, Optional, Union
 
-from .columns import COUNTS, DERIVED, IDENTITY, RANGES, as_numbers, derived, strange_value, place_shown, wrong_unit
-from .required import numpy, pandas
-from .rows import OF_THE_ROAD, NoRows, Rows, rows_of
 from .._errors import FrameError
 from .._results.tables import Point, Table, Window
 from .._studies.keys import as_fraction
 from .._studies.roads import KnownRoads
+from .columns import COUNTS, DERIVED, IDENTITY, RANGES, as_numbers, derived, strange_value, place_shown, wrong_unit
+from .required import numpy, pandas
+from .rows import OF_THE_ROAD, NoRows, Rows, rows_of
 
 Place = tuple[Any, ...]
 

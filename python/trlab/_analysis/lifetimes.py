@@ -5,10 +5,10 @@ import math
 from collections.abc import Iterable
 from typing import NamedTuple, Union
 
+from .._errors import EstimateError
 from .columns import Array
 from .required import numpy, pandas
 from .series import as_column, finite_numbers, various_levels
-from .._errors import EstimateError
 
 MAX_Z = 3.0
 """The largest deviation from an exponential law, in standard deviations."""

@@ -4,11 +4,11 @@ from __future__ import annotations
 from collections.abc import Sequence
 from typing import Union
 
+from .._errors import FrameError
 from .branches import need_one_branch
 from .columns import COUNTS, DERIVED, IDENTITY, LANE_SUMS, Array, derived, strange_value
-from .required import numpy, pandas
 from .repetitions import Repetitions, grouped, need_runs, numbers, repetitions
-from .._errors import FrameError
+from .required import numpy, pandas
 
 
 def mean_and_sem(values: Array, group: Array) -> tuple[Array, Array]:

@@ -5,12 +5,12 @@ import math
 from collections.abc import Sequence
 from typing import NamedTuple
 
+from .._errors import EstimateError
 from .columns import RUN, Array
 from .means import means
 from .peak_fits import LEAST_POINTS, Curve, Fit, Top
 from .repetitions import numbers, repetitions
 from .required import numpy, pandas
-from .._errors import EstimateError
 
 LEAST_RUNS = 5
 

@@ -3,13 +3,13 @@ from __future__ import annotations
 
 from typing import Any, Optional
 
-from .columns import as_numbers
-from .required import numpy, pandas
-from .units import label
 from .._errors import FrameError, ParameterError
 from .._inputs.numbers import MAX_SPEED, checked_int
 from .._libraries import library
 from .._results.snapshots import Snapshots
+from .columns import as_numbers
+from .required import numpy, pandas
+from .units import label
 
 HUES = [(122, 16, 22), (208, 66, 24), (243, 154, 46), (142, 196, 232), (76, 142, 200), (26, 86, 150)]
 """Red, green and blue of the colours of speeds, from 0 to the highest one, at equal distances: those of `trlab-lab`."""

@@ -4,9 +4,9 @@ from __future__ import annotations
 from collections.abc import Iterator, Sequence
 from typing import Any, NamedTuple, Union
 
+from .._errors import FrameError
 from .columns import IDENTITY, PER_CAR, RUN, Array, as_numbers, place_shown, wrong_unit
 from .required import numpy, pandas
-from .._errors import FrameError
 
 
 class Repetitions(NamedTuple):

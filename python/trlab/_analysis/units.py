@@ -4,9 +4,9 @@ from __future__ import annotations
 import math
 from collections.abc import Hashable, Sequence
 
+from .._errors import FrameError, ParameterError
 from .columns import as_numbers, strange_value, wrong_unit
 from .required import pandas
-from .._errors import FrameError, ParameterError
 
 UNITS = {
     "density": "cars per cell",

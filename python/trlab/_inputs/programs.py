@@ -6,9 +6,9 @@ from typing import NamedTuple, Union
 from .._errors import ParameterError
 from .._rules.functions import PythonRule
 from .._runs.calls import ask, explained
-from .sweeps import Sweep
 from .jobs import Job
 from .numbers import shown
+from .sweeps import Sweep
 
 
 class AcceptedProgram(NamedTuple):

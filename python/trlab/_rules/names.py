@@ -11,8 +11,8 @@ from itertools import count
 from typing import Any, NamedTuple, NoReturn, Optional, Union
 
 from .emission import Emitter, Label, Place, Register
-from .pairs import Arithmetic, Number
 from .outside import instead_of
+from .pairs import Arithmetic, Number
 from .reading import UNKNOWN, Function, plain
 
 _OPERATORS = (

@@ -6,8 +6,8 @@ exact below 0."""
 from __future__ import annotations
 
 import ast
-from itertools import count
 from collections.abc import Container, Sequence
+from itertools import count
 from typing import NamedTuple, Optional
 
 from .emission import Emitter, Label, Operand, Place, Register

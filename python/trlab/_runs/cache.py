@@ -6,13 +6,13 @@ import functools
 import hashlib
 import os
 import warnings
-from pathlib import Path
 from collections.abc import Iterator
+from pathlib import Path
 from typing import IO, NamedTuple, Optional, Union
 
+from .._errors import IncompleteOutputError, ParameterError, ResultFilesError, TrlabWarning
 from .location import find_program, printed_by, sha256_of_program
 from .ownership import new_path, owned, remove_abandoned
-from .._errors import IncompleteOutputError, ParameterError, ResultFilesError, TrlabWarning
 from .processes import run
 from .requests import Length, Request
 

@@ -3,12 +3,12 @@ from __future__ import annotations
 
 import io
 import json
-from contextlib import closing
 from collections.abc import Generator, Iterator, Sequence
+from contextlib import closing
 from typing import NamedTuple
 
-from .location import find_program, sha256_of_program
 from .._errors import OutputFormatError, ProgramError, RejectedInputError
+from .location import find_program, sha256_of_program
 from .processes import REJECTED, RejectionError, output_of, run
 from .requests import Request
 

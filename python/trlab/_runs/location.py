@@ -11,8 +11,8 @@ import subprocess
 import tempfile
 import threading
 import zlib
-from pathlib import Path
 from collections.abc import Iterator
+from pathlib import Path
 from typing import NoReturn, Optional
 
 from .._errors import ProgramNotFoundError

@@ -3,22 +3,22 @@ from __future__ import annotations
 
 import itertools
 import threading
+from collections.abc import Callable, Iterable, Iterator, Mapping
 from concurrent.futures import BrokenExecutor, Executor, Future, ThreadPoolExecutor, wait
 from contextlib import contextmanager, nullcontext, suppress
 from pathlib import Path
 from queue import Empty, SimpleQueue
-from collections.abc import Callable, Iterable, Iterator, Mapping
 from typing import Any, NamedTuple, Optional, TypeVar, Union, overload
 
 from .._errors import ParameterError, set_first_cause
+from .._inputs.jobs import Job
+from .._inputs.numbers import checked_int
+from .._inputs.sweeps import Sweep
 from .cache import Cache
 from .ownership import Lease
-from .progress import Line, Progress, reporter
 from .processes import Processes, Setting, new_processes, set_to, setting
+from .progress import Line, Progress, reporter
 from .systems import SPAN, after_fork, processors
-from .._inputs.jobs import Job
-from .._inputs.sweeps import Sweep
-from .._inputs.numbers import checked_int
 
 Input = TypeVar("Input")
 Name = TypeVar("Name")

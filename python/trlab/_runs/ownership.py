@@ -8,9 +8,9 @@ import secrets
 import socket
 import tempfile
 import time
+from collections.abc import Iterator
 from contextlib import contextmanager, suppress
 from pathlib import Path
-from collections.abc import Iterator
 from typing import NamedTuple, Optional
 
 from .systems import after_fork, is_running

@@ -7,9 +7,9 @@ import functools
 import subprocess
 import tempfile
 import threading
+from collections.abc import Generator, Iterator
 from contextlib import contextmanager, suppress
 from contextvars import ContextVar
-from collections.abc import Generator, Iterator
 from typing import IO, TYPE_CHECKING, NamedTuple, Optional
 
 from .._errors import ProgramError, ProgramNotFoundError

@@ -5,8 +5,8 @@ import inspect
 import itertools
 import re
 from collections import namedtuple
-from contextlib import closing
 from collections.abc import Callable, Hashable, Iterable, Iterator, Mapping, Sequence
+from contextlib import closing
 from pathlib import Path
 from typing import TYPE_CHECKING, Any, Union, cast
 

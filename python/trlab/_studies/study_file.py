@@ -8,13 +8,14 @@ import re
 import zipfile
 import zlib
 from collections import namedtuple
+from collections.abc import Iterator, Mapping, Sequence
 from fractions import Fraction
 from numbers import Integral, Rational, Real
 from pathlib import Path
-from collections.abc import Iterator, Mapping, Sequence
 from typing import TYPE_CHECKING, Any, NamedTuple, NoReturn, Union
 
 from .._errors import ParameterError, StudyFileError
+from .._inputs.sweeps import Sweep
 from .._results.tables import Point, Table, Window
 from .._runs.cache import program_identity
 from .._runs.calls import ask
@@ -22,7 +23,6 @@ from .._runs.many import results as results_of
 from .._runs.ownership import new_path, owned
 from .._runs.parts import joined, kind_of, need_whole_windows, requests_of
 from .._runs.requests import Request
-from .._inputs.sweeps import Sweep
 from .._version import __version__
 
 if TYPE_CHECKING:
