@@ -119,7 +119,7 @@ MUTANTS = list(map(Mutant._make, [
     ("_analysis/columns.py", "isinstance(value, (Real, Decimal, numpy.bool_))",
      "isinstance(value, (Real, Decimal, numpy.bool_, str))"),
     # Results as frames.
-    ("_analysis/frames.py", "if not (keep and isinstance(fault, NoRows)):", "if not keep:"),
+    ("_analysis/frames.py", "if not (keep and isinstance(error, NoRows)):", "if not keep:"),
     ("_analysis/frames.py", "    errors.update((place, \"no result yet\") for place in missing)\n", ""),
     ("_analysis/frames.py", "roads[\"cars\"][0] / roads[\"cells\"] for roads",
      "float(as_fraction(value)) for value, roads in zip(choices.density, runs.values()) for _ in [0] if True or roads"),
@@ -257,11 +257,11 @@ MUTANTS = list(map(Mutant._make, [
     ("_exact/rules.py", " and parts(rule.change) == 0", ""),
     ("_exact/rules.py", "if not is_exact(rule):", "if False:"),
     # Rules as Python functions: numbers below 0.
-    ("_rules/pairs.py", "held(number.minus)], by - 1)", "held(number.minus)], 0)"),
+    ("_rules/pairs.py", "held(number.minus)], divisor - 1)", "held(number.minus)], 0)"),
     ("_rules/pairs.py", "self.excess(minus, plus), self._emitter.place)", "0)"),
     ("_rules/pairs.py", "else Number(minus, plus, self._emitter.place)", "else Number(plus, minus)"),
     ("_rules/pairs.py", "opposite = \"max\" if name == \"min\" else \"min\"", "opposite = name"),
-    ("_rules/pairs.py", "return self._best(\"max\", (number.plus, number.minus))", "return number.plus"),
+    ("_rules/pairs.py", "return self._extreme_part(\"max\", (number.plus, number.minus))", "return number.plus"),
     ("_rules/pairs.py", "or name == \"min\" and best_constant == 0", "or best_constant == 0"),
     ("_rules/pairs.py", "max(-terms.constant, 0)", "max(terms.constant, 0)"),
     ("_rules/pairs.py", "return Number(self.excess(plus, minus))", "return Number(self.excess(minus, plus))"),
@@ -275,8 +275,8 @@ MUTANTS = list(map(Mutant._make, [
     ("_rules/statements.py", "if value.minus != 0 and self.emitter.is_live:", "if False:"),
     # Conditions.
     ("_rules/pairs.py", "if isinstance(operator, (ast.Gt, ast.GtE)):", "if isinstance(operator, ast.Gt):"),
-    ("_rules/pairs.py", "when = when == isinstance(operator, ast.Eq)", "when = when != isinstance(operator, ast.Eq)"),
-    ("_rules/pairs.py", "self.jump(high, low, True, target, when)", "self.jump(high, low, False, target, when)"),
+    ("_rules/pairs.py", "target, when == isinstance(operator, ast.Eq)", "target, when != isinstance(operator, ast.Eq)"),
+    ("_rules/pairs.py", "right, left, target, when, may_be_equal=True", "right, left, target, when, may_be_equal=False"),
     ("_rules/pairs.py", "high + 1 if may_be_equal else high", "high + 1"),
     ("_rules/pairs.py", "low if may_be_equal else low + 1", "low"),
     ("_rules/pairs.py", "\"jlt\" if may_be_equal else \"jle\", None, high",
@@ -291,7 +291,7 @@ MUTANTS = list(map(Mutant._make, [
     ("_rules/conditions.py", " and self._is_truth(parts[-1]):", ":"),
     ("_rules/conditions.py", "return all(self._is_truth(part)", "return any(self._is_truth(part)"),
     ("_rules/conditions.py", "self.emitter.emit(\"and\", result, result, self.emitter.new(\"not\", result))", "pass"),
-    ("_rules/conditions.py", "self.numbers.jump(1, self.numbers.size(value),", "self.numbers.jump(1, value.plus,"),
+    ("_rules/conditions.py", "jump_at_order(1, self.numbers.size(value),", "jump_at_order(1, value.plus,"),
     # Words, calls and statements.
     ("_rules/calls.py", "self._next_word += 1 if self.kind == \"motion\" else -1", "self._next_word += 1"),
     ("_rules/calls.py", "if self.words.setdefault(word, is_given) != is_given:", "if False:"),

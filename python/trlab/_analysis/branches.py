@@ -1,10 +1,10 @@
 """Runs of two branches, for example with and without a jam, whose mean is the flow of neither."""
 from __future__ import annotations
 
+from .._errors import FrameError
 from .columns import Array, as_numbers
 from .repetitions import Repetitions
 from .required import numpy
-from .._errors import FrameError
 
 LEAST_RUNS = 5
 

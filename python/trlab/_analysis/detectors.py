@@ -11,11 +11,11 @@ from collections import defaultdict
 from collections.abc import Iterable, Iterator, Sequence
 from typing import Any, NamedTuple, Optional
 
-from .required import pandas
 from .._errors import ParameterError, SnapshotsError
 from .._inputs.numbers import MAX_SPEED, checked_int
 from .._inputs.states import SPEEDS
 from .._results.snapshots import Snapshot
+from .required import pandas
 
 
 def passings(snapshots: Iterable[Snapshot], cells: Sequence[int]) -> pandas.DataFrame:

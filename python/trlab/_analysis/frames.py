@@ -7,13 +7,13 @@ from __future__ import annotations
 from collections.abc import Iterable, Mapping, Sequence
 from typing import Any, Optional, Union
 
-from .columns import COUNTS, DERIVED, IDENTITY, RANGES, as_numbers, derived, strange_value, place_shown, wrong_unit
-from .required import numpy, pandas
-from .rows import OF_THE_ROAD, NoRows, Rows, rows_of
 from .._errors import FrameError
 from .._results.tables import Point, Table, Window
 from .._studies.keys import as_fraction
 from .._studies.roads import KnownRoads
+from .columns import COUNTS, DERIVED, IDENTITY, RANGES, as_numbers, derived, strange_value, place_shown, wrong_unit
+from .required import numpy, pandas
+from .rows import OF_THE_ROAD, NoRows, Rows, rows_of
 
 Place = tuple[Any, ...]
 
@@ -41,10 +41,10 @@ def tidy(
             continue
         try:
             rows_by_choice[place] = rows_of(result, names, runs[place])
-        except FrameError as fault:
-            if not (keep and isinstance(fault, NoRows)):
-                raise FrameError(f"{place_shown(names, place) or 'the only input'}: {fault}") from None
-            errors[place] = f"FrameError: {fault}"
+        except FrameError as error:
+            if not (keep and isinstance(error, NoRows)):
+                raise FrameError(f"{place_shown(names, place) or 'the only input'}: {error}") from None
+            errors[place] = f"FrameError: {error}"
     missing = [place for place in runs if place not in rows_by_choice and place not in errors]
     if missing and not keep:
         raise FrameError(
@@ -89,8 +89,8 @@ def _check_units(frame: pandas.DataFrame) -> None:
     for name in [name for name in RANGES if name in frame]:
         try:
             values = as_numbers(frame[name])
-        except ValueError as fault:
-            raise FrameError(f"{fault}: give such a column another name") from None
+        except ValueError as error:
+            raise FrameError(f"{error}: give such a column another name") from None
         if wrong := wrong_unit(name, values):
             raise FrameError(f"{wrong}. Give a column in other units another name")
 

@@ -5,10 +5,10 @@ import math
 from collections.abc import Iterable
 from typing import NamedTuple, Union
 
+from .._errors import EstimateError
 from .columns import Array
 from .required import numpy, pandas
 from .series import as_column, finite_numbers, various_levels
-from .._errors import EstimateError
 
 MAX_Z = 3.0
 """The largest deviation from an exponential law, in standard deviations."""
@@ -46,7 +46,7 @@ def lifetime(times: Values, observed: Values) -> Lifetime:
     Raises `EstimateError` if no life ended, because there is only a lower bound then, if the law is clearly not
     exponential, if times and ends are not as described, and if an index shows that runs of several inputs are mixed.
     The lives of jams are not exponential: see `Jam`."""
-    time, is_observed = _lives(times, observed)
+    time, is_observed = _checked_lives(times, observed)
     ends = int(is_observed.sum())
     if not ends:
         raise EstimateError(
@@ -94,7 +94,7 @@ def survival(times: Values, observed: Values) -> pandas.DataFrame:
     (1926). This is 0 before the first end and NaN when no life is left: the error is unknown there, and not 0.
 
     Raises `EstimateError` as `lifetime` does, but not if no life ended."""
-    time, is_observed = _lives(times, observed)
+    time, is_observed = _checked_lives(times, observed)
     lives = pandas.DataFrame({"time": time, "end": is_observed}).groupby("time")["end"].agg(["size", "sum"])
     lives = pandas.concat([pandas.DataFrame(0, index=[0.0], columns=["size", "sum"]), lives]).rename_axis("time")
     at_risk, ends = lives["size"][::-1].cumsum()[::-1], lives["sum"]
@@ -105,8 +105,16 @@ def survival(times: Values, observed: Values) -> pandas.DataFrame:
     return pandas.DataFrame({"at_risk": at_risk, "survival": share, "survival_sem": sem})
 
 
-def _lives(times: Values, observed: Values) -> tuple[Array, Array]:
-    """The times, and which of them have an end that was seen."""
+class _Lives(NamedTuple):
+    """The times of lives, and whether the end of each was seen."""
+
+    time: Array
+    is_observed: Array
+
+
+def _checked_lives(times: Values, observed: Values) -> _Lives:
+    """The lives of these columns or arrays. Raises `EstimateError` if they cannot be lives of repetitions of one
+    input."""
     time, end = as_column(times, "`times`"), as_column(observed, "`observed`")
     if len(time) != len(end) or not len(time):
         raise EstimateError(
@@ -121,7 +129,7 @@ def _lives(times: Values, observed: Values) -> tuple[Array, Array]:
         raise EstimateError("`observed` must be True or False for each life")
     if not (values > 0).all():
         raise EstimateError(f"each time must be above 0, and {values.min():g} is not")
-    return values, ends.astype(bool)
+    return _Lives(values, ends.astype(bool))
 
 
 def _need_one_input(time: pandas.Series) -> None:

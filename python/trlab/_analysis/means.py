@@ -4,11 +4,11 @@ from __future__ import annotations
 from collections.abc import Sequence
 from typing import Union
 
+from .._errors import FrameError
 from .branches import need_one_branch
 from .columns import COUNTS, DERIVED, IDENTITY, LANE_SUMS, Array, derived, strange_value
-from .required import numpy, pandas
 from .repetitions import Repetitions, grouped, need_runs, numbers, repetitions
-from .._errors import FrameError
+from .required import numpy, pandas
 
 
 def mean_and_sem(values: Array, group: Array) -> tuple[Array, Array]:
@@ -131,12 +131,7 @@ def per_run(frame: pandas.DataFrame) -> pandas.DataFrame:
     names = [name for name in frame.index.names if name != "step"]
     if len(names) == len(frame.index.names):
         raise FrameError("this frame has no level `step`: each row is a run already")
-    strange_columns = set(frame) - {*COUNTS, *LANE_SUMS, *DERIVED, *IDENTITY, "requested_density", "error"}
-    if strange_columns or not set(COUNTS) <= set(rows):
-        strange = sorted(strange_columns or set(frame))
-        raise FrameError(
-            f"per_run adds up the counts of `Job.series`, and cannot add up {strange}: measure one window per run"
-        )
+    _need_counts(frame)
     sums = [name for name in (*COUNTS[2:], *LANE_SUMS) if name in rows]
     windows = grouped(rows, [*names, *IDENTITY])
     for name in ("step", "cars", "cells", *sums):
@@ -148,10 +143,20 @@ def per_run(frame: pandas.DataFrame) -> pandas.DataFrame:
     counts = pandas.concat([groups[["cars", "cells"]].first(), groups[sums].sum()], axis=1)
     values = pandas.concat([derived(counts), counts, groups.size().rename("windows")], axis=1)
     first_rows = windows.first.reset_index(drop=True)
-    requested = [name for name in ("requested_density",) if name in first_rows]
-    parameters = first_rows[[*names, *requested]]
+    has_request = "requested_density" in first_rows
+    parameters = first_rows[[*names, "requested_density"] if has_request else names]
     runs = pandas.concat([parameters, values.drop(columns=names, errors="ignore"), first_rows[IDENTITY]], axis=1)
     return runs.set_index(names) if names else runs
+
+
+def _need_counts(frame: pandas.DataFrame) -> None:
+    """Raises `FrameError` unless the columns are the counts of windows, and values that follow from counts."""
+    strange_columns = set(frame) - {*COUNTS, *LANE_SUMS, *DERIVED, *IDENTITY, "requested_density", "error"}
+    if strange_columns or not set(COUNTS) <= {*frame, *frame.index.names}:
+        strange = sorted(strange_columns or set(frame))
+        raise FrameError(
+            f"per_run adds up the counts of `Job.series`, and cannot add up {strange}: measure one window per run"
+        )
 
 
 def _need_consecutive(windows: Repetitions) -> None:

@@ -5,12 +5,12 @@ import math
 from collections.abc import Sequence
 from typing import NamedTuple
 
+from .._errors import EstimateError
 from .columns import RUN, Array
 from .means import means
 from .peak_fits import LEAST_POINTS, Curve, Fit, Top
 from .repetitions import numbers, repetitions
 from .required import numpy, pandas
-from .._errors import EstimateError
 
 LEAST_RUNS = 5
 
@@ -149,9 +149,17 @@ def _covariance(runs: pandas.DataFrame, over: str, x: str, y: str, part: pandas.
     return numpy.atleast_2d(numpy.cov(by_key.to_numpy().T)) / len(by_key)
 
 
-def _mean_of_fits(fits: Sequence[Fit]) -> tuple[Top, Fit, float]:
-    """The mean of the maxima of the fits with its variances, the best fit, and the weight of corners. Raises
-    `EstimateError` if no curve fits the points, or if too few fits have a maximum or the maxima are too far apart."""
+class _MeanOfFits(NamedTuple):
+    """The mean of the maxima of several fits with its variances, the best fit, and the weight of corners."""
+
+    top: Top
+    best: Fit
+    corner: float
+
+
+def _mean_of_fits(fits: Sequence[Fit]) -> _MeanOfFits:
+    """The mean of the fits, weighted by the criterion of Akaike. Raises `EstimateError` if no curve fits the points, or
+    if too few fits have a maximum or the maxima are too far apart."""
     criteria = numpy.array([fit.criterion for fit in fits])
     weights = numpy.exp((criteria.min() - criteria) / 2)
     # The mean of chi2 is dof, and its standard deviation sqrt(2 dof).
@@ -176,7 +184,7 @@ def _mean_of_fits(fits: Sequence[Fit]) -> tuple[Top, Fit, float]:
     # The range of the fits is from -1 to 1.
     if math.sqrt(top.x_variance) > 2 * MAX_X_SEM:
         raise EstimateError(_FLAT)
-    return top, best, float(weights @ [fits[number].has_corner for number in chosen])
+    return _MeanOfFits(top, best, corner=float(weights @ [fits[number].has_corner for number in chosen]))
 
 
 def _need_fall(curve: pandas.DataFrame, y: str, highest: float, top: Top) -> None:

@@ -61,6 +61,35 @@ class _Piece(NamedTuple):
     chi2: float
 
 
+class _Halves(NamedTuple):
+    """Two halves of parabolas with a common vertex: its height, their bends, and the residuals of the means. The matrix
+    `solve` gives the changes of the height, of both bends and of the place of the vertex from the residuals."""
+
+    height: float
+    bends: list[float]
+    residuals: Array
+    solve: Array
+
+
+class _Pair(NamedTuple):
+    """Two polynomials: `rising` for the points from `first` to before `place`, and `falling` for those from `place` to
+    before `end`. The matrix `solve` gives the coefficients of both, those of `rising` first, from the means."""
+
+    first: int
+    place: int
+    end: int
+    rising: Array
+    falling: Array
+    solve: Array
+
+
+class _Maximum(NamedTuple):
+    """The maximum of a pair of polynomials, and whether it is the corner in which they meet."""
+
+    top: Top
+    is_corner: bool
+
+
 class Curve:
     """The means at places near the highest one, with their covariance, from at least `n` runs each."""
 
@@ -125,31 +154,36 @@ class Curve:
     def _skewed(self, first: int, end: int) -> Iterator[Fit]:
         """The curve of two halves of parabolas with the same vertex, if it is inside: by the method of Gauss and Newton,
         from the vertex of the parabola on."""
-        start = self._piece(first, end, 2).coefficients
-        if end - first - 4 < LEAST_FREEDOM or start[2] >= 0:
+        _, slope, bend = self._piece(first, end, 2).coefficients
+        if end - first - 4 < LEAST_FREEDOM or bend >= 0:
             return
-        places, mean, weights = self.places[first:end], self.mean[first:end], 1 / self.sem[first:end]
-        vertex = -start[1] / (2 * start[2])
+        places = self.places[first:end]
+        vertex = -slope / (2 * bend)
         for _ in range(MAX_TURNS):
             if not places[1] <= vertex <= places[-2]:
                 return
-            distance = places - vertex
-            halves = numpy.stack([distance < 0, distance >= 0], axis=1).astype(float)
-            design = numpy.column_stack([numpy.ones(len(places)), -halves * distance[:, None] ** 2])
-            height, *bends = numpy.linalg.pinv(design * weights[:, None]) @ (mean * weights)
-            residuals = mean - design @ [height, *bends]
-            jacobian = numpy.column_stack([design, 2 * distance * (halves @ bends)])
-            solve = numpy.linalg.pinv(jacobian * weights[:, None]) * weights
-            step = float(solve[3] @ residuals)
+            halves = self._halves(first, end, vertex)
+            step = float(halves.solve[3] @ halves.residuals)
             vertex += step
             if abs(step) < CONVERGED_STEP:
                 break
-        if min(bends) > 0 and abs(step) < MAX_LAST_STEP:
-            chi2 = float(((residuals * weights) ** 2).sum()) * self._scale
-            # The parameters are the height, the two bends and the vertex, so that place and height are two of them.
+        if min(halves.bends) > 0 and abs(step) < MAX_LAST_STEP:
+            chi2 = float(((halves.residuals * (1 / self.sem[first:end])) ** 2).sum()) * self._scale
+            # Place and height of the maximum are two of the four parameters.
             rows = numpy.eye(4)
-            top = self._top(solve, first, end, vertex, rows[3], float(height), rows[0])
+            top = self._top(halves.solve, first, end, vertex, rows[3], halves.height, rows[0])
             yield Fit(chi2, 4, end - first, len(self.mean) - end + first, top, has_corner=False)
+
+    def _halves(self, first: int, end: int, vertex: float) -> _Halves:
+        """The halves of parabolas through these points that have their vertex at this place."""
+        mean, weights = self.mean[first:end], 1 / self.sem[first:end]
+        distance = self.places[first:end] - vertex
+        is_in_half = numpy.stack([distance < 0, distance >= 0], axis=1).astype(float)
+        design = numpy.column_stack([numpy.ones(len(distance)), -is_in_half * distance[:, None] ** 2])
+        height, *bends = numpy.linalg.pinv(design * weights[:, None]) @ (mean * weights)
+        jacobian = numpy.column_stack([design, 2 * distance * (is_in_half @ bends)])
+        solve = numpy.linalg.pinv(jacobian * weights[:, None]) * weights
+        return _Halves(float(height), bends, mean - design @ [height, *bends], solve)
 
     def _top(
         self, solve: Array, first: int, end: int, x: float, x_row: Array, y: float, y_row: Array,
@@ -178,36 +212,39 @@ class Curve:
     def _corner(self, first: int, place: int, end: int, left: int, right: int) -> Iterator[Fit]:
         """The fit of polynomials of the degrees `left` and `right` to the points before `place` and from it on; none if
         they do not meet between the two points there."""
-        pieces = [self._piece(first, place, left), self._piece(place, end, right)]
-        rising, falling = (piece.coefficients for piece in pieces)
-        difference = numpy.zeros(3)
-        difference[:left + 1] += rising
-        difference[:right + 1] -= falling
+        before, after = self._piece(first, place, left), self._piece(place, end, right)
         solve = numpy.zeros((left + right + 2, end - first))
-        solve[:left + 1, :place - first], solve[left + 1:, place - first:] = (piece.solve for piece in pieces)
-        found: list[tuple[Top, bool]] = []
+        solve[:left + 1, :place - first], solve[left + 1:, place - first:] = before.solve, after.solve
+        pair = _Pair(first, place, end, before.coefficients, after.coefficients, solve)
+        difference = numpy.zeros(3)
+        difference[:left + 1] += pair.rising
+        difference[:right + 1] -= pair.falling
         meetings = real_roots(difference, self.places[place - 1], self.places[place])
-        for x in meetings:
-            slope, next_slope = value(derivative(rising), x), value(derivative(falling), x)
-            if slope > 0 > next_slope:
-                found.append((self._at_corner(solve, (first, place, end), (rising, falling), x), True))
-            elif slope <= 0 and left == 2:
-                found += self._at_vertex(solve, first, end, rising, 0, (self.places[first], x))
-            elif next_slope >= 0 and right == 2:
-                found += self._at_vertex(solve, first, end, falling, left + 1, (x, self.places[end - 1]))
         if meetings:
-            top, has_corner = max(found, key=lambda candidate: candidate[0].y, default=(None, False))
-            yield self._fit(pieces, first, end, top, has_corner)
+            maxima = [maximum for x in meetings for maximum in self._maxima(pair, x)]
+            highest = max(maxima, key=lambda maximum: maximum.top.y, default=None)
+            top, has_corner = highest or (None, False)
+            yield self._fit([before, after], first, end, top, has_corner)
 
-    def _at_corner(self, solve: Array, range_: tuple[int, int, int], halves: tuple[Array, Array], x: float) -> Top:
+    def _maxima(self, pair: _Pair, x: float) -> Iterator[_Maximum]:
+        """The maximum of two polynomials that meet at x, if there is one: the corner, or the vertex of a parabola."""
+        slope, next_slope = value(derivative(pair.rising), x), value(derivative(pair.falling), x)
+        if slope > 0 > next_slope:
+            yield _Maximum(self._at_corner(pair, x), is_corner=True)
+        elif slope <= 0 and len(pair.rising) == 3:
+            yield from self._at_vertex(pair, pair.rising, 0, self.places[pair.first], x)
+        elif next_slope >= 0 and len(pair.falling) == 3:
+            yield from self._at_vertex(pair, pair.falling, len(pair.rising), x, self.places[pair.end - 1])
+
+    def _at_corner(self, pair: _Pair, x: float) -> Top:
         """The maximum between two points, next to which polynomials meet at x in a corner.
 
         The corner may be round. Then the maximum is anywhere between the two points, and its height between that of the
         fit at the higher one and that of the corner. The middles of both ranges are taken, with half the range as
         error of the place, and a little more than half for the height, which is at the end of its range if the corner is
         sharp."""
-        first, place, end = range_
-        (rising, falling), (before, after) = halves, (self.places[place - 1], self.places[place])
+        first, place, end, rising, falling, solve = pair
+        before, after = self.places[place - 1], self.places[place]
         slope, next_slope = value(derivative(rising), x), value(derivative(falling), x)
         zeros = numpy.zeros(len(rising)), numpy.zeros(len(falling))
         height = numpy.concatenate([powers(x, len(rising) - 1), zeros[1]])
@@ -220,13 +257,15 @@ class Curve:
         )
 
     def _at_vertex(
-        self, solve: Array, first: int, end: int, parabola: Array, offset: int, inside: tuple[float, float]
-    ) -> list[tuple[Top, bool]]:
-        """The vertex of a parabola whose coefficients begin at `offset`, if it is a maximum inside its piece."""
+        self, pair: _Pair, parabola: Array, offset: int, left: float, right: float
+    ) -> Iterator[_Maximum]:
+        """The vertex of a parabola whose coefficients begin at `offset` in those of the pair, if it is a maximum between
+        the places `left` and `right`."""
         _, slope, bend = parabola
-        if bend >= 0 or not inside[0] < -slope / (2 * bend) < inside[1]:
-            return []
+        if bend >= 0 or not left < -slope / (2 * bend) < right:
+            return
         x = -slope / (2 * bend)
-        x_row, y_row = numpy.zeros(len(solve)), numpy.zeros(len(solve))
+        x_row, y_row = numpy.zeros(len(pair.solve)), numpy.zeros(len(pair.solve))
         x_row[offset:offset + 3], y_row[offset:offset + 3] = slopes(x, 2) / (-2 * bend), powers(x, 2)
-        return [(self._top(solve, first, end, x, x_row, value(parabola, x), y_row), False)]
+        top = self._top(pair.solve, pair.first, pair.end, x, x_row, value(parabola, x), y_row)
+        yield _Maximum(top, is_corner=False)

@@ -3,13 +3,13 @@ from __future__ import annotations
 
 from typing import Any, Optional
 
-from .columns import as_numbers
-from .required import numpy, pandas
-from .units import label
 from .._errors import FrameError, ParameterError
 from .._inputs.numbers import MAX_SPEED, checked_int
 from .._libraries import library
 from .._results.snapshots import Snapshots
+from .columns import as_numbers
+from .required import numpy, pandas
+from .units import label
 
 HUES = [(122, 16, 22), (208, 66, 24), (243, 154, 46), (142, 196, 232), (76, 142, 200), (26, 86, 150)]
 """Red, green and blue of the colours of speeds, from 0 to the highest one, at equal distances: those of `trlab-lab`."""
@@ -67,17 +67,19 @@ def plot_space_time(
     Raises `ParameterError` unless the snapshots are at equal intervals of steps, which the time axis needs, and for a
     lane that the road does not have."""
     steps = [snapshot.step for snapshot in snapshots]
-    every = {after - before for before, after in zip(steps, steps[1:])} or {1}
-    if not steps or len(every) > 1 or min(every) < 1:
+    intervals = {after - before for before, after in zip(steps, steps[1:])} or {1}
+    if not steps or len(intervals) > 1 or min(intervals) < 1:
         raise ParameterError(
             "a space-time diagram needs snapshots at equal intervals of steps, as of `job.run(every=10)`"
         )
-    lanes = snapshots.speeds(dtype=numpy.float32)
-    speeds = lanes[:, checked_int("lane", lane, 0, lanes.shape[1] - 1)]
+    # Empty cells are NaN, which matplotlib leaves white.
+    speeds_by_lane = snapshots.speeds(dtype=numpy.float32)
+    speeds = speeds_by_lane[:, checked_int("lane", lane, 0, speeds_by_lane.shape[1] - 1)]
     fastest = max(1, int(numpy.nanmax(speeds, initial=0)))
     highest = fastest if limit is None else checked_int("limit", limit, fastest, MAX_SPEED)
     axes = _axes(ax, "position (cells)", "time (steps)")
-    half = min(every) / 2
+    # Each snapshot is a row of pixels, whose middle is at its step.
+    half = min(intervals) / 2
     image = axes.imshow(speeds, **{
         "aspect": "auto", "interpolation": "nearest",
         "extent": (-0.5, speeds.shape[1] - 0.5, steps[-1] + half, steps[0] - half),

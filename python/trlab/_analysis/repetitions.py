@@ -4,9 +4,9 @@ from __future__ import annotations
 from collections.abc import Iterator, Sequence
 from typing import Any, NamedTuple, Union
 
+from .._errors import FrameError
 from .columns import IDENTITY, PER_CAR, RUN, Array, as_numbers, place_shown, wrong_unit
 from .required import numpy, pandas
-from .._errors import FrameError
 
 
 class Repetitions(NamedTuple):
@@ -171,8 +171,8 @@ def numbers(groups: Repetitions, name: str) -> Array:
     is NaN without cars."""
     try:
         values = as_numbers(groups.rows[name])
-    except ValueError as fault:
-        raise FrameError(f"{fault}: name the columns to average with `of`") from None
+    except ValueError as error:
+        raise FrameError(f"{error}: name the columns to average with `of`") from None
     wrong = ~numpy.isfinite(values)
     if name in PER_CAR:
         wrong &= ~(numpy.isnan(values) & _without_cars(groups.rows))

@@ -5,13 +5,13 @@ from collections.abc import Hashable, Iterable, Mapping, Sequence
 from numbers import Real
 from typing import Any, NamedTuple, Union
 
-from .columns import COUNTS, IDENTITY, Array
-from .required import numpy, pandas
 from .._errors import FrameError
 from .._results.snapshots import Snapshot
 from .._results.tables import Point, Table, Window
 from .._studies.grid import MEASURE
 from .._studies.roads import KnownRoads
+from .columns import COUNTS, IDENTITY, Array
+from .required import numpy, pandas
 
 Record = dict[str, Any]
 

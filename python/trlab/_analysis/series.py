@@ -3,9 +3,9 @@ from __future__ import annotations
 
 from collections.abc import Iterable, Sized
 
+from .._errors import EstimateError
 from .columns import Array, as_numbers
 from .required import numpy, pandas
-from .._errors import EstimateError
 
 
 def as_column(values: object, name: str) -> pandas.Series:

@@ -4,9 +4,9 @@ from __future__ import annotations
 import math
 from collections.abc import Hashable, Sequence
 
+from .._errors import FrameError, ParameterError
 from .columns import as_numbers, strange_value, wrong_unit
 from .required import pandas
-from .._errors import FrameError, ParameterError
 
 UNITS = {
     "density": "cars per cell",
@@ -73,13 +73,7 @@ def to_si(frame: pandas.DataFrame, cell: float = 7.5, step: float = 1.0) -> pand
     for name, value in {"cell": cell, "step": step}.items():
         if isinstance(value, bool) or not 0 < value < math.inf:
             raise ParameterError(f"`{name}` must be a finite number above 0, not {value!r}")
-    flow, speed = 3600 / step, 3.6 * cell / step
-    factors = {
-        "density_per_km": 1000 / cell, "requested_density_per_km": 1000 / cell, "flow_per_h": flow,
-        "change_rate_per_h": flow,
-        "speed_km_per_h": speed, "time_mean_speed_km_per_h": speed, "harmonic_mean_speed_km_per_h": speed,
-        "time_s": step, "time_headway_s": step, "mean_time_headway_s": step,
-    }
+    factors = _factors(cell, step)
     new_names = {_native(name) + ending: name + ending for name in factors for ending in ("", "_sem")}
     has_index = frame.index.names != [None]
     flat = frame.reset_index() if has_index else frame.copy()
@@ -94,6 +88,17 @@ def to_si(frame: pandas.DataFrame, cell: float = 7.5, step: float = 1.0) -> pand
         flat[name] = flat[name].astype(float) * factors[new_names[name].removesuffix("_sem")]
     flat = flat.rename(columns=new_names)
     return flat.set_index([new_names.get(name, name) for name in frame.index.names]) if has_index else flat
+
+
+def _factors(cell: float, step: float) -> dict[str, float]:
+    """The factor of each column that `to_si` makes, by the name that it gets."""
+    flow, speed = 3600 / step, 3.6 * cell / step
+    return {
+        "density_per_km": 1000 / cell, "requested_density_per_km": 1000 / cell,
+        "flow_per_h": flow, "change_rate_per_h": flow,
+        "speed_km_per_h": speed, "time_mean_speed_km_per_h": speed, "harmonic_mean_speed_km_per_h": speed,
+        "time_s": step, "time_headway_s": step, "mean_time_headway_s": step,
+    }
 
 
 def _need_units(frame: pandas.DataFrame, names: Sequence[str]) -> None:

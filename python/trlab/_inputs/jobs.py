@@ -2,26 +2,26 @@
 from __future__ import annotations
 
 import os
+from collections.abc import Callable, Generator, Iterator, Mapping, Sequence
 from contextlib import AbstractContextManager, closing, nullcontext
 from dataclasses import dataclass, field
-from collections.abc import Callable, Generator, Iterator, Mapping, Sequence
 from typing import TYPE_CHECKING, Any, NamedTuple, Optional, Union, cast
 
 from .._errors import IncompleteOutputError, ParameterError
 from .._renamed import IN_JOB, need_current_name
-from .._runs.calls import ask, ask_by_line, ask_for_bytes
-from .._runs.processes import set_to, setting
 from .._results.snapshots import Snapshot, Snapshots, snapshots_in
 from .._results.tables import Table, Window
+from .._runs.calls import ask, ask_by_line, ask_for_bytes
+from .._runs.processes import set_to, setting
 from . import long_jobs, reading
-from .rules import Rule, Schedule, need_rule
-from .states import InitialState, even, need_no_name, warn_of_uneven_lanes
-from .roads import Road, cars_on, lanes_of, speeds_of
+from .arguments import RunOptions, input_text
 from .numbers import (
     MAX_ALL_STEPS, MAX_CELLS, MAX_SPEED, MAX_STEPS, Density, Key, cars_at, checked_int, checked_key, checked_share,
     derived_key, key_digits, shown, store,
 )
-from .arguments import RunOptions, input_text
+from .roads import Road, cars_on, lanes_of, speeds_of
+from .rules import Rule, Schedule, need_rule
+from .states import InitialState, even, need_no_name, warn_of_uneven_lanes
 
 if TYPE_CHECKING:
     import pandas

@@ -5,19 +5,19 @@ Each input begins with the last snapshot of the previous input, under the key th
 snapshots depend only on the job, and never on the windows in which they are counted."""
 from __future__ import annotations
 
+from collections.abc import Callable, Iterator
 from dataclasses import replace
 from itertools import islice
 from math import gcd
-from collections.abc import Callable, Iterator
 from typing import TYPE_CHECKING, NamedTuple
 
 from .._errors import IncompleteOutputError
-from .._runs.calls import ask_by_line
-from .._results.snapshots import Snapshot, snapshots_in
 from .._results.possible import MILLION
+from .._results.snapshots import Snapshot, snapshots_in
 from .._results.tables import Table, Window
-from .numbers import MAX_STEPS
+from .._runs.calls import ask_by_line
 from .arguments import RunOptions, option
+from .numbers import MAX_STEPS
 
 if TYPE_CHECKING:
     from .jobs import Job

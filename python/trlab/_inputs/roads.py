@@ -2,8 +2,8 @@
 from __future__ import annotations
 
 import math
-from enum import Enum
 from collections.abc import Iterable, Mapping, Sequence, Set
+from enum import Enum
 from typing import Any, Optional, Union
 
 from .._errors import ParameterError

@@ -1,9 +1,9 @@
 """Rules for the cars, and the lines that state them in an input file."""
 from __future__ import annotations
 
+from collections.abc import Iterator, Mapping
 from dataclasses import dataclass
 from enum import Enum
-from collections.abc import Iterator, Mapping
 from typing import Union
 
 from .._errors import ParameterError

@@ -7,12 +7,12 @@ from __future__ import annotations
 import random as _random
 import sys
 import warnings
+from collections.abc import Iterable, Iterator
 from contextlib import contextmanager
 from contextvars import ContextVar
 from dataclasses import dataclass, replace
 from math import gcd
 from types import FrameType
-from collections.abc import Iterable, Iterator
 from typing import Optional
 
 from .._errors import ParameterError, TrlabWarning

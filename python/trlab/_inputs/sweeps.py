@@ -2,14 +2,15 @@
 from __future__ import annotations
 
 import os
-from dataclasses import dataclass, replace
 from collections.abc import Iterable, Iterator, Mapping, Sequence, Set
+from dataclasses import dataclass, replace
 from typing import Any, Optional, Union, cast
 
 from .._errors import ParameterError
-from .._runs.calls import ask
 from .._results.tables import Point, Table, point_of
+from .._runs.calls import ask
 from . import reading
+from .arguments import input_text, option
 from .jobs import Job
 from .numbers import (
     MAX_ALL_STEPS, MAX_CELLS, MAX_POINTS, MAX_SPEED, MAX_STEPS, MAX_THREADS, Density, Key, cars_at, checked_int,
@@ -18,7 +19,6 @@ from .numbers import (
 from .roads import Road, cars_on, roads_of
 from .rules import Rule, need_rule
 from .states import InitialState, even, need_no_name, no_warning_of_lanes, warn_of_uneven_lanes
-from .arguments import input_text, option
 
 
 @dataclass(frozen=True)

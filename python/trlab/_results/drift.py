@@ -1,10 +1,10 @@
 """Does a series still drift? The test of Schruben, Singh and Tierney (1983), with the standard library only."""
 from __future__ import annotations
 
+from collections.abc import Sequence
 from itertools import accumulate
 from math import atan, cos, exp, inf, lgamma, pi, sqrt
 from statistics import fmean, variance
-from collections.abc import Sequence
 from typing import NamedTuple
 
 from .series import values_of_series

@@ -3,7 +3,7 @@ from __future__ import annotations
 
 from collections.abc import Iterable, Iterator
 from dataclasses import dataclass
-from typing import Any, Optional
+from typing import Any, NamedTuple, Optional
 
 from .._errors import SnapshotsError
 from .._inputs.numbers import checked_int
@@ -89,11 +89,11 @@ def follow(snapshots: Iterable[Snapshot]) -> Iterator[Cars]:
     than its gap."""
     cars: Optional[Cars] = None
     for snapshot in snapshots:
-        cars = _first(snapshot) if cars is None else _next(cars, snapshot)
+        cars = _first_cars(snapshot) if cars is None else _next_cars(cars, snapshot)
         yield cars
 
 
-def _first(snapshot: Snapshot) -> Cars:
+def _first_cars(snapshot: Snapshot) -> Cars:
     """The cars of the first snapshot, numbered by lane and cell."""
     lanes, length = len(snapshot.lanes), len(snapshot.lanes[0]) if snapshot.lanes else 0
     if not 1 <= lanes <= 2 or not length:
@@ -107,8 +107,8 @@ def _first(snapshot: Snapshot) -> Cars:
     )
 
 
-def _next(before: Cars, snapshot: Snapshot) -> Cars:
-    """The cars of the next snapshot, by their numbers."""
+def _next_cars(before: Cars, snapshot: Snapshot) -> Cars:
+    """The cars of the next snapshot, in the order of their numbers."""
     length, lanes = before.length, before.lanes
     if snapshot.step != before.step + 1:
         raise SnapshotsError(
@@ -118,12 +118,13 @@ def _next(before: Cars, snapshot: Snapshot) -> Cars:
     place, speed = _cars_on(snapshot, lanes, length)
     lane, cell = numpy.divmod(place, length)
     origin, numbers = cell - speed, numpy.arange(len(before))
-    car_at = numpy.full(lanes * length, -1, dtype=numpy.int64)
-    car_at[before.lane * length + before.cell] = numbers
-    car = car_at[lane * length + origin % length]
+    # The number of the car that was in each cell, and -1 for an empty cell.
+    car_in_cell = numpy.full(lanes * length, -1, dtype=numpy.int64)
+    car_in_cell[before.lane * length + before.cell] = numbers
+    car = car_in_cell[lane * length + origin % length]
     if lanes == 2:
-        car = numpy.where(car >= 0, car, car_at[(1 - lane) * length + origin % length])
-    # Sorting whole runs of numbers takes no longer than reading them.
+        car = numpy.where(car >= 0, car, car_in_cell[(1 - lane) * length + origin % length])
+    # A stable sort is fast here, because the numbers of most neighbouring cars are in order already.
     of_car = car.argsort(kind="stable")
     is_each_car_there = len(car) == len(before) and bool((car[of_car] == numbers).all())
     if not is_each_car_there or _is_too_fast(cell, origin, int((lane == 0).sum()), length):
@@ -138,8 +139,15 @@ def _next(before: Cars, snapshot: Snapshot) -> Cars:
     )
 
 
-def _cars_on(snapshot: Snapshot, lanes: int, length: int) -> tuple[Array, Array]:
-    """The places of the cars, counted lane by lane, and their speeds."""
+class _PlacesAndSpeeds(NamedTuple):
+    """The places of cars, which are the numbers of their cells, counted lane by lane; and their speeds."""
+
+    place: Array
+    speed: Array
+
+
+def _cars_on(snapshot: Snapshot, lanes: int, length: int) -> _PlacesAndSpeeds:
+    """The places and speeds of the cars of a snapshot. Raises `SnapshotsError` if its road has another size."""
     if [len(lane) for lane in snapshot.lanes] != lanes * [length]:
         raise SnapshotsError(f"the road of step {snapshot.step} has another size")
     speeds = numpy.frombuffer("".join(snapshot.lanes).encode().translate(NUMBERS), dtype=numpy.int8)
@@ -147,14 +155,14 @@ def _cars_on(snapshot: Snapshot, lanes: int, length: int) -> tuple[Array, Array]
     speed = speeds[place].astype(numpy.int64)
     if (speed < 0).any():
         raise SnapshotsError(f"a cell of step {snapshot.step} has a character that is neither a speed nor a dot")
-    return place, speed
+    return _PlacesAndSpeeds(place, speed)
 
 
-def _is_too_fast(cell: Array, came_from: Array, on_lane_0: int, length: int) -> bool:
-    """Whether a car drove further than its gap, so that it is not behind the cell that the car ahead of it had before
-    the motion. Cars are in the order of their lanes and cells."""
+def _is_too_fast(cell: Array, origin: Array, on_lane_0: int, length: int) -> bool:
+    """Whether a car drove further than its gap, so that it is not behind the cell from which the car ahead of it came.
+    Cars are in the order of their lanes and cells, and the first `on_lane_0` of them are on lane 0."""
     for on_lane in slice(0, on_lane_0), slice(on_lane_0, None):
-        now, then = cell[on_lane], came_from[on_lane]
+        now, then = cell[on_lane], origin[on_lane]
         # The first car of a lane is ahead of the last one.
         if len(now) and (now[-1] >= then[0] + length or (now[:-1] >= then[1:]).any()):
             return True

@@ -46,7 +46,7 @@ def jams_of(first: int, speed: Array, ahead: Array, gap: Array) -> list[Jam]:
     (car, begin), end = numpy.nonzero(begins), numpy.nonzero(ends)[1]
     if not len(car):
         return []
-    jam = _joined(len(car), *_touching(stopped, begins, ahead, gap))
+    jam = _joined(len(car), _touching(stopped, begins, ahead, gap))
     by_jam = numpy.lexsort((car, begin, jam))
     car, begin, end, jam = car[by_jam], begin[by_jam], end[by_jam], jam[by_jam]
     heads = numpy.flatnonzero(numpy.diff(jam, prepend=-1))  # the first stop of each jam
@@ -61,16 +61,24 @@ def jams_of(first: int, speed: Array, ahead: Array, gap: Array) -> list[Jam]:
     ]
 
 
-def _touching(stopped: Array, begins: Array, ahead: Array, gap: Array) -> tuple[Array, Array]:
+class _Pairs(NamedTuple):
+    """Pairs of numbers of stops."""
+
+    first: Array
+    second: Array
+
+
+def _touching(stopped: Array, begins: Array, ahead: Array, gap: Array) -> _Pairs:
     """The pairs of stops that have cars in neighbouring cells in the same step. Stops are numbered car by car."""
     row, car = numpy.nonzero(stopped.T & (gap == 0) & numpy.take_along_axis(stopped.T, ahead, axis=1))
     stops = numpy.cumsum(begins).reshape(stopped.shape) - 1
-    return stops[car, row], stops[ahead[row, car], row]
+    return _Pairs(stops[car, row], stops[ahead[row, car], row])
 
 
-def _joined(count: int, first: Array, second: Array) -> Array:
-    """For each of the numbers below `count`, the smallest number to which the pairs `first`, `second` connect it."""
+def _joined(count: int, pairs: _Pairs) -> Array:
+    """For each of the numbers below `count`, the smallest number to which the pairs connect it."""
     root = numpy.arange(count)
+    first, second = pairs
     while len(first):
         low, high = numpy.minimum(first, second), numpy.maximum(first, second)
         numpy.minimum.at(root, high, low)

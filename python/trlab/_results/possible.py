@@ -37,10 +37,10 @@ _OF_PAIR = (
 )
 
 
-def _point(row: Sequence[Any]) -> tuple[Any, ...]:
+def _faults_of_point(row: Sequence[Any]) -> tuple[Any, ...]:
     """Which contradictions of `_OF_POINT` a row of a sweep has, in their order."""
     cars, cells, steps, distance, stopped, changes, flow = row
-    places, car_steps, millionths = cells * steps, cars * steps, MILLION * distance
+    cell_steps, car_steps, millionths = cells * steps, cars * steps, MILLION * distance
     moving = car_steps - stopped
     return (
         (cells < 1) | (cells > 2 * MAX_CELLS),
@@ -48,17 +48,17 @@ def _point(row: Sequence[Any]) -> tuple[Any, ...]:
         cars > cells,
         moving < 0,
         (distance < moving) | (distance > MAX_SPEED * moving),
-        distance > places - car_steps,
+        distance > cell_steps - car_steps,
         (changes > car_steps) | (changes > 0) & (cells % 2 > 0),
-        (flow > MILLION) | (places * flow > millionths) | (places * (flow + 1) <= millionths),
+        (flow > MILLION) | (cell_steps * flow > millionths) | (cell_steps * (flow + 1) <= millionths),
     )
 
 
-def _window(row: Sequence[Any]) -> tuple[Any, ...]:
+def _faults_of_window(row: Sequence[Any]) -> tuple[Any, ...]:
     """Which contradictions of `_OF_POINT` and `_OF_LANES` a row of a series has, in their order."""
     step, cars, _, steps, distance, stopped, _, _, cars0, distance0, stopped0, cars1, distance1, stopped1 = row
     moving0, moving1 = cars0 - stopped0, cars1 - stopped1
-    return _point(row[1:8]) + (
+    return _faults_of_point(row[1:8]) + (
         cars0 + cars1 != cars * steps,
         distance0 + distance1 != distance,
         stopped0 + stopped1 != stopped,
@@ -68,20 +68,18 @@ def _window(row: Sequence[Any]) -> tuple[Any, ...]:
     )
 
 
-def _pair(before: Sequence[Any], row: Sequence[Any]) -> tuple[Any, ...]:
+def _faults_of_pair(before: Sequence[Any], row: Sequence[Any]) -> tuple[Any, ...]:
     """Which contradictions of `_OF_PAIR` a row of a series has with the row before it."""
     step_before, cars_before, cells_before, steps_before, *_ = before
     step, cars, cells, steps, *_ = row
     return (step - steps != step_before) | (steps != steps_before), (cars != cars_before) | (cells != cells_before)
 
 
-_MOST_PLACES = 2**42
-"""With fewer places (cells x steps), a product of the rules leaves 64 bits only if one of its factors breaks another
-rule."""
+_SAFE_CELL_STEPS = 2**42
+"""With fewer cells x steps, a product of the rules leaves 64 bits only if one of its factors breaks another rule."""
 
 _FEW = 1000
 """Fewer numbers are checked as fast without numpy."""
-
 
 COLUMNS_OF_SERIES = 14
 """The number of columns of a series; a sweep has fewer."""
@@ -105,21 +103,26 @@ def first_fault(numbers: array[int], columns: int) -> Optional[Fault]:
     """The first impossible row; None if all rows are possible. If numpy is imported, it accepts long tables ten times
     as fast."""
     is_series = columns == COLUMNS_OF_SERIES
-    rules, sentences = (_window, _OF_POINT + _OF_LANES) if is_series else (_point, _OF_POINT)
-    if _are_possible(numbers, columns, rules):
+    faults_of_row = _faults_of_window if is_series else _faults_of_point
+    sentences = _OF_POINT + _OF_LANES if is_series else _OF_POINT
+    if _are_possible(numbers, columns, faults_of_row):
         return None
     before: Optional[tuple[int, ...]] = None
     for place, row in enumerate(rows_in(numbers, columns)):
-        faults = rules(row)
+        faults = faults_of_row(row)
         if any(faults):
             return Fault(place, sentences[faults.index(True)])
-        if is_series and before is not None and any(_pair(before, row)):
-            return Fault(place, _OF_PAIR[_pair(before, row).index(True)])
+        if is_series and before is not None:
+            faults = _faults_of_pair(before, row)
+            if any(faults):
+                return Fault(place, _OF_PAIR[faults.index(True)])
         before = row
     return None
 
 
-def _are_possible(numbers: array[int], columns: int, rules: Callable[[Sequence[Any]], tuple[Any, ...]]) -> bool:
+def _are_possible(
+    numbers: array[int], columns: int, faults_of_row: Callable[[Sequence[Any]], tuple[Any, ...]]
+) -> bool:
     """Whether numpy is there and finds no contradiction in any row."""
     numpy = sys.modules.get("numpy")
     if numpy is None or len(numbers) < _FEW:
@@ -127,7 +130,7 @@ def _are_possible(numbers: array[int], columns: int, rules: Callable[[Sequence[A
     rows = numpy.ascontiguousarray(numpy.frombuffer(numbers, dtype=numpy.int64).reshape(-1, columns).T)
     is_series = columns == COLUMNS_OF_SERIES
     cells, steps = (rows[2], rows[3]) if is_series else (rows[1], rows[2])
-    if int(cells.max()) * int(steps.max()) >= _MOST_PLACES:
+    if int(cells.max()) * int(steps.max()) >= _SAFE_CELL_STEPS:
         return False
-    faults = rules(rows) + (_pair(rows[:, :-1], rows[:, 1:]) if is_series else ())
+    faults = faults_of_row(rows) + (_faults_of_pair(rows[:, :-1], rows[:, 1:]) if is_series else ())
     return not any(fault.any() for fault in faults)

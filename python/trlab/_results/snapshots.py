@@ -1,8 +1,8 @@
 """The snapshots of a run."""
 from __future__ import annotations
 
-from html import escape
 from collections.abc import Iterable, Sequence
+from html import escape
 from typing import TYPE_CHECKING, Any, Optional, Union
 
 from .._errors import ParameterError, SnapshotsError

@@ -1,10 +1,10 @@
 """Tables: rows of counts, as lists of named tuples."""
 from __future__ import annotations
 
+from collections.abc import Iterable, Sequence
 from html import escape
 from itertools import chain
 from math import nan
-from collections.abc import Iterable, Sequence
 from typing import TYPE_CHECKING, Any, NamedTuple, TypeVar, Union
 
 from .._renamed import IN_ROW, IN_TABLE, need_current_name

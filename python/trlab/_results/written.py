@@ -2,9 +2,9 @@
 from __future__ import annotations
 
 import re
+from collections.abc import Iterable, Iterator, Sequence
 from functools import partial
 from itertools import chain, islice
-from collections.abc import Iterable, Iterator, Sequence
 from typing import TYPE_CHECKING, Any, NamedTuple, Optional
 
 from .._errors import OutputFormatError
@@ -111,7 +111,7 @@ def checked_speeds(speeds: Array) -> Array:
 
 def read_snapshots(text: bytes) -> Sequence[Snapshot]:
     """The snapshots in the output of a run; raises `OutputFormatError` if it is not one, or cut off."""
-    snapshots: Optional[Sequence[Snapshot]] = _regular(text)
+    snapshots: Optional[Sequence[Snapshot]] = _regular_snapshots(text)
     if snapshots is None:
         # An error of its own is better than one of decoding.
         snapshots = list(snapshots_in(text.decode("latin-1").splitlines(True)))
@@ -127,7 +127,7 @@ def _cell_fault(lines: list[str], lanes: int) -> str:
     return f"line {place + 1} of the run has {_NOT_A_CELL}: {_shown(lines[place])}"
 
 
-def _regular(text: bytes) -> Optional[WrittenSnapshots]:
+def _regular_snapshots(text: bytes) -> Optional[WrittenSnapshots]:
     """The snapshots if all have one shape, and follow each other at equal intervals of steps; None if they do not."""
     first = HEADING.match(text)
     if not first:
@@ -141,17 +141,17 @@ def _regular(text: bytes) -> Optional[WrittenSnapshots]:
     begin, step = 0, int(first[1])
     places: list[int] = []
     while begin < len(text):
-        # Snapshots whose steps have as many digits are equally long.
-        heading, digits = len(f"step {step}\n"), len(str(step))
-        size = heading + len(road)
-        steps = range(step, 10**digits, every)[:(len(text) - begin) // size]
+        # Snapshots are equally long as long as their steps have the same number of digits.
+        heading_length = len(f"step {step}\n")
+        size = heading_length + len(road)
+        steps = range(step, 10**len(str(step)), every)[:(len(text) - begin) // size]
         end = begin + size * len(steps)
         if not steps or not _has_headings(text, steps, range(begin, end, size)):
             return None
-        line_ends = range(heading + length, size, length + 1)
+        line_ends = range(heading_length + length, size, length + 1)
         if not all(_has_line_feeds(text, range(begin + line_end, end, size)) for line_end in line_ends):
             return None
-        places += range(begin + heading, end, size)
+        places += range(begin + heading_length, end, size)
         begin, step = end, steps[-1] + every
     return WrittenSnapshots(text, range(int(first[1]), step, every), places, lanes, length)
 

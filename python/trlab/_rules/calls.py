@@ -21,10 +21,12 @@ MAX_DEPTH = 16
 """How many calls may be inside each other."""
 
 METHODS = {"motion": "car.draw, car.safe", "change": "car.draw"}
+"""The methods of the car in a rule of each kind, for messages."""
 
 
 class Calls(Conditions):
-    """Calls. `words` has the random words that they use, each with whether the function gives its number."""
+    """Calls. `words` has the random words that they use, and for each of them whether the function gives its number by
+    `word=`."""
 
     def __init__(self, kind: str, attempt: Attempt) -> None:
         super().__init__(kind, attempt)
@@ -39,17 +41,10 @@ class Calls(Conditions):
         """The value of a call."""
         function = node.func
         if isinstance(function, ast.Attribute) and self.is_car(function.value):
-            if function.attr == "draw":
-                return self._drawn(node)
-            if function.attr == "safe" and self.kind == "motion":
-                return self._safe(node)
-            self.fail(
-                node, f"is not possible: a {self.kind} rule calls {METHODS[self.kind]}, and its inputs have no brackets"
-            )
-        name = function.id if isinstance(function, ast.Name) else ""
-        if self.is_own(name):
-            if name in ("min", "max", "abs"):
-                return self._extreme(name, node)
+            return self._method(function.attr, node)
+        if isinstance(function, ast.Name) and self.is_own(function.id):
+            if function.id in ("min", "max", "abs"):
+                return self._extreme(function.id, node)
         elif isinstance(function, ast.Name):
             meaning = self.named(function)
             if isinstance(meaning, Function):
@@ -65,6 +60,16 @@ class Calls(Conditions):
             "names, if these have no decorators"
         )
 
+    def _method(self, name: str, node: ast.Call) -> Value:
+        """The value of `car.draw(..)` or `car.safe(..)`."""
+        if name == "draw":
+            return self._drawn(node)
+        if name == "safe" and self.kind == "motion":
+            return self._safe(node)
+        self.fail(
+            node, f"is not possible: a {self.kind} rule calls {METHODS[self.kind]}, and its inputs have no brackets"
+        )
+
     def _extreme(self, name: str, node: ast.Call) -> Number:
         """The value of `min`, `max` or `abs`."""
         takes_one = name == "abs"
@@ -72,7 +77,7 @@ class Calls(Conditions):
         if node.keywords or has_stars or (len(node.args) < 2) != takes_one:
             self.fail(node, f"needs {'one number' if takes_one else 'two or more numbers'}")
         values = [self.number(argument) for argument in node.args]
-        with self.at(node):
+        with self.placed_at(node):
             return Number(self.numbers.size(values[0])) if takes_one else self.numbers.extreme(name, values)
 
     def _safe(self, node: ast.Call) -> Number:
@@ -80,7 +85,7 @@ class Calls(Conditions):
         if len(node.args) != 1 or node.keywords:
             self.fail(node, "needs one number")
         value = self.number(node.args[0])
-        with self.at(node):
+        with self.placed_at(node):
             bounds = [Number(self.emitter.new("get", constants=[name])) for name in ("gap", "limit")]
             return self.numbers.extreme("min", [Number(value.plus), *bounds])
 
@@ -95,7 +100,7 @@ class Calls(Conditions):
         is_given = names != []
         if self.words.setdefault(word, is_given) != is_given:
             self.fail(node, f"uses random word {word}, which another draw uses too: give all draws their `word=`")
-        with self.at(node):
+        with self.placed_at(node):
             result, next_word = Register(self.emitter.place.text), self._next_word
             self._draw(node.args[0], word, result)
         if next_word != self._next_word:

@@ -34,6 +34,7 @@ class Conditions(Expressions):
 
     def _branch_at_parts(self, node: ast.BoolOp, target: Label, when: bool) -> None:
         """The same for `and` and `or`."""
+        # The first part of an `or` that is true, or of an `and` that is false, decides at once.
         if isinstance(node.op, ast.Or) == when:
             for part in node.values:
                 self.branch(part, target, when)
@@ -51,22 +52,22 @@ class Conditions(Expressions):
                 self.reject(node, operator, "is not possible: a rule compares with <, <=, >, >=, == and !=")
         sums = [self.sum(operand) for operand in [node.left, *node.comparators]]
         skip = Label()
-        with self.at(node):
+        with self.placed_at(node):
             *first_comparisons, last_comparison = zip(node.ops, sums, sums[1:])
             for operator, left, right in first_comparisons:
                 # One comparison that is false decides the whole.
-                self.numbers.compare(operator, right - left, skip if when else target, False)
+                self.numbers.jump_at_comparison(operator, right - left, skip if when else target, False)
             operator, left, right = last_comparison
-            self.numbers.compare(operator, right - left, target, when)
+            self.numbers.jump_at_comparison(operator, right - left, target, when)
             self.emitter.label(skip)
 
     def _branch_at_value(self, value: Value, node: ast.expr, target: Label, when: bool) -> None:
         """The same for a value: a flag, or a number, which is true unless it is 0."""
-        with self.at(node):
+        with self.placed_at(node):
             if isinstance(value, Flag):
                 self.emitter.emit("jtrue" if when else "jfalse", None, value.register, target=target)
             else:
-                self.numbers.jump(1, self.numbers.size(value), True, target, when)
+                self.numbers.jump_at_order(1, self.numbers.size(value), target, when, may_be_equal=True)
 
     def joined(self, node: ast.BoolOp) -> Value:
         """The value of `and` and `or`: that of their last part, unless an earlier part decides."""

@@ -11,7 +11,7 @@ MAX_NUMBER = 2**32 - 1
 """The largest number of a register."""
 
 ENDS = ("jump", "go", "cross", "stay")
-"""Instructions that never continue with the next one."""
+"""The instructions after which a program does not continue with the next one."""
 
 
 class Register:

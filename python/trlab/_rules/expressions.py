@@ -69,7 +69,7 @@ class Expressions(Names):
 
     def truth(self, node: ast.expr) -> Number:
         """A condition as 1 or 0."""
-        with self.at(node):
+        with self.placed_at(node):
             return self._one_if(lambda end: self.branch(node, end, True))
 
     def _one_if(self, jump: Callable[[Label], None]) -> Number:
@@ -96,7 +96,7 @@ class Expressions(Names):
         """A sum, a difference, a product, a quotient or a remainder."""
         if isinstance(node.op, (*SIGNS, ast.Add, ast.Sub)):
             terms = self.sum(node)
-            with self.at(node):
+            with self.placed_at(node):
                 return self.numbers.difference(terms)
         if isinstance(node, ast.UnaryOp) or not isinstance(node.op, (ast.Mult, ast.FloorDiv, ast.Mod)):
             self.reject(node, node.op, "is not possible: a rule calculates with +, -, *, // and %")
@@ -111,7 +111,7 @@ class Expressions(Names):
 
     def scaled(self, node: ast.BinOp, number: Number, by: int) -> Number:
         """A number times, or divided by, a constant; or its remainder."""
-        with self.at(node):
+        with self.placed_at(node):
             if isinstance(node.op, ast.Mult):
                 return self.numbers.product(number, by)
             if by <= 0 and self.emitter.is_live:
@@ -134,7 +134,7 @@ class Expressions(Names):
         """The value of an input of the car."""
         if not self.is_car(node.value):
             self.reject(node, node, "has no meaning in a rule")
-        with self.at(node):
+        with self.placed_at(node):
             if node.attr in INPUTS[self.kind]:
                 return Number(self.emitter.new("get", constants=[node.attr]))
             if node.attr == "side" and self.kind == "change":

@@ -11,8 +11,8 @@ from itertools import count
 from typing import Any, NamedTuple, NoReturn, Optional, Union
 
 from .emission import Emitter, Label, Place, Register
-from .pairs import Arithmetic, Number
 from .outside import instead_of
+from .pairs import Arithmetic, Number
 from .reading import UNKNOWN, Function, plain
 
 _OPERATORS = (
@@ -120,8 +120,8 @@ class Names:
         self.fail(node, instead_of(part, otherwise))
 
     @contextmanager
-    def at(self, node: ast.AST) -> Iterator[None]:
-        """Instructions in this block come from this node."""
+    def placed_at(self, node: ast.AST) -> Iterator[None]:
+        """Instructions that are emitted in this block get the place of this node."""
         self._parts += 1
         if self._parts > MAX_PARTS:
             self.fail(

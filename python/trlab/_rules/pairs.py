@@ -6,15 +6,15 @@ exact below 0."""
 from __future__ import annotations
 
 import ast
-from itertools import count
 from collections.abc import Container, Sequence
+from itertools import count
 from typing import NamedTuple, Optional
 
 from .emission import Emitter, Label, Operand, Place, Register
 
 
 class Number(NamedTuple):
-    """A number: its positive and its negative part, and the expression that may be below 0."""
+    """A number: its positive and its negative part, and `why` it may be below 0: the place of an expression."""
 
     plus: Operand
     minus: Operand = 0
@@ -53,8 +53,8 @@ def _register_and_constant(part: Operand) -> tuple[tuple[Register, ...], int]:
 
 
 class Arithmetic:
-    """Instructions for numbers. `below` are the differences that may be negative: each other difference is one
-    `sub`."""
+    """Instructions for numbers. `below` has the numbers of the differences that may be negative: every other difference
+    is a single `sub`."""
 
     def __init__(self, emitter: Emitter, below: Container[int]) -> None:
         self._emitter, self._below, self._differences = emitter, below, count()
@@ -88,71 +88,78 @@ class Arithmetic:
 
     def product(self, number: Number, factor: int) -> Number:
         """The number times a constant, which may be negative."""
-        plus, minus = (self._by("mul", part, abs(factor)) for part in (number.plus, number.minus))
+        plus, minus = (self._scaled("mul", part, abs(factor)) for part in (number.plus, number.minus))
         return Number(plus, minus, number.why) if factor >= 0 else Number(minus, plus, self._emitter.place)
 
-    def quotient(self, number: Number, by: int) -> Number:
-        """The quotient, rounded down: a negative part is rounded up."""
+    def quotient(self, number: Number, divisor: int) -> Number:
+        """The quotient, rounded down, which means that a negative part is rounded up."""
         minus: Operand = 0
         if number.minus != 0:
-            increased = self.total([self._emitter.held(number.minus)], by - 1)
-            minus = self._by("div", increased, by)
-        return Number(self._by("div", number.plus, by), minus, number.why)
+            increased = self.total([self._emitter.held(number.minus)], divisor - 1)
+            minus = self._scaled("div", increased, divisor)
+        return Number(self._scaled("div", number.plus, divisor), minus, number.why)
 
-    def remainder(self, number: Number, by: int) -> Number:
-        """The remainder of the number after the multiple of the quotient; it is never negative."""
-        multiple = self.product(self.quotient(number, by), by)
+    def remainder(self, number: Number, divisor: int) -> Number:
+        """The number minus the largest multiple of the divisor that is not above it. It is never negative."""
+        multiple = self.product(self.quotient(number, divisor), divisor)
         plus, minus = self.sides(summand(number) - summand(multiple))
         return Number(self.excess(plus, minus))
 
-    def _by(self, name: str, operand: Operand, by: int) -> Operand:
-        """A part times or divided by a constant."""
-        if isinstance(operand, int):
-            return operand * by if name == "mul" else operand // by
+    def _scaled(self, name: str, part: Operand, by: int) -> Operand:
+        """A part of a number, multiplied (`mul`) or divided (`div`) by a constant."""
+        if isinstance(part, int):
+            return part * by if name == "mul" else part // by
         if by == 0:
             return 0
-        return operand if by == 1 else self._emitter.new(name, operand, constants=[by])
+        return part if by == 1 else self._emitter.new(name, part, constants=[by])
 
     def extreme(self, name: str, numbers: Sequence[Number]) -> Number:
         """The smallest or the largest number."""
         opposite = "max" if name == "min" else "min"
-        plus = self._best(name, [number.plus for number in numbers])
-        minus = self._best(opposite, [number.minus for number in numbers])
+        plus = self._extreme_part(name, [number.plus for number in numbers])
+        minus = self._extreme_part(opposite, [number.minus for number in numbers])
         first_negative = next((number for number in numbers if number.minus != 0), None)
         return Number(plus, minus, None if first_negative is None else first_negative.why)
 
     def size(self, number: Number) -> Operand:
         """The distance to 0."""
-        return self._best("max", (number.plus, number.minus))
+        return self._extreme_part("max", (number.plus, number.minus))
 
-    def _best(self, name: str, parts: Sequence[Operand]) -> Operand:
-        """The smallest or largest of several parts, of which constants are compared at once."""
+    def _extreme_part(self, name: str, parts: Sequence[Operand]) -> Operand:
+        """The smallest or largest of several parts. Constants are compared here, and need at most one instruction."""
         constants = [part for part in parts if isinstance(part, int)]
         registers = [part for part in parts if isinstance(part, Register)]
         best_constant = {"min": min, "max": max}[name](constants) if constants else None
+        # No part is below 0, so a minimum with 0 is 0, and a maximum with 0 changes nothing.
         if best_constant is not None and (not registers or name == "min" and best_constant == 0):
             return best_constant
         best_so_far = registers[0]
         for other in registers[1:]:
             best_so_far = self._emitter.new(name, best_so_far, other)
-        # No part is below 0, so that a maximum with 0 changes nothing.
         return self._emitter.new(name, best_so_far, best_constant) if best_constant else best_so_far
 
-    def compare(self, operator: ast.cmpop, terms: Sum, target: Label, when: bool) -> None:
-        """Jumps if `left operator right` is `when`; the terms are right - left."""
+    def jump_at_comparison(self, operator: ast.cmpop, difference: Sum, target: Label, when: bool) -> None:
+        """Jumps if the truth of `left operator right` is `when`. The difference is right - left. Its sides are compared,
+        because they are never below 0."""
+        # left > right is the same as right < left.
         if isinstance(operator, (ast.Gt, ast.GtE)):
-            terms = ZERO - terms
-        high, low = self.sides(terms)
-        if not isinstance(operator, (ast.Eq, ast.NotEq)):
-            return self.jump(low, high, isinstance(operator, (ast.LtE, ast.GtE)), target, when)
-        when = when == isinstance(operator, ast.Eq)
+            difference = ZERO - difference
+        right, left = self.sides(difference)
+        if isinstance(operator, (ast.Eq, ast.NotEq)):
+            self._jump_at_equality(left, right, target, when == isinstance(operator, ast.Eq))
+        else:
+            may_be_equal = isinstance(operator, (ast.LtE, ast.GtE))
+            self.jump_at_order(left, right, target, when, may_be_equal=may_be_equal)
+
+    def _jump_at_equality(self, left: Operand, right: Operand, target: Label, when: bool) -> None:
+        """Jumps if the truth of `left == right` is `when`: they are equal if neither is above the other."""
         skip = Label()
-        self.jump(low, high, True, skip if when else target, False)
-        self.jump(high, low, True, target, when)
+        self.jump_at_order(left, right, skip if when else target, False, may_be_equal=True)
+        self.jump_at_order(right, left, target, when, may_be_equal=True)
         self._emitter.label(skip)
 
-    def jump(self, low: Operand, high: Operand, may_be_equal: bool, target: Label, when: bool) -> None:
-        """Jumps if `low` < `high`, or <= if they may be equal, is `when`."""
+    def jump_at_order(self, low: Operand, high: Operand, target: Label, when: bool, *, may_be_equal: bool) -> None:
+        """Jumps if the truth of `low` < `high`, or of `low` <= `high` if they may be equal, is `when`."""
         if isinstance(low, int) and isinstance(high, int):
             is_true = low <= high if may_be_equal else low < high
             if is_true == when:
@@ -168,8 +175,8 @@ class Arithmetic:
             self._emitter.emit("jlt" if may_be_equal else "jle", None, high, low, target=target)
 
     def _jump_at_least(self, operand: Operand, least: int, target: Label, when: bool) -> None:
-        """Jumps if a register is at least a constant, or if it is not. As the program has constant <= register, the
-        verifier learns how much may be subtracted."""
+        """Jumps if the truth of `operand >= least` is `when`. The program has `least <= operand`, because the verifier
+        learns from this how much may be subtracted from the operand."""
         if least <= 0:
             if when:
                 self._emitter.emit("jump", target=target)

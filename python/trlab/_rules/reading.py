@@ -8,6 +8,7 @@ import textwrap
 import types
 from collections.abc import Callable, Iterator, Mapping
 from copy import copy
+from functools import partial
 from inspect import Parameter, Signature
 from typing import Any, NamedTuple, Union
 
@@ -23,7 +24,8 @@ ReadError = (SyntaxError, ValueError, RecursionError, MemoryError)
 
 
 class Function(NamedTuple):
-    """A function: its definition, its file, the defaults of its parameters, and the values of the names outside it."""
+    """A function: its definition, its file, the defaults of its parameters, and `outside`, which returns the value of a
+    name outside it, or raises `KeyError`."""
 
     node: ast.FunctionDef
     file: str
@@ -49,19 +51,19 @@ class Function(NamedTuple):
         if arguments.vararg or arguments.kwarg or arguments.posonlyargs:
             raise TypeError("a rule has no parameters with `*` or `/`")
 
-        def parameter(name: str, kind: Any) -> Parameter:
+        def parameter(argument: ast.arg, kind: Any) -> Parameter:
             """A parameter with its default, if it has one."""
-            return Parameter(name, kind, default=self.defaults.get(name, Parameter.empty))
+            return Parameter(argument.arg, kind, default=self.defaults.get(argument.arg, Parameter.empty))
 
-        unnamed = [parameter(argument.arg, Parameter.POSITIONAL_OR_KEYWORD) for argument in arguments.args]
-        only_named = [parameter(argument.arg, Parameter.KEYWORD_ONLY) for argument in arguments.kwonlyargs]
-        call = Signature([*unnamed, *only_named]).bind(*values, **named)
+        by_place = [parameter(argument, Parameter.POSITIONAL_OR_KEYWORD) for argument in arguments.args]
+        only_by_name = [parameter(argument, Parameter.KEYWORD_ONLY) for argument in arguments.kwonlyargs]
+        call = Signature([*by_place, *only_by_name]).bind(*values, **named)
         call.apply_defaults()
         return dict(call.arguments)
 
 
 class Decorated:
-    """A function after its decorator. Other functions may still call it."""
+    """A function after its decorator, which keeps the function as it is `written`, because other rules may call it."""
 
     def __init__(self, written: Function) -> None:
         self.written = written
@@ -91,36 +93,37 @@ def function_of(function: Callable[..., Any]) -> Function:
     if not isinstance(node, ast.FunctionDef) or not isinstance(function, types.FunctionType):
         raise RuleError(file, first, "a rule is a function that is written with `def`")
     ast.increment_lineno(node, first - 1)
-    cells = dict(zip(function.__code__.co_freevars, function.__closure__ or ()))
-
-    def outside(name: str) -> Any:
-        """The value of a name outside the function."""
-        try:
-            value = cells[name].cell_contents if name in cells else function.__globals__[name]
-        except ValueError:
-            # The variable of the surrounding function has no value yet.
-            raise KeyError(name) from None
-        if isinstance(value, Decorated):
-            return value.written
-        return function_of(value) if isinstance(value, types.FunctionType) else value
-
     parameters = inspect.signature(function).parameters.values()
     defaults = {
         parameter.name: parameter.default for parameter in parameters if parameter.default is not parameter.empty
     }
-    written = Function(node, file, defaults, outside)
-    written.kinds()
+    written = Function(node, file, defaults, partial(_value_outside, function))
+    written.kinds()  # raises the error of a wrong decorator
     if not _is_text_of(node, function):
         raise RuleError(file, first, "the file has changed since Python read it: import it again")
     return written
 
 
+def _value_outside(function: types.FunctionType, name: str) -> Any:
+    """The value of a name outside a function: of a surrounding function, or of the module. Raises `KeyError` if it has
+    none."""
+    cells = dict(zip(function.__code__.co_freevars, function.__closure__ or ()))
+    try:
+        value = cells[name].cell_contents if name in cells else function.__globals__[name]
+    except ValueError:
+        # The variable of the surrounding function has no value yet.
+        raise KeyError(name) from None
+    if isinstance(value, Decorated):
+        return value.written
+    return function_of(value) if isinstance(value, types.FunctionType) else value
+
+
 def _is_text_of(node: ast.FunctionDef, function: types.FunctionType) -> bool:
-    """Whether Python made the function from this text, which is compiled inside another function that has the variables
-    of the surrounding ones."""
+    """Whether Python made the function from this text: the text, compiled again, must have the same code."""
     made_code = function.__code__
     if any(_is_call_elsewhere(part, made_code.co_varnames) for part in ast.walk(ast.Module(node.body, []))):
         return True
+    # The text is compiled inside a function that has the variables of the surrounding ones.
     module = ast.parse(f"def around({', '.join(made_code.co_freevars)}): pass")
     bare, around = copy(node), module.body[0]
     assert isinstance(around, ast.FunctionDef)

@@ -5,7 +5,7 @@ from collections import defaultdict
 from collections.abc import Sequence
 from typing import NamedTuple, Optional
 
-from .emission import Instruction, Item, Label, Place, Register
+from .emission import ENDS, Instruction, Item, Label, Place, Register
 
 COUNT = 8
 """The registers of a program."""
@@ -73,7 +73,8 @@ def _need_short(count: int) -> None:
 
 
 def _living(items: Sequence[Item]) -> list[set[Register]]:
-    """The registers that are read after each item. All jumps go forward, so one pass from the end is enough."""
+    """The registers that are read after each item. All jumps go forward, so one pass from the end is enough: `living`
+    are the registers that are read after the current item."""
     after: list[set[Register]] = []
     living: set[Register] = set()
     living_at: dict[Optional[Label], set[Register]] = {}
@@ -82,7 +83,7 @@ def _living(items: Sequence[Item]) -> list[set[Register]]:
             living_at[item] = set(living)
             after.append(set(living))
             continue
-        if item.name in ("go", "cross", "stay", "jump"):
+        if item.name in ENDS:
             living = set()
         living |= living_at.get(item.target, set())
         after.append(set(living))

@@ -18,7 +18,7 @@ class Translation(Calls):
     def block(self, body: Sequence[ast.stmt]) -> None:
         """Translates statements, one after the other."""
         for statement in body:
-            with self.at(statement):
+            with self.placed_at(statement):
                 self._statement(statement)
 
     def _statement(self, node: ast.stmt) -> None:
@@ -49,7 +49,7 @@ class Translation(Calls):
         if not isinstance(target, ast.Name):
             self.fail(target, "cannot be assigned: assign one name per line")
         value = self.value(node)
-        with self.at(node):
+        with self.placed_at(node):
             self.assign(self.variable(target.id), value)
 
     def _loop(self, node: ast.For) -> None:
@@ -93,10 +93,10 @@ class Translation(Calls):
             self.emitter.label(stay)
             self.emitter.emit("stay")
         else:
-            self._go(node, node.value)
+            self._return_speed(node, node.value)
 
-    def _go(self, node: ast.Return, speed: ast.expr) -> None:
-        """The answer of a motion rule. Raises the error of the speed if it may be negative."""
+    def _return_speed(self, node: ast.Return, speed: ast.expr) -> None:
+        """Translates `return` in a motion rule. Raises the error of the speed if it may be negative."""
         value = self.number(speed)
         if value.minus != 0 and self.emitter.is_live:
             why = value.why or self.place(speed)

@@ -6,13 +6,13 @@ import functools
 import hashlib
 import os
 import warnings
-from pathlib import Path
 from collections.abc import Iterator
-from typing import IO, Optional, Union
+from pathlib import Path
+from typing import IO, NamedTuple, Optional, Union
 
-from .location import find_program, printed_by, sha256_of_program
-from .ownership import new_path, owned, remove_left
 from .._errors import IncompleteOutputError, ParameterError, ResultFilesError, TrlabWarning
+from .location import find_program, printed_by, sha256_of_program
+from .ownership import new_path, owned, remove_abandoned
 from .processes import run
 from .requests import Length, Request
 
@@ -44,7 +44,7 @@ class Cache:
             raise ParameterError(
                 f"the cache needs the path of a folder, and {self.folder} is a file, or below one"
             ) from None
-        remove_left(self.folder)
+        remove_abandoned(self.folder)
 
     def path(self, key: str) -> Path:
         """The path of the output with this key."""
@@ -64,8 +64,8 @@ class Cache:
         with owned(new_path(self.folder, "new")) as path:
             try:
                 file = open(path, "x+b")
-            except OSError as fault:
-                _warn_that_nothing_is_kept(self.folder, fault)
+            except OSError as error:
+                _warn_that_nothing_is_kept(self.folder, error)
                 yield from run(request)
                 return
             with file:
@@ -96,8 +96,8 @@ class Cache:
             os.replace(path, self.path(key))
         except IsADirectoryError:
             raise ResultFilesError(f"{self.path(key)} is a folder, and the cache needs this name: remove it") from None
-        except OSError as fault:
-            _warn_that_nothing_is_kept(self.folder, fault)
+        except OSError as error:
+            _warn_that_nothing_is_kept(self.folder, error)
 
 
 def key_of(request: Request) -> str:
@@ -109,7 +109,14 @@ def key_of(request: Request) -> str:
     return digest.hexdigest()
 
 
-def program_identity() -> tuple[str, str]:
+class ProgramIdentity(NamedTuple):
+    """The version of a program and its SHA-256."""
+
+    version: str
+    sha256: str
+
+
+def program_identity() -> ProgramIdentity:
     """The version of the program and its SHA-256."""
     path = find_program()
     stat = os.stat(path)
@@ -117,16 +124,18 @@ def program_identity() -> tuple[str, str]:
 
 
 @functools.lru_cache(maxsize=None)
-def _identity(path: str, modified: int, size: int, inode: int) -> tuple[str, str]:
-    """The version and SHA-256 of a program, which is read once as long as the file does not change."""
-    return (printed_by(path, "--version") or "").split("\n")[0], sha256_of_program(path)
+def _identity(path: str, modified: int, size: int, inode: int) -> ProgramIdentity:
+    """The identity of a program, which is read only once as long as the file does not change: the other arguments are
+    those of the file, and part of the key of `lru_cache`."""
+    version = (printed_by(path, "--version") or "").split("\n")[0]
+    return ProgramIdentity(version, sha256_of_program(path))
 
 
-def _warn_that_nothing_is_kept(folder: Path, fault: OSError) -> None:
-    """Warns that outputs are not kept in a folder that cannot be written to. Raises any other fault."""
-    if fault.errno not in _READ_ONLY:
-        raise fault
-    message = f"new outputs are not kept, because {folder} cannot be written to: {fault.strerror}"
+def _warn_that_nothing_is_kept(folder: Path, error: OSError) -> None:
+    """Warns that outputs are not kept in a folder that cannot be written to. Raises any other error."""
+    if error.errno not in _READ_ONLY:
+        raise error
+    message = f"new outputs are not kept, because {folder} cannot be written to: {error.strerror}"
     warnings.warn(message, TrlabWarning, stacklevel=2)
 
 

@@ -3,12 +3,12 @@ from __future__ import annotations
 
 import io
 import json
-from contextlib import closing
 from collections.abc import Generator, Iterator, Sequence
+from contextlib import closing
 from typing import NamedTuple
 
-from .location import find_program, sha256_of_program
 from .._errors import OutputFormatError, ProgramError, RejectedInputError
+from .location import find_program, sha256_of_program
 from .processes import REJECTED, RejectionError, output_of, run
 from .requests import Request
 
@@ -88,5 +88,5 @@ def _decoded(output: bytes) -> str:
     """An output as text. Raises `OutputFormatError` if it is not one."""
     try:
         return output.decode("utf-8")
-    except UnicodeDecodeError as fault:
-        raise OutputFormatError(f"the program wrote bytes that are not text: {fault}") from None
+    except UnicodeDecodeError as error:
+        raise OutputFormatError(f"the program wrote bytes that are not text: {error}") from None

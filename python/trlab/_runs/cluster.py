@@ -107,16 +107,16 @@ def read_tables(
     recorded = recorded_arguments(path)
     files_by_name = _all_files_in(path, kind, recorded) if inputs is None else _files_of_all(inputs, kind, recorded)
     tables: dict[str, Any] = {}
-    faults: list[ResultFilesError] = []
+    errors_of_tables: list[ResultFilesError] = []
     for name, files in files_by_name.items():
         try:
             tables[name] = joined(kind, [table_of(path, file) for file in files])
-        except ResultFilesError as fault:
-            tables[name] = fault
-            faults.append(fault)
-    if faults and errors == "raise":
-        lines = "\n".join(f"  {fault}" for fault in faults)
-        raise ResultFilesError(f"{len(faults)} of {len(tables)} tables in {path} cannot be used:\n{lines}")
+        except ResultFilesError as error:
+            tables[name] = error
+            errors_of_tables.append(error)
+    if errors_of_tables and errors == "raise":
+        lines = "\n".join(f"  {error}" for error in errors_of_tables)
+        raise ResultFilesError(f"{len(errors_of_tables)} of {len(tables)} tables in {path} cannot be used:\n{lines}")
     return tables
 
 

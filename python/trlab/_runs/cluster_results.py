@@ -35,8 +35,8 @@ def _content_of_result(folder: Path, file: RequestFile) -> str:
         raise ResultFilesError(f"{file.result} is missing" + (f": {reason.strip()}" if reason else "")) from None
     except UnicodeDecodeError:
         raise ResultFilesError(f"{file.result} is not a text") from None
-    except OSError as fault:
-        raise ResultFilesError(f"{file.result} cannot be read: {fault.strerror}") from None
+    except OSError as error:
+        raise ResultFilesError(f"{file.result} cannot be read: {error.strerror}") from None
     if not content.endswith("\n"):
         raise ResultFilesError(f"{file.result} is {'cut off in the middle of a line' if content else 'empty'}")
     return content

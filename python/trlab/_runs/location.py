@@ -11,13 +11,13 @@ import subprocess
 import tempfile
 import threading
 import zlib
-from pathlib import Path
 from collections.abc import Iterator
+from pathlib import Path
 from typing import NoReturn, Optional
 
 from .._errors import ProgramNotFoundError
 from .node import command_of, is_for_node, node, of_package, sha256_of_module
-from .ownership import new_path, owned, remove_left
+from .ownership import new_path, owned, remove_abandoned
 from .systems import fits_native_programs
 
 _HERE = Path(__file__).resolve().parents[1]
@@ -163,7 +163,7 @@ def _unpacked(packed: Path, path: Path, sha256: str) -> bool:
         return False
     try:
         path.parent.mkdir(parents=True, exist_ok=True)
-        remove_left(path.parent)
+        remove_abandoned(path.parent)
         with owned(new_path(path.parent, "new")) as new:
             with open(new, "xb") as file:
                 file.write(content)

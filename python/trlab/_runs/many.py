@@ -3,26 +3,29 @@ from __future__ import annotations
 
 import itertools
 import threading
+from collections.abc import Callable, Iterable, Iterator, Mapping
 from concurrent.futures import BrokenExecutor, Executor, Future, ThreadPoolExecutor, wait
 from contextlib import contextmanager, nullcontext, suppress
 from pathlib import Path
 from queue import Empty, SimpleQueue
-from collections.abc import Callable, Iterable, Iterator, Mapping
 from typing import Any, NamedTuple, Optional, TypeVar, Union, overload
 
 from .._errors import ParameterError, set_first_cause
+from .._inputs.jobs import Job
+from .._inputs.numbers import checked_int
+from .._inputs.sweeps import Sweep
 from .cache import Cache
 from .ownership import Lease
-from .progress import Line, Progress, reporter
 from .processes import Processes, Setting, new_processes, set_to, setting
+from .progress import Line, Progress, reporter
 from .systems import SPAN, after_fork, processors
-from .._inputs.jobs import Job
-from .._inputs.sweeps import Sweep
-from .._inputs.numbers import checked_int
 
 Input = TypeVar("Input")
 Name = TypeVar("Name")
 Result = TypeVar("Result")
+
+# How long a task waits before it looks again whether its run has ended, in seconds.
+_BETWEEN_LOOKS = 0.1
 
 # The processes of the runs that continue in this process, by the path of their lease.
 _RUNS: dict[str, Processes] = {}
@@ -221,33 +224,39 @@ def _result_of(future: Future[Any], name: object, are_errors_kept: bool) -> Any:
 
 def _task(call: Callable[[Any], Any], input: Any, cache: Optional[Cache], lease: Lease) -> Any:
     """Apply a call to an input, in the thread, process or machine that the executor chooses."""
-    with _processes_of(lease) as processes, set_to(Setting(processes, cache)):
+    with _processes_for_task(lease) as processes, set_to(Setting(processes, cache)):
         return call(input)
 
 
 @contextmanager
-def _processes_of(lease: Lease) -> Iterator[Processes]:
-    """The processes of a run. In another process they are stopped from here when the run has ended."""
-    if lease.is_here():
-        # A task that begins after its run has ended belongs to nothing.
+def _processes_for_task(lease: Lease) -> Iterator[Processes]:
+    """The processes that a task of a run may start. They are stopped when the run ends."""
+    if lease.is_of_this_process():
+        # A run that has ended is no longer in the list. A task of it that begins now must not start anything.
         yield _RUNS.get(lease.path) or Processes(is_stopped=True)
         return
     with new_processes() as processes:
-        if not lease.can_be_seen():
-            yield processes
-            return
-        has_ended = threading.Event()
-        with lease.task():
-            threading.Thread(target=_watch_lease, args=(lease, processes, has_ended), daemon=True).start()
-            try:
+        if lease.is_visible():
+            with lease.task(), _stopped_with_run(processes, lease):
                 yield processes
-            finally:
-                has_ended.set()
+        else:
+            yield processes
 
 
-def _watch_lease(lease: Lease, processes: Processes, has_ended: threading.Event) -> None:
-    """Stops processes when the run that they belong to has ended elsewhere."""
-    while not lease.is_over():
-        if has_ended.wait(0.1):
-            return
-    processes.stop()
+@contextmanager
+def _stopped_with_run(processes: Processes, lease: Lease) -> Iterator[None]:
+    """Stops the processes if the run, which belongs to another process, ends before the block does."""
+    has_block_ended = threading.Event()
+
+    def watch() -> None:
+        """Look for the end of the run, until the block ends."""
+        while not lease.is_over():
+            if has_block_ended.wait(_BETWEEN_LOOKS):
+                return
+        processes.stop()
+
+    threading.Thread(target=watch, daemon=True).start()
+    try:
+        yield
+    finally:
+        has_block_ended.set()

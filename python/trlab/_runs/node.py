@@ -32,8 +32,8 @@ class InWebAssembly(NamedTuple):
         try:
             module = module_in(self.page.read_text("utf-8"))
             known = _SUM.search((self.page.parent / "release.txt").read_text("utf-8"))
-        except (OSError, ValueError, EOFError, zlib.error) as fault:
-            raise ProgramNotFoundError(f"{self.page} is damaged: install trlab again ({fault})") from None
+        except (OSError, ValueError, EOFError, zlib.error) as error:
+            raise ProgramNotFoundError(f"{self.page} is damaged: install trlab again ({error})") from None
         if known is None or hashlib.sha256(module).hexdigest() != known[1]:
             raise ProgramNotFoundError(f"{self.page} is damaged: install trlab again (the program has another SHA-256)")
         return module

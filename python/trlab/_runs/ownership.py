@@ -8,9 +8,9 @@ import secrets
 import socket
 import tempfile
 import time
+from collections.abc import Iterator
 from contextlib import contextmanager, suppress
 from pathlib import Path
-from collections.abc import Iterator
 from typing import NamedTuple, Optional
 
 from .systems import after_fork, is_running
@@ -56,16 +56,16 @@ def remove_owned() -> None:
             path.unlink(missing_ok=True)
 
 
-def remove_left(folder: Path) -> None:
+def remove_abandoned(folder: Path) -> None:
     """Removes the files of `new_path` whose processes were on this machine and have ended."""
     for file in folder.glob(f".*{_MARK}{machine()}-*-*"):
-        if _is_left(file):
-            # Those in a read-only folder stay.
+        if _is_abandoned(file):
+            # Files in a read-only folder stay.
             with suppress(OSError):
                 file.unlink(missing_ok=True)
 
 
-def _is_left(file: Path) -> bool:
+def _is_abandoned(file: Path) -> bool:
     """Whether the process of a file of this machine has ended. The number of the process is in the name of the file."""
     *_, process, _ = file.name.split("-")
     return process.isdecimal() and not is_running(int(process))
@@ -102,19 +102,24 @@ class Lease(NamedTuple):
 
     @contextmanager
     def task(self) -> Iterator[None]:
-        """Marks, for the end of the run, that a task of this process is running."""
+        """Marks that a task of this process is running, so that the run waits for it when it ends."""
         with owned(Path(f"{self.path}.{machine()}-{os.getpid()}-{secrets.token_hex(8)}")) as mark:
             mark.touch()
             yield
 
-    def is_here(self) -> bool:
+    def is_of_this_process(self) -> bool:
         """Whether the run belongs to this process."""
-        return (self.machine, self.process) == (machine(), os.getpid())
+        return self._is_of_this_machine() and self.process == os.getpid()
 
     def is_over(self) -> bool:
-        """Whether the run has ended, also by a kill if it was on this machine."""
-        return not os.path.exists(self.path) or (self.machine == machine() and not is_running(self.process))
+        """Whether the run has ended. A process that was killed leaves the file, but is missed on its own machine."""
+        return not os.path.exists(self.path) or (self._is_of_this_machine() and not is_running(self.process))
 
-    def can_be_seen(self) -> bool:
-        """Whether this machine would notice the end of the run."""
-        return self.machine == machine() or os.path.exists(self.path)
+    def is_visible(self) -> bool:
+        """Whether this process can see the file while the run continues. Another machine cannot if it does not share
+        the folder, and a missing file does not mean there that the run is over."""
+        return self._is_of_this_machine() or os.path.exists(self.path)
+
+    def _is_of_this_machine(self) -> bool:
+        """Whether the run belongs to a process of this machine."""
+        return self.machine == machine()

@@ -7,9 +7,9 @@ import functools
 import subprocess
 import tempfile
 import threading
+from collections.abc import Generator, Iterator
 from contextlib import contextmanager, suppress
 from contextvars import ContextVar
-from collections.abc import Generator, Iterator
 from typing import IO, TYPE_CHECKING, NamedTuple, Optional
 
 from .._errors import ProgramError, ProgramNotFoundError
@@ -56,9 +56,9 @@ class Processes:
             try:
                 command = [*command_of(program), *request.arguments]
                 process = Child(command, stdin=source, stdout=subprocess.PIPE, stderr=messages)
-            except OSError as fault:
-                if fault.errno in _NOT_FOUND:
-                    raise ProgramNotFoundError(f"{program} cannot be run: {fault.strerror}") from None
+            except OSError as error:
+                if error.errno in _NOT_FOUND:
+                    raise ProgramNotFoundError(f"{program} cannot be run: {error.strerror}") from None
                 raise
             self._add(process)
         return process

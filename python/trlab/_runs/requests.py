@@ -30,8 +30,8 @@ class Request(NamedTuple):
         """The input as the program reads it. Bytes that were not UTF-8 when Python read them are restored."""
         try:
             return self.text.encode("utf-8", "surrogateescape")
-        except UnicodeEncodeError as fault:
-            raise ParameterError(f"the input has a character that no file has: {fault}") from None
+        except UnicodeEncodeError as error:
+            raise ParameterError(f"the input has a character that no file has: {error}") from None
 
     def is_explanation(self) -> bool:
         """Whether the output explains an input. Its exit status is then 1 if the input is rejected."""

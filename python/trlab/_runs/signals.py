@@ -4,8 +4,8 @@ from __future__ import annotations
 import os
 import signal
 import threading
-from contextlib import contextmanager
 from collections.abc import Callable, Iterator
+from contextlib import contextmanager
 from types import FrameType
 from typing import Optional
 

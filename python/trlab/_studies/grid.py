@@ -5,8 +5,8 @@ import inspect
 import itertools
 import re
 from collections import namedtuple
-from contextlib import closing
 from collections.abc import Callable, Hashable, Iterable, Iterator, Mapping, Sequence
+from contextlib import closing
 from pathlib import Path
 from typing import TYPE_CHECKING, Any, Union, cast
 
@@ -217,10 +217,10 @@ def _check_make(make: Callable[..., Input], names: Sequence[str]) -> None:
         raise ParameterError(f"a grid needs a function that makes an input of its parameters, not {make!r}")
     try:
         inspect.signature(make).bind(**dict.fromkeys([*names, "key"]))
-    except TypeError as fault:
+    except TypeError as error:
         parameters = ", ".join([*names, "key"])
         raise ParameterError(
-            f"the grid calls its function with {parameters} by name, which does not fit: {fault}"
+            f"the grid calls its function with {parameters} by name, which does not fit: {error}"
         ) from None
 
 
@@ -249,8 +249,8 @@ def _choice_of(names: Sequence[str]) -> Any:
     """The type of a choice: a named tuple of the values of parameters."""
     try:
         return namedtuple("Choice", names)
-    except ValueError as fault:
-        raise ParameterError(f"a parameter cannot have this name: {fault}") from None
+    except ValueError as error:
+        raise ParameterError(f"a parameter cannot have this name: {error}") from None
 
 
 def _check_roads(chosen: Mapping[str, Any], roads: KnownRoads) -> None:

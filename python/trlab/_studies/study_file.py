@@ -8,13 +8,14 @@ import re
 import zipfile
 import zlib
 from collections import namedtuple
+from collections.abc import Iterator, Mapping, Sequence
 from fractions import Fraction
 from numbers import Integral, Rational, Real
 from pathlib import Path
-from collections.abc import Iterator, Mapping, Sequence
 from typing import TYPE_CHECKING, Any, NamedTuple, NoReturn, Union
 
 from .._errors import ParameterError, StudyFileError
+from .._inputs.sweeps import Sweep
 from .._results.tables import Point, Table, Window
 from .._runs.cache import program_identity
 from .._runs.calls import ask
@@ -22,7 +23,6 @@ from .._runs.many import results as results_of
 from .._runs.ownership import new_path, owned
 from .._runs.parts import joined, kind_of, need_whole_windows, requests_of
 from .._runs.requests import Request
-from .._inputs.sweeps import Sweep
 from .._version import __version__
 
 if TYPE_CHECKING:
@@ -91,7 +91,7 @@ class Study:
         tables = dict(self.results(**options))
         in_order = {place: tables[place] for place in self.inputs}
         frame = tidy(in_order, self.names, self._roads, keep=options.get("errors") == "keep")
-        frame.attrs["trlab"] = {"trlab": __version__, "program": program_identity()[1], "parameters": list(self.names)}
+        frame.attrs["trlab"] = {"trlab": __version__, "program": program_identity().sha256, "parameters": list(self.names)}
         return frame
 
 
@@ -112,9 +112,9 @@ def save(grid: Any, path: Union[str, Path], words: Sequence[str]) -> None:
             "values": [_written(value) for value in place], "roads": grid._runs[place],
             "words": list(requests[0].arguments), "files": names, "is_sweep": is_sweep,
         })
-    version, sha256 = program_identity()
+    program = program_identity()
     about = {
-        "format": _FORMAT, "trlab": __version__, "program_version": version, "program": sha256,
+        "format": _FORMAT, "trlab": __version__, "program_version": program.version, "program": program.sha256,
         "parameters": list(grid.names), "choices": choices,
     }
     _write(Path(path).expanduser(), {**texts, "study.json": json.dumps(about, indent=1) + "\n"})
@@ -157,15 +157,15 @@ def read_study(path: Union[str, Path], any_program: bool = False) -> Study:
             study = _study_in(file, os.fstat(content.fileno()).st_size)
     except FileNotFoundError:
         raise
-    except StudyFileError as fault:
-        raise StudyFileError(f"{place} is not a study of trlab, or damaged: {fault}") from None
-    except _DAMAGED as fault:
-        raise StudyFileError(f"{place} is not a study of trlab, or damaged: {type(fault).__name__}: {fault}") from None
-    version, here = program_identity()
-    if study.program != here and not any_program:
+    except StudyFileError as error:
+        raise StudyFileError(f"{place} is not a study of trlab, or damaged: {error}") from None
+    except _DAMAGED as error:
+        raise StudyFileError(f"{place} is not a study of trlab, or damaged: {type(error).__name__}: {error}") from None
+    own = program_identity()
+    if study.program != own.sha256 and not any_program:
         raise StudyFileError(
-            f"{place} was made with trlab {study.version}, program {study.program[:12]}, and yours is {version}, "
-            f"program {here[:12]}: install that version, or pass any_program=True"
+            f"{place} was made with trlab {study.version}, program {study.program[:12]}, and yours is {own.version}, "
+            f"program {own.sha256[:12]}: install that version, or pass any_program=True"
         )
     return study
 
@@ -256,7 +256,7 @@ def _no_number(name: str) -> NoReturn:
     raise StudyFileError(f"study.json has the number {name}")
 
 
-def _need(condition: object, fault: str) -> None:
+def _need(condition: object, message: str) -> None:
     """Raises `StudyFileError` unless a condition holds."""
     if not condition:
-        raise StudyFileError(fault)
+        raise StudyFileError(message)

@@ -5,8 +5,8 @@ import base64
 import gzip
 import json
 import re
-from html import escape
 from collections.abc import Iterator, Sequence
+from html import escape
 from typing import TYPE_CHECKING, Optional
 
 from .._inputs.numbers import ALWAYS, MAX_SPEED, checked_int, key_digits, parts

@@ -180,8 +180,8 @@ def agreement() -> str:
 def memory(command: Sequence[str], path: str, output: str = os.devnull) -> int:
     """The peak memory in bytes of a run on the input in a file."""
     peak = 0
-    with open(path, "rb") as text, open(output, "wb") as out:
-        program = subprocess.Popen(command, stdin=text, stdout=out)
+    with open(path, "rb") as text, open(output, "wb") as file:
+        program = subprocess.Popen(command, stdin=text, stdout=file)
         while program.poll() is None:
             peak = max(peak, peak_of(program.pid))
             time.sleep(0.001)

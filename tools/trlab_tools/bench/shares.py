@@ -88,8 +88,8 @@ def compare_without_threads(shared: Shared, program: str, path: str, folder: str
     """End if the output with 16 workers or runners is different when no thread can be started."""
     outputs = [os.path.join(folder, name) for name in ("threads", "none")]
     for output, limit in zip(outputs, (None, without_threads)):
-        with open(path, "rb") as text, open(output, "wb") as out:
-            subprocess.run(shared.words(program, 16), stdin=text, stdout=out, check=True, preexec_fn=limit)
+        with open(path, "rb") as text, open(output, "wb") as file:
+            subprocess.run(shared.words(program, 16), stdin=text, stdout=file, check=True, preexec_fn=limit)
     if not filecmp.cmp(outputs[0], outputs[1], shallow=False):
         raise SystemExit(f"{shared.title}: a different output without threads")
 

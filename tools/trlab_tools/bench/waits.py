@@ -3,6 +3,7 @@ import os
 import subprocess
 import time
 from collections.abc import Callable, Iterator, Sequence
+from typing import NamedTuple
 
 from ..processes import Process
 from . import measuring
@@ -25,13 +26,20 @@ def switches_of(pid: int) -> dict[str, int]:
     return switches
 
 
-def switches_in(program: Process, seconds: float) -> tuple[int, int]:
-    """Waits a little, then returns the number of context switches of a process in `seconds` seconds, and of its threads."""
+class Waiting(NamedTuple):
+    """The context switches of a process in some time, and its threads at the end."""
+
+    switches: int
+    threads: int
+
+
+def watched(program: Process, seconds: float) -> Waiting:
+    """Watches a process for `seconds` seconds, after it has had time to start."""
     time.sleep(0.3)
     before = switches_of(program.pid)
     time.sleep(seconds)
     after = switches_of(program.pid)
-    return sum(after.values()) - sum(before.values()), len(after)
+    return Waiting(sum(after.values()) - sum(before.values()), len(after))
 
 
 def without_input(command: Sequence[str]) -> Process:
@@ -57,7 +65,7 @@ def row_of(programs: Programs, awaited: str, start: Callable[[Sequence[str]], Pr
     """The row of a process with `count` workers that waits for a second."""
     program = start([programs.trlab, "run", "--workers", str(count)])
     try:
-        switches, threads = switches_in(program, SECONDS)
+        switches, threads = watched(program, SECONDS)
     finally:
         program.kill()
         program.wait()

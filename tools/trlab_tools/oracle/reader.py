@@ -153,19 +153,19 @@ def read_lines_of_program(lines: Lines) -> list[bytes]:
     return lines_of_program
 
 
-def read_program(lines: Lines, kind: str, may_have_one: bool = True) -> None:
-    """Read and judge a program of this kind: lines up to `end`, or a line of code. A road of one lane may not have a change
-    program."""
+def read_program(lines: Lines, kind: str, is_allowed: bool = True) -> None:
+    """Read and judge a program of this kind: lines up to `end`, or a line of code. A change program is not allowed on a road
+    of one lane."""
     first, words = lines.number, lines.words()
     actual_kind: str
     if words == [kind.encode()]:
         lines_of_program = read_lines_of_program(lines)
-        if not may_have_one:
+        if not is_allowed:
             raise Fault(first, Cause.ONE_LANE)
         actual_kind, program = kind, assemble(lines_of_program, first)
     elif len(words) == 2 and words[0] == b"code":
         code = lines.bytes_in(words[1])
-        if not may_have_one:
+        if not is_allowed:
             raise Fault(first, Cause.ONE_LANE)
         actual_kind, program = decode(code, first)
     else:
@@ -209,7 +209,7 @@ def finish_rule(lines: Lines, rule: RuleWords, lanes: int) -> None:
     if rule.name == b"own":
         read_program(lines, "motion")
         if lines.first_word() in (b"change", b"code"):
-            read_program(lines, "change", may_have_one=lanes == 2)
+            read_program(lines, "change", is_allowed=lanes == 2)
 
 
 def read_first_rule(lines: Lines, lanes: int) -> None:
@@ -223,11 +223,11 @@ def read_later_rules(lines: Lines, steps: int, lanes: int) -> None:
     """Read the `at` lines, up to the end of the input."""
     last_step, count = -1, 0
     while not lines.is_end():
-        at, *step_and_rule = lines.words()
-        if at != b"at" or len(step_and_rule) < 2:
+        words = lines.words()
+        if words[0] != b"at" or len(words) < 3:
             lines.fail(Cause.UNEXPECTED_LINE)
-        rule = rule_words(lines, step_and_rule[1:])
-        step = lines.number_in(step_and_rule[0], 0, GREATEST_STEP)
+        rule = rule_words(lines, words[2:])
+        step = lines.number_in(words[1], 0, GREATEST_STEP)
         check_probabilities(lines, rule)
         count += 1
         if count > MAX_LATER_RULES:

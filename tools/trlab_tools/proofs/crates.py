@@ -131,8 +131,8 @@ class Crate:
         for body in bodies:
             for edit in body.edits:
                 text = texts.get(edit.file) or self.text(edit.file)
-                at = place_of(edit, text, body.name)
-                texts[edit.file] = text[:at] + edit.new + text[at + len(edit.old):]
+                place = place_of(edit, text, body.name)
+                texts[edit.file] = text[:place] + edit.new + text[place + len(edit.old):]
         return texts
 
     def misfit(self, bodies: Iterable[Body]) -> Optional[str]:
@@ -157,12 +157,13 @@ class Crate:
         changed: dict[str, Change] = {}
         for edit in body.edits:
             text = texts.get(edit.file) or self.text(edit.file)
-            at = place_of(edit, text, body.name)
-            function = function_around(edit.file, text, at + len(edit.old) - len(edit.old.lstrip()))
+            place = place_of(edit, text, body.name)
+            indent = len(edit.old) - len(edit.old.lstrip())
+            function = function_around(edit.file, text, place + indent)
             path = function.path_in(self.paths) if function else None
             if not function or not path:
                 raise SystemExit(f"{self.name}: {body.name} changes no function, and has no line `in`")
-            texts[edit.file] = text[:at] + edit.new + text[at + len(edit.old):]
+            texts[edit.file] = text[:place] + edit.new + text[place + len(edit.old):]
             is_public = self.exports.has_public(function) and function.has_clause
             changed[path] = Change(path, is_public, str(function))
         return changed

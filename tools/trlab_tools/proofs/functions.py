@@ -34,12 +34,12 @@ class Function(NamedTuple):
         """The path of the module of its file."""
         return re.sub(r"^src/((lib|main)\.rt)?|\.rt$", "", self.file).replace("/", "::")
 
-    def path_in(self, every: Collection[str]) -> Optional[str]:
-        """Its path, of all those of a crate as the prover names them, or None."""
+    def path_in(self, paths: Collection[str]) -> Optional[str]:
+        """Its path, out of the paths by which the prover names the functions of its crate, or None."""
         last = rf"{re.escape(self.owner)}\w*::{self.name}" if self.owner else self.name
-        in_module = [path for path in every if re.fullmatch(rf"{self.module}(::)?{last}", path)]
-        # (a method is named by the module of its type, which may be another file's)
-        candidates = in_module or [path for path in every if self.owner and re.fullmatch(rf"(\w+::)*{last}", path)]
+        in_module = [path for path in paths if re.fullmatch(rf"{self.module}(::)?{last}", path)]
+        # A method is named by the module of its type, which may be in another file.
+        candidates = in_module or [path for path in paths if self.owner and re.fullmatch(rf"(\w+::)*{last}", path)]
         return min(candidates, key=len) if candidates else None
 
 
@@ -51,10 +51,11 @@ def base_name(kind: str) -> str:
 def without_parameters(head: str) -> str:
     """What follows the parameters of an `impl`."""
     depth = 0
-    for at, sign in enumerate(head):
-        depth += (sign == "<") - (sign == ">" and head[at - 1] != "-")
+    for place, sign in enumerate(head):
+        # (The arrow of a function type closes nothing.)
+        depth += (sign == "<") - (sign == ">" and head[place - 1] != "-")
         if depth == 0:
-            return head[at + 1:] if sign == ">" else head
+            return head[place + 1:] if sign == ">" else head
     return head
 
 

@@ -30,9 +30,10 @@ def files_of(places: Iterable[str]) -> Iterator[str]:
     for place in places:
         if os.path.isfile(place):
             yield place
-        for at, names, files in os.walk(place):
-            names.sort()
-            yield from (os.path.join(at, name) for name in sorted(files))
+        for folder, folders_below, files in os.walk(place):
+            # `os.walk` continues with the folders in the order of this list.
+            folders_below.sort()
+            yield from (os.path.join(folder, name) for name in sorted(files))
 
 
 def sum_of(places: Iterable[str], top: Union[str, os.PathLike[str]]) -> str:

@@ -48,9 +48,9 @@ def hop(drawing: Drawing, lane: Lane, begin: float, end: float) -> None:
     if end > begin:
         drawing.path(f"M{begin:.1f} {y:.1f}q{(end - begin) / 2:.1f} -17 {end - begin:.1f} 2", INK, 1.2, head=True)
     else:
-        out, back = lane.left(CELLS) + 16, lane.left(0) - 4
-        drawing.path(f"M{begin:.1f} {y:.1f}Q{begin + 40:.1f} {y - 15:.1f} {out:.1f} {y - 11:.1f}", INK, 1.2, head=True)
-        drawing.path(f"M{back:.1f} {y - 9:.1f}Q{end - 10:.1f} {y - 9:.1f} {end:.1f} {y + 2:.1f}", INK, 1.2, head=True)
+        past_end, before_start = lane.left(CELLS) + 16, lane.left(0) - 4
+        drawing.path(f"M{begin:.1f} {y:.1f}Q{begin + 40:.1f} {y - 15:.1f} {past_end:.1f} {y - 11:.1f}", INK, 1.2, head=True)
+        drawing.path(f"M{before_start:.1f} {y - 9:.1f}Q{end - 10:.1f} {y - 9:.1f} {end:.1f} {y + 2:.1f}", INK, 1.2, head=True)
 
 
 def draw() -> str:

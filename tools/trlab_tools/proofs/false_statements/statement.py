@@ -27,8 +27,8 @@ class Sweep(NamedTuple):
 
 
 class FalseStatement(NamedTuple):
-    """A false statement of a law, and its counterexample (see __init__.py). `operator` is one that the new text needs and
-    the file does not import yet."""
+    """A false statement of a law, and its counterexample (see __init__.py). `operator` is an operator of the new text that
+    the file does not import."""
 
     law: str
     file: str
@@ -46,37 +46,39 @@ def job(limit: int, rule: str, steps: int, *lanes: str, key: int = 0, warm: int 
     return Job(limit, rule, steps, lanes, key, warm)
 
 
-def program(answer: str, change: str = "") -> str:
+def own_rule(motion: str, change: str = "") -> str:
     """A rule of one's own: the lines of its motion program, and of its change program if it has one."""
-    return f"own\nmotion\n{answer}\nend" + (f"\nchange\n{change}\nend" if change else "")
+    return f"own\nmotion\n{motion}\nend" + (f"\nchange\n{change}\nend" if change else "")
 
 
 # The rule `nasch` with the probabilities 0, 1 and 1/2 of braking.
 NO_BRAKING, ALWAYS_BRAKING, HALF_BRAKING = "nasch 0", "nasch 2147483648", "nasch 1073741824"
 # The rule whose new speed is min(limit, gap).
 GAP_LINES = "get r0, limit\nget r1, gap\nmin r0, r0, r1\ngo r0"
-GAP_RULE = program(GAP_LINES)
+GAP_RULE = own_rule(GAP_LINES)
 # Cars change lanes whenever the side cell is empty.
-RESTLESS_RULE = program(GAP_LINES, "side r0\njfalse r0, keep\ncross\nkeep: stay")
+RESTLESS_RULE = own_rule(GAP_LINES, "side r0\njfalse r0, keep\ncross\nkeep: stay")
 
 
-def from_lane_1(*tests: str) -> str:
-    """The rule by which the car of lane 1 changes lanes if the side cell is empty and these tests do not jump to keep."""
+def leaving_lane_1(*tests: str) -> str:
+    """The rule by which the cars of lane 1 change lanes if the side cell is empty and none of these tests jumps to `keep`."""
     is_possible = ["side r0", "jfalse r0, keep", "get r0, lane", "num r1, 1", "jlt r0, r1, keep"]
-    return program(GAP_LINES, "\n".join([*is_possible, *tests, "cross", "keep: stay"]))
+    return own_rule(GAP_LINES, "\n".join([*is_possible, *tests, "cross", "keep: stay"]))
 
 
-AHEAD, BEHIND = "get r0, sidegap\nget r1, speed\n", "get r0, sideback\nget r1, limit\n"
-SAFE_RULE = from_lane_1(AHEAD + "jle r0, r1, keep", BEHIND + "jlt r0, r1, keep")
-# The gap ahead may be only as large as the speed; the gap behind may be one cell less than the limit.
-UNSAFE_AHEAD_RULE = from_lane_1(AHEAD + "jlt r0, r1, keep", BEHIND + "jlt r0, r1, keep")
-UNSAFE_BEHIND_RULE = from_lane_1(
-    AHEAD + "jle r0, r1, keep",
-    BEHIND + "jle r1, r0, go\nnum r2, 1\nadd r0, r0, r2\njlt r0, r1, keep\ngo: num r0, 0",
-)
+# A lane change is safe if the gap ahead on the other lane is larger than the speed, and the gap behind at least the limit.
+AHEAD = "get r0, sidegap\nget r1, speed\n"
+BEHIND = "get r0, sideback\nget r1, limit\n"
+SAFE_AHEAD = AHEAD + "jle r0, r1, keep"
+SAFE_BEHIND = BEHIND + "jlt r0, r1, keep"
+SAFE_RULE = leaving_lane_1(SAFE_AHEAD, SAFE_BEHIND)
+# The gap ahead may also be equal to the speed.
+UNSAFE_AHEAD_RULE = leaving_lane_1(AHEAD + "jlt r0, r1, keep", SAFE_BEHIND)
+# The gap behind may also be one cell less than the limit.
+UNSAFE_BEHIND_RULE = leaving_lane_1(SAFE_AHEAD, BEHIND + "num r2, 1\nadd r0, r0, r2\njlt r0, r1, keep")
 
 ONE_STEP = job(1, NO_BRAKING, 1, "0.")
 TWO_STEPS = job(1, NO_BRAKING, 2, "0.")
 THREE_CELLS = job(1, NO_BRAKING, 1, "0..")
-# A car that no longer accelerates by as much as its gap allows after v_max - 1 steps.
+# The next car blocks the first one in step 0. In step 1 the gap allows speed 2, but the first car only reaches speed 1.
 BLOCKED = job(2, NO_BRAKING, 2, "01....")
