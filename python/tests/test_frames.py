@@ -334,7 +334,7 @@ class Misreadings(unittest.TestCase):
         self.assertEqual(means.n, 4)
         self.assertEqual(round(means.flow_sem, 12), round(statistics.stdev(flows) / 2, 12))
         by_window = trlab.means(frame, "seed")
-        self.assertRaisesRegex(FrameError, "are they means already", trlab.means, by_window, "step")
+        self.assertRaisesRegex(FrameError, "may not be single runs", trlab.means, by_window, "step")
 
     def test_runs_of_two_branches(self) -> None:
         frame = trlab.per_run(self.frame(seed=range(10)))

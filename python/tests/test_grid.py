@@ -260,6 +260,10 @@ class Frames(unittest.TestCase):
             self.assertRaisesRegex(ParameterError, "job.series", Grid(job, **JOBS).run, cache=folder)
             self.assertEqual(list(Path(folder).iterdir()), [])
 
+    def test_an_option_that_is_not_known(self) -> None:
+        run = Grid(job, **JOBS).run
+        self.assertRaisesRegex(ParameterError, "no option 'runners', only call, .*at_once", run, call=len, runners=2)
+
     def test_a_wrong_call_is_reported_at_the_first_result(self) -> None:
         finished = []
         self.assertRaisesRegex(

@@ -148,10 +148,11 @@ class Studies(Folder):
         )
         self.assertFalse(self.path.exists())
 
-    def test_another_program(self) -> None:
-        self.saved()
+    def read_with(self, first_line: str) -> tuple[str, str]:
+        """The error of `read_study` with another program, and the number of results with `any_program`. The program is
+        a script that begins with this line."""
         other = self.path.parent / "other"
-        other.write_text(f'#!/bin/sh\n[ "$1" != --version ] || exec echo trlab 9\nexec "{find_program()}" "$@"\n')
+        other.write_text(f'#!/bin/sh\n{first_line}\nexec "{find_program()}" "$@"\n')
         other.chmod(0o755)
         script = "import sys, trlab\ntry:\n    trlab.read_study(sys.argv[1])\n" \
             "except trlab.StudyFileError as error:\n    print(error)\n" \
@@ -160,9 +161,20 @@ class Studies(Folder):
         command = [sys.executable, "-B", "-c", script, str(self.path)]
         process = subprocess.run(command, env=environment, stdout=subprocess.PIPE, text=True)
         message, count = process.stdout.splitlines()
+        return message, count
+
+    def test_another_program(self) -> None:
+        self.saved()
+        message, count = self.read_with('[ "$1" != --version ] || exec echo trlab 9')
         self.assertRegex(
             message, "was made with trlab .*, program [0-9a-f]{12}, and yours is trlab 9, program .* any_program=True$"
         )
+        self.assertEqual(count, "6")
+
+    def test_another_build_of_the_version(self) -> None:
+        self.saved()
+        message, count = self.read_with("# the same version")
+        self.assertRegex(message, "was made with another build of trlab .* kind of processor .* any_program=True$")
         self.assertEqual(count, "6")
 
 

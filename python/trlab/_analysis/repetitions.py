@@ -47,8 +47,8 @@ def need_runs(frame: pandas.DataFrame) -> pandas.DataFrame:
     windows."""
     if not {*IDENTITY} <= set(frame):
         raise FrameError(
-            "this frame has no columns `key`, `road` and `ensemble`, so its rows are not single runs (are they means "
-            "already?): take the frame that `Grid.run` returned"
+            "this frame has no columns `key`, `road` and `ensemble`, so its rows may not be single runs, but for example "
+            "means, or a table that was read from a file: take the frame that `Grid.run` or `Grid.frame` returned"
         )
     if frame.index.names == [None]:
         raise FrameError(

@@ -25,6 +25,9 @@ Input = Union[Job, Sweep]
 
 MEASURE = "call=lambda job: job.series(every=2000, first=1000)"
 
+# The options of `trlab.results`, which a grid passes on.
+_OPTIONS = [name for name in inspect.signature(results_of).parameters if name != "inputs"]
+
 # Columns of frames that a parameter must not hide. `density` and `cars` are allowed: they are those of the road.
 _TAKEN = set(
     "key road ensemble error requested_density cells steps step distance stopped changes flow flow_millionths speed "
@@ -129,6 +132,12 @@ class Grid:
 
     def results(self, **options: Any) -> Iterator[tuple[Any, Any]]:
         """Yield each choice and its result: `trlab.results` of these inputs, with these options."""
+        unknown = [name for name in options if name not in _OPTIONS]
+        if unknown:
+            raise ParameterError(
+                f"the runs of a grid have no option {unknown[0]!r}, only {', '.join(_OPTIONS)}: `at_once` limits the runs "
+                "at a time"
+            )
         return results_of(self.inputs, **options)
 
     def run(self, **options: Any) -> pandas.DataFrame:

@@ -68,6 +68,7 @@ class Study:
 
     def __init__(self, about: Mapping[str, Any], inputs: Mapping[Any, StudyInput]) -> None:
         self.version: str = about["trlab"]
+        self._program_version: str = about["program_version"]
         self.program: str = about["program"]
         self.names: tuple[str, ...] = tuple(about["parameters"])
         self.inputs: dict[Any, StudyInput] = dict(inputs)
@@ -162,12 +163,18 @@ def read_study(path: Union[str, Path], any_program: bool = False) -> Study:
     except _DAMAGED as error:
         raise StudyFileError(f"{place} is not a study of trlab, or damaged: {type(error).__name__}: {error}") from None
     own = program_identity()
-    if study.program != own.sha256 and not any_program:
+    if study.program == own.sha256 or any_program:
+        return study
+    if study._program_version == own.version:
         raise StudyFileError(
-            f"{place} was made with trlab {study.version}, program {study.program[:12]}, and yours is {own.version}, "
-            f"program {own.sha256[:12]}: install that version, or pass any_program=True"
+            f"{place} was made with another build of {own.version}, for example for another kind of processor "
+            f"(program {study.program[:12]}, yours is {own.sha256[:12]}): if both are from the release, their results "
+            "are the same, and you can pass any_program=True"
         )
-    return study
+    raise StudyFileError(
+        f"{place} was made with trlab {study.version}, program {study.program[:12]}, and yours is {own.version}, "
+        f"program {own.sha256[:12]}: install that version, or pass any_program=True"
+    )
 
 
 def _study_in(file: zipfile.ZipFile, size: int) -> Study:
