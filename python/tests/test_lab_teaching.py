@@ -118,7 +118,7 @@ class Teaching(OnPage):
         self.assertEqual(maxima(), ["0.75", "1", "3"])
         self.assertIn("density (cars per cell)", axis())
         self.page.set("units", "road")
-        self.hold(lambda: "vehicles per hour" in "".join(axis()) and "81 km/h" in self.page.text("legend"))
+        self.hold(lambda: "vehicles per hour and lane" in "".join(axis()) and "81 km/h" in self.page.text("legend"))
         hourly_flow, cars_per_km, kmh = shown()
         self.assertEqual(cars_per_km, 53)  # 0.4 cars per cell of 7.5 m
         # Both numbers are rounded: the flow per step to 3 digits, the speed in cells per step to 2, and the others to 0.

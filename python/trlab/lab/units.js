@@ -9,12 +9,12 @@ const METRES_PER_CELL = 7.5, SECONDS_PER_STEP = 1;
 const SYSTEMS = {
   cells: {
     density: { factor: 1, digits: 3, words: "cars per cell", short: "per cell" },
-    flow: { factor: 1, digits: 3, words: "cars per step", short: "per step" },
+    flow: { factor: 1, digits: 3, words: "cars per step and lane", short: "per step" },
     speed: { factor: 1, digits: 2, words: "cells per step", short: "cells/step" },
   },
   road: {
-    density: { factor: 1000 / METRES_PER_CELL, digits: 0, words: "vehicles per km", short: "per km" },
-    flow: { factor: 3600 / SECONDS_PER_STEP, digits: 0, words: "vehicles per hour", short: "per hour" },
+    density: { factor: 1000 / METRES_PER_CELL, digits: 0, words: "vehicles per km and lane", short: "per km" },
+    flow: { factor: 3600 / SECONDS_PER_STEP, digits: 0, words: "vehicles per hour and lane", short: "per hour" },
     speed: { factor: 3.6 * METRES_PER_CELL / SECONDS_PER_STEP, digits: 0, words: "km/h", short: "km/h" },
   },
 };
