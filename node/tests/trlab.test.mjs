@@ -15,8 +15,10 @@ test("snapshots of a run", { skip: missing }, () => {
   const shots = run(TWO_CARS);
   assert.deepEqual(shots.map(it => it.step), [0, 1, 2, 3, 4]);
   assert.deepEqual(shots.at(-1), { step: 4, lanes: ["..4....3.."] });
-  const written = shots => shots.map(({ step, lanes }) => `step ${step}\n${lanes.map(it => `${it}\n`).join("")}`).join("");
-  for (const name of ["jam.job", "overtaking.job"]) assert.equal(written(run(text(name))), text(`${name}.out`), name);
+  const written = ({ step, lanes }) => [`step ${step}`, ...lanes, ""].join("\n");
+  for (const name of ["jam.job", "overtaking.job"]) {
+    assert.equal(run(text(name)).map(written).join(""), text(`${name}.out`), name);
+  }
   assert.deepEqual(run(TWO_CARS, { every: 2, from: 1 }).map(it => it.step), [1, 3]);
   assert.deepEqual(run(Buffer.from(TWO_CARS)), shots);
 });
