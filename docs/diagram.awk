@@ -54,7 +54,8 @@ is_series && $2 > 0 { add_point($1, y[tables, points[tables]] + $5 / $2); next }
     add_result(curve_of[label[tables]], $1 / $2, !changes ? $7 / 1000000 : $1 * $3 ? 1000 * $6 / ($1 * $3) : 0)
 }
 
-# Whether the flow of a row follows from its distance, cells and steps: in a row that is cut off it does not.
+# Whether the flow of a row follows from its distance, cells and steps: in a row that is cut off it does not. This number of
+# columns comes before those of a sweep.
 function is_row(before,  area, difference) {
     area = $(2 + before) * $(3 + before)
     difference = area ? $(4 + before) / area - $(7 + before) / 1000000 : 1
@@ -62,11 +63,12 @@ function is_row(before,  area, difference) {
 }
 
 # Rejects a row if the first table of the curve has another point there.
-function check_point(point,  whole) {
-    whole = curve_of[label[tables]]
+function check_point(point,  first_table) {
+    first_table = curve_of[label[tables]]
     rows[tables]++
-    if (whole == tables) point_of[tables, rows[tables]] = point
-    else if (point_of[whole, rows[tables]] != point) refuse_rows("table " tables " has other cars, cells, steps or more rows")
+    if (first_table == tables) point_of[tables, rows[tables]] = point
+    else if (point_of[first_table, rows[tables]] != point)
+        refuse_rows("table " tables " has other cars, cells, steps or more rows")
 }
 
 # Rejects a table with fewer rows than the first table of the curve.
@@ -84,17 +86,18 @@ function refuse(why) {
     exit 1
 }
 
-function add_point(right_by, high_by) {
+# Adds a point to the curve of the last table.
+function add_point(point_x, point_y) {
     points[tables]++
-    x[tables, points[tables]] = right_by
-    y[tables, points[tables]] = high_by
-    fit(right_by, high_by)
+    x[tables, points[tables]] = point_x
+    y[tables, points[tables]] = point_y
+    fit(point_x, point_y)
 }
 
 # Makes room for a point.
-function fit(right_by, high_by) {
-    if (right_by > widest) widest = right_by
-    if (high_by > highest) highest = high_by
+function fit(point_x, point_y) {
+    if (point_x > widest) widest = point_x
+    if (point_y > highest) highest = point_y
 }
 
 # Adds a result to the point of a curve at this density. The squares are of distances from the first result, so that rounding
@@ -112,35 +115,37 @@ function add_result(t, density, result,  k) {
 }
 
 # The means of a curve, and their standard errors if there are several results.
-function take_means(t,  k, n, variance) {
+function take_means(t,  k, count, variance) {
     for (k = 1; k <= points[t]; k++) {
-        n = results[t, k]
-        y[t, k] = base[t, k] + sum[t, k] / n
-        if (n > 1) {
-            variance = (squares[t, k] - sum[t, k] ^ 2 / n) / (n - 1)
-            error[t, k] = variance > 0 ? sqrt(variance / n) : 0
+        count = results[t, k]
+        y[t, k] = base[t, k] + sum[t, k] / count
+        if (count > 1) {
+            variance = (squares[t, k] - sum[t, k] ^ 2 / count) / (count - 1)
+            error[t, k] = variance > 0 ? sqrt(variance / count) : 0
         }
         fit(x[t, k], y[t, k] + error[t, k])
     }
 }
 
+# The places of a point in the image.
 function across(x) { return left + (right - left) * x / width }
 function up(y) { return bottom - (bottom - top) * y / height }
 
 # The step between marks for values up to a maximum: 1, 2 or 5 times a power of ten, 4 to 10 marks.
-function mark_step(greatest,  step) {
-    for (step = 1000; step * 4 > greatest; step /= 10) { }
-    return greatest / step > 20 ? step * 5 : greatest / step > 10 ? step * 2 : step
+function mark_step(maximum,  step) {
+    for (step = 1000; step * 4 > maximum; step /= 10) { }
+    return maximum / step > 20 ? step * 5 : maximum / step > 10 ? step * 2 : step
 }
 
-function text(x, y, anchor, what,  more) {
-    printf "<text x=\"%.1f\" y=\"%.1f\" text-anchor=\"%s\"%s>%s</text>\n", x, y, anchor, more, what
+function text(x, y, anchor, words,  attributes) {
+    printf "<text x=\"%.1f\" y=\"%.1f\" text-anchor=\"%s\"%s>%s</text>\n", x, y, anchor, attributes, words
 }
 
 function line(x1, y1, x2, y2, stroke) {
     printf "<line x1=\"%.1f\" y1=\"%.1f\" x2=\"%.1f\" y2=\"%.1f\" stroke=\"%s\"/>\n", x1, y1, x2, y2, stroke
 }
 
+# The axes with their marks and grey lines, and the words below and beside them.
 function axes(below, beside,  step, k) {
     step = mark_step(width)
     for (k = 0; step * k < width * 1.001; k++) {
@@ -169,6 +174,7 @@ function curve(t,  k) {
     }
 }
 
+# The bar of an error, with a short line at both ends.
 function bar(x, low, high, stroke) {
     printf "<path fill=\"none\" stroke=\"%s\" d=\"M%.1f %.1fV%.1fm-3 0h6M%.1f %.1fh6\"/>\n", stroke, x, low, high, x - 3, low
 }

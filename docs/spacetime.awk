@@ -11,10 +11,11 @@
 # shows whether it is complete; in bash, `set -o pipefail` gives it. An output that ends within a snapshot is rejected.
 
 BEGIN {
-    signs = "0123456789abcdefghijklmnopqrstuvwxyz"
+    signs = "0123456789abcdefghijklmnopqrstuvwxyz"  # of speeds from 0
     left = 64; top = 30; gap = 24
     # Red, green and blue of the colours of speeds at equal distances, as in the page of trlab-lab: dark red, orange, blue.
-    hues = split("122 16 22 208 66 24 243 154 46 142 196 232 76 142 200 26 86 150", map, " ") / 3 - 1
+    # Between two neighbours of this scale lies an interval.
+    intervals = split("122 16 22 208 66 24 243 154 46 142 196 232 76 142 200 26 86 150", scale, " ") / 3 - 1
 }
 
 $1 == "step" {
@@ -23,9 +24,9 @@ $1 == "step" {
     else if (steps == 2) every = $2 - first
     else if ($2 != first + (steps - 1) * every) refuse("the snapshots are not at equal distances of steps: step " $2)
     lane = 0
-    split("", before)
-    for (place in now) before[place] = now[place]
-    split("", now)
+    split("", car_before)
+    for (place in car_now) car_before[place] = car_now[place]
+    split("", car_now)
     next
 }
 
@@ -60,7 +61,8 @@ function refuse(why) {
     exit 1
 }
 
-# Adds neighbouring cars of one speed to the path of their lane and speed, from the end of the path before.
+# Adds a run of neighbouring cars of one speed to the path of their lane and speed. The path moves from its end, which is
+# (at_x, at_y), to the first of these cars.
 function draw(lane, speed, x, run,  y) {
     y = steps - 1
     piece[lane, speed, y] = piece[lane, speed, y] \
@@ -72,23 +74,23 @@ function draw(lane, speed, x, run,  y) {
 
 # Continues the line of the car that has reached this cell. A car came from its own lane if there was one, and otherwise from
 # the other lane. Then another line begins, as it does at the end of the road.
-function follow(lane, speed, x,  came, car) {
-    came = (x - speed + cells) % cells
-    if (every == 1 && (lane, came) in before) {
-        car = before[lane, came]
+function follow(lane, speed, x,  origin, car) {
+    origin = (x - speed + cells) % cells
+    if (every == 1 && (lane, origin) in car_before) {
+        car = car_before[lane, origin]
         move(car, speed)
-        if (x < came) {
+        if (x < origin) {
             finish(car, lane)
-            begin(car, came - cells)
+            begin(car, origin - cells)
             move(car, speed)
         }
-    } else if (every == 1 && (1 - lane, came) in before) {
-        car = before[1 - lane, came]
+    } else if (every == 1 && (1 - lane, origin) in car_before) {
+        car = car_before[1 - lane, origin]
         finish(car, 1 - lane)
         begin(car, x - speed)
         move(car, speed)
     } else begin(car = ++cars, x)
-    now[lane, x] = car
+    car_now[lane, x] = car
 }
 
 # Begins the line of a car at this cell of the snapshot before; the first line begins in its own snapshot.
@@ -104,6 +106,7 @@ function move(car, speed) {
     speed_of[car] = speed
 }
 
+# The piece of a car's line for its last steps of one speed; nothing if there are none.
 function piece_of(car,  count) {
     count = run_of[car]
     run_of[car] = 0
@@ -116,8 +119,8 @@ function finish(car, lane) {
     if (trail[car] ~ /[lv]/) trails[lane, ++count_of[lane]] = trail[car]
 }
 
-function text(x, y, anchor, what,  more) {
-    printf "<text x=\"%.1f\" y=\"%.1f\" text-anchor=\"%s\"%s>%s</text>\n", x, y, anchor, more, what
+function text(x, y, anchor, words,  attributes) {
+    printf "<text x=\"%.1f\" y=\"%.1f\" text-anchor=\"%s\"%s>%s</text>\n", x, y, anchor, attributes, words
 }
 
 function line(x1, y1, x2, y2) {
@@ -125,20 +128,21 @@ function line(x1, y1, x2, y2) {
 }
 
 # The colour of a speed, from dark red for stopped cars to blue for the fastest ones.
-function colour(speed,  at, k) {
-    at = fastest ? hues * speed / fastest : 0
-    k = at < hues ? int(at) : hues - 1
-    return sprintf("#%02x%02x%02x", between(k, at - k, 1), between(k, at - k, 2), between(k, at - k, 3))
+function colour(speed,  place, k) {
+    place = fastest ? intervals * speed / fastest : 0
+    k = place < intervals ? int(place) : intervals - 1
+    return sprintf("#%02x%02x%02x", between(k, place - k, 1), between(k, place - k, 2), between(k, place - k, 3))
 }
 
-function between(k, part, channel) {
-    return int(map[3 * k + channel] + (map[3 * k + 3 + channel] - map[3 * k + channel]) * part + 0.5)
+# Red (channel 1), green (2) or blue (3) at this share of an interval of the scale.
+function between(k, share, channel) {
+    return int(scale[3 * k + channel] + (scale[3 * k + 3 + channel] - scale[3 * k + channel]) * share + 0.5)
 }
 
 # The distance of marks, 1, 2 or 5 times a power of ten, that leaves this room between them.
-function mark_step(scale, room,  step, k) {
+function mark_step(pixels_per_unit, room,  step, k) {
     step = 1
-    for (k = 0; step * scale < room; k++) step *= k % 3 == 1 ? 2.5 : 2
+    for (k = 0; step * pixels_per_unit < room; k++) step *= k % 3 == 1 ? 2.5 : 2
     return step
 }
 
@@ -171,6 +175,7 @@ function panel(lane, x,  speed, y, step, mark, k) {
     if (lanes > 1) text(x + wide / 2, top - 9, "middle", "lane " lane)
 }
 
+# The axis of times.
 function times(  step, mark, y) {
     if (every < 1) every = 1
     step = mark_step(down / every, 16)
@@ -185,7 +190,8 @@ function times(  step, mark, y) {
     text(16, y, "middle", "time (steps)", sprintf(" transform=\"rotate(-90 16 %.1f)\"", y))
 }
 
-function legend(x,  speed, y, title) {
+# The colours of the speeds.
+function legend(x,  speed, y) {
     for (speed = fastest; speed >= 0; speed--) {
         y = top + box * (fastest - speed)
         printf "<rect x=\"%.1f\" y=\"%.1f\" width=\"16\" height=\"%.1f\" fill=\"%s\"/>\n", x, y, box, colour(speed)
@@ -202,7 +208,7 @@ END {
     fastest += 0
     # In an order of its own, because each awk goes through the elements of an array in another one.
     for (lane = 0; lane < lanes; lane++)
-        for (cell = 0; cell < cells; cell++) if ((lane, cell) in now) finish(now[lane, cell], lane)
+        for (cell = 0; cell < cells; cell++) if ((lane, cell) in car_now) finish(car_now[lane, cell], lane)
     across = (lanes > 1 ? 300 : 600) / cells
     if (across > 12) across = 12
     down = steps * across > 700 ? 700 / steps : across

@@ -26,18 +26,18 @@ $1 ~ /^[a-z]+[0-9 ]+$/ && $column["cells"] == 100000 && $column["cars"] == 30000
 }
 
 # A rule as its line in a file, and as probabilities: `nasch 536870912 (p = 0.25)`.
-function title(line,  word, words, symbol, shown, k) {
-    words = split(line, word, " ")
+function title(line,  word, count, symbol, probabilities, k) {
+    count = split(line, word, " ")
     split(word[1] == "rickert" ? "p c" : "p p0", symbol, " ")
-    for (k = 2; k <= words; k++)
-        shown = shown (k > 2 ? ", " : "") sprintf("%s = %.6g", symbol[k - 1], word[k] / 2147483648)
-    return sprintf("%s (%s)", line, shown)
+    for (k = 2; k <= count; k++)
+        probabilities = probabilities (k > 2 ? ", " : "") sprintf("%s = %.6g", symbol[k - 1], word[k] / 2147483648)
+    return sprintf("%s (%s)", line, probabilities)
 }
 
 function across(x) { return left + (right - left) * x / slowest }
 
-function text(x, y, anchor, what,  more) {
-    printf "<text x=\"%.1f\" y=\"%.1f\" text-anchor=\"%s\"%s>%s</text>\n", x, y, anchor, more, what
+function text(x, y, anchor, words,  attributes) {
+    printf "<text x=\"%.1f\" y=\"%.1f\" text-anchor=\"%s\"%s>%s</text>\n", x, y, anchor, attributes, words
 }
 
 # The bars of a rule below its name; returns the place of the next rule.
@@ -56,10 +56,11 @@ function bars(r, y,  k) {
 }
 
 # Grey lines at every ten nanoseconds, and their numbers below the bars.
-function axis(bottom,  at) {
-    for (at = 0; at <= slowest; at += 10) {
-        printf "<line x1=\"%.1f\" y1=\"%d\" x2=\"%.1f\" y2=\"%d\" stroke=\"#e0e0e0\"/>\n", across(at), top + 6, across(at), bottom
-        text(across(at), bottom + 14, "middle", at)
+function axis(bottom,  mark, x) {
+    for (mark = 0; mark <= slowest; mark += 10) {
+        x = across(mark)
+        printf "<line x1=\"%.1f\" y1=\"%d\" x2=\"%.1f\" y2=\"%d\" stroke=\"#e0e0e0\"/>\n", x, top + 6, x, bottom
+        text(x, bottom + 14, "middle", mark)
     }
 }
 

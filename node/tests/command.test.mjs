@@ -44,8 +44,9 @@ test("files as standard input and output", { skip: missing }, () => {
 test("failing streams end with status 4", { skip: missing }, t => {
   if (process.platform !== "linux") return t.skip("/dev/full is for Linux");
   const full = openSync("/dev/full", "w"), folder = openSync("/", "r");
-  assert.equal(spawnSync(process.execPath, [COMMAND, "run"], { input: example("jams.job"), stdio: ["pipe", full, "pipe"] }).status, 4);
-  assert.equal(spawnSync(process.execPath, [COMMAND, "run"], { stdio: [folder, "pipe", "pipe"] }).status, 4);
+  const statusOf = options => spawnSync(process.execPath, [COMMAND, "run"], options).status;
+  assert.equal(statusOf({ input: example("jams.job"), stdio: ["pipe", full, "pipe"] }), 4);
+  assert.equal(statusOf({ stdio: [folder, "pipe", "pipe"] }), 4);
   closeSync(full);
   closeSync(folder);
 });
@@ -93,11 +94,16 @@ test("without a page there is one message", () => {
   assert.match(ran.stderr, /^trlab-node: there is no host.js: .*\n$/);
   writeFileSync(join(folder, "package.json"), '{ "type": "module" }');
   writeFileSync(join(folder, "host.js"), readFileSync(new URL("../python/trlab/lab/host.js", source)));
-  for (const [page, told] of [[undefined, "there is no trlab-lab.html"], ["<p>", "contains no program"], ['<script id="program">x<', "is damaged"]]) {
+  const cases = [
+    [undefined, "there is no trlab-lab.html"],
+    ["<p>", "contains no program"],
+    ['<script id="program">x<', "is damaged"],
+  ];
+  for (const [page, message] of cases) {
     if (page !== undefined) writeFileSync(join(folder, "trlab-lab.html"), page);
     const { status, stderr } = spawnSync(process.execPath, [join(folder, "trlab-node.mjs"), "run"], { encoding: "utf8" });
     assert.equal(status, 70);
-    assert.ok(stderr.includes(told) && stderr.split("\n").length === 2, stderr);
+    assert.ok(stderr.includes(message) && stderr.split("\n").length === 2, stderr);
   }
   rmSync(folder, { recursive: true });
 });

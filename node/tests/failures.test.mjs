@@ -27,9 +27,14 @@ function ended(words, text, module, { prepare = () => {}, base } = {}) {
   }
   return { status, output: Buffer.concat(pieces).toString() };
 }
+const SHORT_SWEEP = example("triangle.sweep").replace(/(cars \d+\n)+/, "cars 3\ncars 50\n");
+// The words and the input of each call.
 const CALLS = [
-  [["run"], example("overtaking.job")], [["series", "--every", "5"], example("overtaking.job")],
-  [["sweep"], example("triangle.sweep").replace(/(cars \d+\n)+/, "cars 3\ncars 50\n")], [["check"], example("lane_change.rule")], [["explain"], example("jam.job")],
+  [["run"], example("overtaking.job")],
+  [["series", "--every", "5"], example("overtaking.job")],
+  [["sweep"], SHORT_SWEEP],
+  [["check"], example("lane_change.rule")],
+  [["explain"], example("jam.job")],
   [["run", "--workers", "4"], example("jam.job")],
 ];
 
@@ -63,13 +68,15 @@ test("each allocation fails in turn", { skip: missing }, () => {
   }
 });
 
-/** The module with a stack of 2**14, 2**15 .. bytes: the start of its stack pointer, its first global, is written in four bytes. */
+/** The module with a stack of 2**14, 2**15 .. bytes. Four bytes hold the start of the stack pointer, its first global. */
 function withStack(power) {
-  const bytes = moduleBytes(), wide = Buffer.from([0x7f, 0x01, 0x41, 0x80, 0x80, 0xc0, 0x00, 0x0b]), at = bytes.indexOf(wide);
-  assert.ok(at > 0 && bytes.indexOf(wide, at + 1) < 0, "the module has one stack of 1 MiB");
-  bytes.set([0x80, 0x80, 0x80 | 1 << power - 14, 0x00], at + 3);
+  const bytes = moduleBytes(), stackOf1MiB = Buffer.from([0x7f, 0x01, 0x41, 0x80, 0x80, 0xc0, 0x00, 0x0b]);
+  const place = bytes.indexOf(stackOf1MiB);
+  assert.ok(place > 0 && bytes.indexOf(stackOf1MiB, place + 1) < 0, "the module has one stack of 1 MiB");
+  bytes.set([0x80, 0x80, 0x80 | 1 << power - 14, 0x00], place + 3);
   return new WebAssembly.Module(bytes);
 }
+
 test("a stack that overflows is an error, and never a wrong output", { skip: missing }, () => {
   const ample = new WebAssembly.Module(moduleBytes()), stopped = new Set();
   for (const [words, text] of CALLS) {
@@ -88,7 +95,8 @@ test("a stack that overflows is an error, and never a wrong output", { skip: mis
         const { status, output } = ended(words, text, withStack(power), { prepare: fill });
         const isStopped = status instanceof WebAssembly.RuntimeError;
         if (isStopped) stopped.add(power);
-        assert.ok(isStopped ? right.output.startsWith(output) : status === 0 && output === right.output, `${words}, 2**${power} bytes: ${status}`);
+        const isRight = isStopped ? right.output.startsWith(output) : status === 0 && output === right.output;
+        assert.ok(isRight, `${words}, 2**${power} bytes: ${status}`);
       }
     }
   }

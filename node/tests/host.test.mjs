@@ -129,7 +129,8 @@ test("output is copied, and errors are distinguished", () => {
   bytes(TEXT, 3).fill(120);
   assert.equal(write(2, TEXT, 2n), 2n);
   bytes(TEXT, 3).fill(0);
-  assert.deepEqual(written.map(([piece, isError]) => [String.fromCharCode(...piece), isError]), [["abc", false], ["xx", true]]);
+  const texts = written.map(([piece, isError]) => [String.fromCharCode(...piece), isError]);
+  assert.deepEqual(texts, [["abc", false], ["xx", true]]);
 });
 
 test("errors of streams reach the program, and no others", () => {

@@ -15,9 +15,10 @@ const hasNpm = spawnSync("npm", ["--version"]).status === 0;
 test("npm pack", { skip: missing || !hasNpm && "npm is not installed" }, () => {
   const room = mkdtempSync(join(tmpdir(), "trlab-npm-")), before = readdirSync(FOLDER);
   const call = (cwd, command, ...words) => {
-    const ran = spawnSync(command, words, { cwd, encoding: "utf8", input: example("two_cars.job"), env: { ...process.env, npm_config_cache: room } });
-    assert.equal(ran.status, 0, ran.stderr);
-    return ran.stdout;
+    const env = { ...process.env, npm_config_cache: room };
+    const ended = spawnSync(command, words, { cwd, encoding: "utf8", input: example("two_cars.job"), env });
+    assert.equal(ended.status, 0, ended.stderr);
+    return ended.stdout;
   };
   call(FOLDER, "npm", "pack", "--offline", "--pack-destination", room);
   assert.deepEqual(readdirSync(FOLDER), before);

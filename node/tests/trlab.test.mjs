@@ -15,8 +15,10 @@ test("snapshots of a run", { skip: missing }, () => {
   const shots = run(TWO_CARS);
   assert.deepEqual(shots.map(it => it.step), [0, 1, 2, 3, 4]);
   assert.deepEqual(shots.at(-1), { step: 4, lanes: ["..4....3.."] });
-  const written = shots => shots.map(({ step, lanes }) => `step ${step}\n${lanes.map(it => `${it}\n`).join("")}`).join("");
-  for (const name of ["jam.job", "overtaking.job"]) assert.equal(written(run(text(name))), text(`${name}.out`), name);
+  const written = ({ step, lanes }) => [`step ${step}`, ...lanes, ""].join("\n");
+  for (const name of ["jam.job", "overtaking.job"]) {
+    assert.equal(run(text(name)).map(written).join(""), text(`${name}.out`), name);
+  }
   assert.deepEqual(run(TWO_CARS, { every: 2, from: 1 }).map(it => it.step), [1, 3]);
   assert.deepEqual(run(Buffer.from(TWO_CARS)), shots);
 });
@@ -56,7 +58,8 @@ test("a road without cars has no mean speed", { skip: missing }, () => {
 test("programs", { skip: missing }, () => {
   const { budget, text: canonical } = check(text("nasch.rule"));
   assert.equal(`accepted budget ${budget}\n${canonical}`, text("nasch.rule.out"));
-  assert.throws(() => check("motion\nget r0, speed\ngo r0\n"), fault => fault instanceof RejectedInputError && fault.reason > 0 && fault.pc === 1);
+  const isRejection = fault => fault instanceof RejectedInputError && fault.reason > 0 && fault.pc === 1;
+  assert.throws(() => check("motion\nget r0, speed\ngo r0\n"), isRejection);
 });
 
 test("explanations", { skip: missing }, () => {
@@ -82,7 +85,8 @@ test("a rejected input has a line, a cause and a message", { skip: missing }, ()
 
 test("invalid arguments", { skip: missing }, () => {
   for (const every of ["2", 1.5, NaN, null]) assert.throws(() => run(TWO_CARS, { every }), ParameterError);
-  assert.throws(() => run(TWO_CARS, { every: 0 }), fault => fault instanceof ProgramError && fault.status === 2 && /every/.test(fault.said));
+  const isUsageError = fault => fault instanceof ProgramError && fault.status === 2 && /every/.test(fault.said);
+  assert.throws(() => run(TWO_CARS, { every: 0 }), isUsageError);
   for (const input of [undefined, 3, ["road 1"]]) assert.throws(() => run(input), ParameterError);
   assert.throws(() => explain(TWO_CARS, { as: "series" }), ParameterError);
 });
@@ -94,7 +98,8 @@ test("the types name the exports of the module", () => {
 });
 
 test("the example prints the output on its page", { skip: missing }, () => {
-  const printed = execFileSync(process.execPath, [fileURLToPath(new URL("../example.mjs", import.meta.url))], { encoding: "utf8" });
+  const path = fileURLToPath(new URL("../example.mjs", import.meta.url));
+  const printed = execFileSync(process.execPath, [path], { encoding: "utf8" });
   const page = readFileSync(new URL("../README.md", import.meta.url), "utf8");
   assert.ok(page.includes("```text\n" + printed + "```"), printed);
 });

@@ -20,7 +20,7 @@ else:
 # again soon after a change, and draws once per frame. A page that is hidden draws nothing. If the page never stops
 # writing, the script fails after the limit for a call that hangs.
 DRAWN = """for (let k = 0; !document.hidden && (k < 2 || globalThis.lab?.isWriting); k++)
-    await new Promise(go => requestAnimationFrame(go));"""
+    await new Promise(requestAnimationFrame);"""
 
 
 def missing(browser: str) -> str:

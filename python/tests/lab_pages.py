@@ -1,7 +1,7 @@
 """Shared by the tests of the page: a server, a browser with its page, and calls that wait for a condition."""
 import threading
 import unittest
-from collections.abc import Callable, Iterable
+from collections.abc import Callable, Collection
 from typing import TYPE_CHECKING, Any, Optional, Protocol
 from unittest import mock
 
@@ -54,7 +54,7 @@ class Place(Protocol):
         """The address of the page."""
 
     @property
-    def children(self) -> Iterable[Child]:
+    def children(self) -> Collection[Child]:
         """The processes that run for the page."""
 
 
@@ -83,7 +83,7 @@ class OnPage(Base):
     def setUp(self) -> None:
         self.page.get("about:blank")
         self.page.get(self.lab.address)
-        self.hold(lambda: self.page.js(HAS_BEGUN))
+        self.wait_until(lambda: self.page.js(HAS_BEGUN))
         self.page.errors()
 
     def examples(self) -> dict[str, str]:
@@ -93,30 +93,32 @@ class OnPage(Base):
     def tearDown(self) -> None:
         self.assertEqual(self.page.errors(), [])
 
-    def hold(self, condition: Callable[[], object]) -> None:
+    def wait_until(self, condition: Callable[[], object]) -> None:
         """Wait for a condition. The page reacts to a control only when the server has written the new job file."""
         if not self.page.holds(condition):
             self.fail(self.page.js("return document.getElementById('fault')?.textContent") or "it does not become true")
 
-    def has(self, expected: object, actual: Callable[[], object]) -> None:
+    def wait_for(self, expected: object, actual: Callable[[], object]) -> None:
         """Wait until a call gives this value."""
         if not self.page.holds(lambda: actual() == expected):
             self.assertEqual(actual(), expected)
 
-    def has_job(self, expected: str) -> None:
-        self.has(expected, self.page.job)
+    def wait_for_job(self, expected: str) -> None:
+        """Wait until the page shows this job file."""
+        self.wait_for(expected, self.page.job)
 
-    def has_line(self, line: str) -> None:
+    def wait_for_line(self, line: str) -> None:
+        """Wait until the job file of the page has this line, or these characters."""
         if not self.page.holds(lambda: line in self.page.job()):
             self.assertIn(line, self.page.job())
 
-    def has_marks(self, count: int) -> None:
-        """The fundamental diagram has this number of points of one sweep; the run may have added its own."""
-        self.hold(lambda: self.page.js("return lab.marks.some(it => it.points.length === arguments[0])", count))
+    def wait_for_marks(self, count: int) -> None:
+        """Wait until the fundamental diagram has this number of points of one sweep; the run may have added its own."""
+        self.wait_until(lambda: self.page.js("return lab.marks.some(it => it.points.length === arguments[0])", count))
 
     def wait_until_written(self) -> None:
         """Wait until the page has written the job file of its controls."""
-        self.hold(lambda: not self.page.js("return window.lab.isWriting"))
+        self.wait_until(lambda: not self.page.js("return window.lab.isWriting"))
 
     def is_visible(self, name: str) -> bool:
         """Whether the page shows an element."""
@@ -141,13 +143,13 @@ class OnPage(Base):
     def follows_none(self) -> None:
         """Press Escape, after which the view follows no car."""
         self.page.keys(Keys.ESCAPE)
-        self.hold(lambda: self.page.js("return lab.player.car") is None)
+        self.wait_until(lambda: self.page.js("return lab.player.car") is None)
 
     def pause(self) -> None:
         """Pause, and wait until the page shows the step at which it has paused."""
         self.wait_until_written()
         self.turn("Pause")
-        self.hold(lambda: self.page.js(IS_PAUSED))
+        self.wait_until(lambda: self.page.js(IS_PAUSED))
 
     def run_to(self, step: int) -> None:
         """Play fast to a step at least, and pause."""
@@ -157,8 +159,8 @@ class OnPage(Base):
             rate.value = 100;
             rate.dispatchEvent(new Event('input', {bubbles: true}));
             if (!it.playing) document.getElementById('play').click();
-            await new Promise(go => {
-                const look = () => it.step >= words[0] ? go() : requestAnimationFrame(look);
+            await new Promise(resolve => {
+                const look = () => it.step >= words[0] ? resolve() : requestAnimationFrame(look);
                 look();
             });
             if (it.playing) it.setPlaying(false)""", step)
@@ -171,6 +173,16 @@ class OnPage(Base):
         for step, cells, *_ in shots:
             self.assertEqual((step, cells), (expected[step].step, "".join(expected[step].lanes)))
         return shots
+
+    def saved(self, *names: str) -> Any:
+        """The text of the file that a click on these buttons saves."""
+        self.page.js("""window.saved = null;
+            window.URL.createObjectURL = blob => { window.saved = blob; return 'data:,'; };
+            window.HTMLAnchorElement.prototype.click = function() { window.savedAs = this.download; }""")
+        for name in names:
+            self.page.click(name)
+        self.wait_until(lambda: self.page.js("return window.saved !== null"))
+        return self.page.later("return await saved.text()")
 
     def open(self, text: str, name: str = "a.job") -> None:
         """Open a file with this text, as if a user had chosen it."""

@@ -96,7 +96,8 @@ class Rejected(unittest.TestCase):
             self.assertRaisesRegex(EstimateError, message, rows.blocking)
 
     def test_the_old_function(self) -> None:
-        with self.assertRaisesRegex(RenamedError, "^trlab no longer has `blocking`: use `table.blocking.* is only a lower bound"):
+        message = "^trlab no longer has `blocking`: use `table.blocking.* is only a lower bound"
+        with self.assertRaisesRegex(RenamedError, message):
             getattr(trlab, "blocking")
 
 

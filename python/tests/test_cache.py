@@ -216,6 +216,7 @@ with warnings.catch_warnings(record=True) as caught:
 messages = [warning.message for warning in caught]
 print(tables == {name: sweep.sweep() for name, sweep in SWEEPS.items()}, *messages, sep="|")
 """
+        # Root can read and write every file, so that the script runs as the user nobody.
         as_nobody = "import os, sys; os.getuid() or os.setuid(65534); os.listdir(sys.argv[1])"
         if subprocess.run([sys.executable, "-c", as_nobody, str(PYTHON)], stderr=subprocess.DEVNULL).returncode:
             self.skipTest("the tests run as root, and other users cannot read the checkout")

@@ -306,13 +306,17 @@ class Signals(unittest.TestCase):
         self.assertEqual(self.try_one("handled", signal.SIGTERM, 1), 7)
 
     def test_afterwards_the_signals_are_as_before(self) -> None:
-        before = [signal.getsignal(number) for number in (signal.SIGTERM, signal.SIGHUP)]
+
+        def handlers() -> list[object]:
+            return [signal.getsignal(number) for number in (signal.SIGTERM, signal.SIGHUP)]
+
+        before = handlers()
         results = trlab.results([JOB, JOB])
         first = next(results)
-        self.assertNotEqual([signal.getsignal(number) for number in (signal.SIGTERM, signal.SIGHUP)], before)
+        self.assertNotEqual(handlers(), before)
         JOB.series()
         self.assertEqual(dict([first, *results]), {0: JOB.run(), 1: JOB.run()})
-        self.assertEqual([signal.getsignal(number) for number in (signal.SIGTERM, signal.SIGHUP)], before)
+        self.assertEqual(handlers(), before)
 
     def test_a_process_that_was_forked_has_none_of_it(self) -> None:
         results = cast("Generator[Any, None, None]", trlab.results([JOB, JOB]))

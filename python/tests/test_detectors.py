@@ -146,16 +146,12 @@ class Detectors(unittest.TestCase):
     def test_wrong_cells_windows_and_snapshots(self) -> None:
         snapshots = Job(limit=5, length=20, cars=5, rule=Nasch("1/4"), steps=30).run()
         for cells in [20], [-1], [], [1, 1], [1.5], ["1"]:
-            self.assertRaisesRegex(
-                ParameterError, "a cell must be|must be different cells", trlab.detectors, snapshots, cells, 10
-            )
-            self.assertRaisesRegex(
-                ParameterError, "a cell must be|must be different cells", trlab.passings, snapshots, cells
-            )
+            message = "a cell must be|must be different cells"
+            self.assertRaisesRegex(ParameterError, message, trlab.detectors, snapshots, cells, 10)
+            self.assertRaisesRegex(ParameterError, message, trlab.passings, snapshots, cells)
         for every in 0, -1, 7, 31, 1.5:
-            self.assertRaisesRegex(
-                ParameterError, "every must be|are not whole windows", trlab.detectors, snapshots, [0], every
-            )
+            message = "every must be|are not whole windows"
+            self.assertRaisesRegex(ParameterError, message, trlab.detectors, snapshots, [0], every)
         with self.assertRaisesRegex(ParameterError, "must be a list of cells, for example .0, 100., not 3"):
             trlab.detectors(snapshots, 3, 10)
         with self.assertRaisesRegex(ParameterError, "30 steps are not whole windows of 7 steps"):

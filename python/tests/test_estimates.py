@@ -196,9 +196,10 @@ class Peaks(unittest.TestCase):
         from trlab._analysis.peak import _mean_of_fits
         from trlab._analysis.peak_fits import Fit, Top
 
+        low = Top(x=0.0, x_variance=0.01, y=1.0, y_variance=0.0)
+        high = Top(x=0.1, x_variance=0.01, y=2.0, y_variance=0.0)
         # The second fit has a parameter more, and the third leaves a point out: both cost exp(-1).
-        tops = [Top(0.0, 0.01, 1.0, 0.0), Top(0.1, 0.01, 2.0, 0.0), Top(0.1, 0.01, 2.0, 0.0)]
-        fits = [Fit(2.0, 3, 8, 0, tops[0], False), Fit(2.0, 4, 8, 0, tops[1], True), Fit(2.0, 3, 7, 1, tops[2], False)]
+        fits = [Fit(2.0, 3, 8, 0, low, False), Fit(2.0, 4, 8, 0, high, True), Fit(2.0, 3, 7, 1, high, False)]
         top, best, corner = _mean_of_fits(fits)
         weight = math.exp(-1) / (1 + 2 * math.exp(-1))
         self.assertEqual(best, fits[0])
@@ -252,22 +253,24 @@ class Lifetimes(unittest.TestCase):
     def test_a_law_that_is_not_exponential(self) -> None:
         numbers = numpy.random.default_rng(1)
         exponential = numbers.exponential(100, size=(400, 30))
-        for cut in math.inf, 70:
+        for end in math.inf, 70:
             rejected = 0
             for times in exponential:
                 try:
-                    trlab.lifetime(numpy.minimum(times, cut), times <= cut)
+                    trlab.lifetime(numpy.minimum(times, end), times <= end)
                 except EstimateError:
                     rejected += 1
-            # 3 of 1000 are expected.
+            # Of the 400 samples 1.2 are expected, because 3 of 1000 are rejected by chance.
             self.assertLess(rejected, 6)
-            for message, times in ("too many are short", exponential**2), ("too few are short", 200 + exponential):
-                for lives in times[:5].reshape(5, -1):
-                    many = numpy.concatenate([lives] * 4)
-                    end = cut * (200 if message == "too many are short" else 5)
-                    self.assertRaisesRegex(
-                        EstimateError, f"not exponential.*{message}", trlab.lifetime, numpy.minimum(many, end), many <= end
-                    )
+            for message, samples, later_end in (
+                ("too many are short", exponential**2, 200 * end),
+                ("too few are short", 200 + exponential, 5 * end),
+            ):
+                for sample in samples[:5]:
+                    times = numpy.tile(sample, 4)
+                    lives = numpy.minimum(times, later_end)
+                    with self.assertRaisesRegex(EstimateError, f"not exponential.*{message}"):
+                        trlab.lifetime(lives, times <= later_end)
 
     def test_lives_of_nearly_equal_length(self) -> None:
         self.assertEqual(trlab.lifetime([100, 101, 102, 103], 4 * [True]).mean, 101.5)

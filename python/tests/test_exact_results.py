@@ -274,7 +274,7 @@ class MinimumPrinciple(unittest.TestCase):
                     self.compare(job)
 
     def compare(self, job: Job) -> None:
-        """Distances and positions with those that follow from the snapshots of the run, car by car."""
+        """Compare distances and positions with those that follow from the snapshots of the run, car by car."""
         roads = [snapshot.speeds() for snapshot in job.run()]
         length = len(roads[0][0])
         cars = [
@@ -285,8 +285,8 @@ class MinimumPrinciple(unittest.TestCase):
         ]
         distances = [0] * len(cars)
         for step, speeds in enumerate(roads):
-            if step:
-                # A car at speed v came from the cell v behind it.
+            if step > 0:
+                # A car at speed v came from the cell that is v cells behind its own.
                 speed_from = {
                     (lane, (cell - speed) % length): speed
                     for lane, cells in enumerate(speeds)

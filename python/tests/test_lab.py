@@ -16,7 +16,9 @@ import tempfile
 import threading
 import unittest
 import zlib
+from collections.abc import Mapping
 from pathlib import Path
+from typing import Any, Optional, Union
 from unittest import mock
 
 from tests.waiting import LIMIT, holds
@@ -24,6 +26,7 @@ from trlab import Job, Nasch, Snapshot, Snapshots, RejectedInputError
 from trlab.lab import Lab, page_of, server
 from trlab.lab.__main__ import fragment, main
 from trlab.lab.export import exported
+from trlab.lab.scripts import HERE
 from trlab._rules.functions import rules_in
 from trlab._runs.calls import ask
 
@@ -43,21 +46,46 @@ measure 5000
 """ + 100 * "cars 50000\n"
 
 
-def children(process):
+def children(process: int) -> list[str]:
     """The numbers of the processes that a process has started, with any of its threads."""
     threads = Path(f"/proc/{process}/task").iterdir()
     return [child for thread in threads for child in (thread / "children").read_text().split()]
 
 
-def state(process):
+def state(process: int) -> str:
     """The state of a process, for example R if it runs and S if it sleeps."""
     after_the_name = Path(f"/proc/{process}/stat").read_text().rpartition(")")[2]
     return after_the_name.split()[0]
 
 
-def sha256(text):
+def first_line(process: subprocess.Popen[str]) -> str:
+    """The first line that a process writes."""
+    assert process.stdout is not None
+    return process.stdout.readline()
+
+
+def errors_of(process: subprocess.Popen[str]) -> str:
+    """All that a process writes on standard error."""
+    assert process.stderr is not None
+    return process.stderr.read()
+
+
+def sha256(text: str) -> str:
     """The SHA-256 of a text in base 64, as a Content-Security-Policy has it."""
     return base64.b64encode(hashlib.sha256(text.encode()).digest()).decode()
+
+
+class Response:
+    """A response of the server, and its connection."""
+
+    def __init__(self, connection: http.client.HTTPConnection) -> None:
+        self.connection, self.response = connection, connection.getresponse()
+        self.status, self.headers, self.read = self.response.status, self.response.headers, self.response.read
+
+    def leave(self) -> None:
+        """Close the connection, like a user who closes the page."""
+        self.response.close()
+        self.connection.close()
 
 
 class Serving(unittest.TestCase):
@@ -69,9 +97,12 @@ class Serving(unittest.TestCase):
         self.addCleanup(self.lab.close)
         self.addCleanup(self.lab.shutdown)
 
-    def ask(self, name="", body=None, method=None, token=None, origin=True, host=None):
-        """The response to a request. A request with a body has an Origin: that of the server's page, another one, or none if
-        `origin` is None. `response.leave()` closes the connection, like a user who closes the page."""
+    def ask(
+        self, name: str = "", body: Union[str, bytes, None] = None, method: Optional[str] = None,
+        token: Optional[str] = None, origin: Union[str, bool, None] = True, host: Optional[str] = None,
+    ) -> Response:
+        """The response to a request. A request with a body has an Origin: that of the server's page, the given one, or none
+        if `origin` is None."""
         server_address = f"127.0.0.1:{self.lab.server_port}"
         connection = http.client.HTTPConnection(server_address, timeout=LIMIT)
         headers = {"Host": host or server_address}
@@ -81,12 +112,11 @@ class Serving(unittest.TestCase):
             headers["Origin"] = origin
         path = f"/{self.lab.token if token is None else token}/{name}"
         connection.request(method or ("GET" if body is None else "POST"), path, body, headers)
-        response = connection.getresponse()
-        response.leave = lambda: (response.close(), connection.close())
+        response = Response(connection)
         self.addCleanup(response.leave)
         return response
 
-    def text(self, name, body):
+    def text(self, name: str, body: Union[str, bytes]) -> str:
         """The text of the response to a request that the server accepts."""
         response = self.ask(name, body)
         self.assertEqual(response.status, 200)
@@ -100,13 +130,13 @@ class Pages(Serving):
         for name, (file, kind) in server.FILES.items():
             response = self.ask(name)
             self.assertEqual((response.status, response.headers["Content-Type"]), (200, f"{kind}; charset=utf-8"))
-            self.assertEqual(response.read(), (server.HERE / file).read_bytes())
+            self.assertEqual(response.read(), (HERE / file).read_bytes())
             policy = response.headers["Content-Security-Policy"]
             self.assertIn("default-src 'none'; script-src 'self'; style-src 'self'; connect-src 'self'", policy)
             self.assertNotIn("unsafe", policy)
 
     def test_no_file_comes_from_elsewhere(self) -> None:
-        for file in server.HERE.glob("*.*"):
+        for file in HERE.glob("*.*"):
             if file.suffix in {".html", ".css", ".js"}:
                 addresses = set(re.findall(r"https?://[\w.]+[^\s\"'`]*", file.read_text())) - {"http://www.w3.org/2000/svg"}
                 # Links to papers lead elsewhere, but only if you click them.
@@ -148,8 +178,8 @@ class Answers(Serving):
         whole = ask(["run"], text)
         for skip in 0, 1, 500, len(whole) - 1, len(whole), len(whole) + 5:
             self.assertEqual(self.text(f"run?skip={skip}", text), whole[skip:])
-        for skip in "", "-1", "1e3", "9" * 16, "1&skip=2":
-            self.assertEqual(self.text(f"run?skip={skip}", text), whole)
+        for not_a_number in "", "-1", "1e3", "9" * 16, "1&skip=2":
+            self.assertEqual(self.text(f"run?skip={not_a_number}", text), whole)
 
     def test_a_rejected_input(self) -> None:
         self.assertEqual(self.text("run", "road 2\n"), "fault line 1 cause 1\n")
@@ -160,7 +190,7 @@ class Answers(Serving):
 class Rules(Serving):
     """The rules of the Python editor."""
 
-    def rules(self, text, chosen={}, values={}):
+    def rules(self, text: str, chosen: Mapping[str, str] = {}, values: Mapping[str, object] = {}) -> Any:
         """The server's answer about a file of rules, in which the user has chosen rules and values of their parameters."""
         return json.loads(self.text("rules", json.dumps({"text": text, "chosen": chosen, "values": values})))
 
@@ -255,7 +285,7 @@ class Refusals(Serving):
 
 
 class Processes(Serving):
-    def wait_for_running(self, count, message=None):
+    def wait_for_running(self, count: int, message: str = "") -> None:
         """Wait until this number of processes runs for the server."""
         self.assertTrue(holds(lambda: len(self.lab.children) == count), message)
 
@@ -307,7 +337,7 @@ class Processes(Serving):
 
 
 class Command(unittest.TestCase):
-    def start(self, *words, folder):
+    def start(self, *words: str, folder: str) -> subprocess.Popen[str]:
         """The running command, which can leave files only in a folder."""
         folders = {"TMPDIR": folder, "HOME": folder, "PYTHONPATH": str(TOP / "python")}
         environment = {**os.environ, **folders, "PYTHONDONTWRITEBYTECODE": "1"}
@@ -325,15 +355,16 @@ class Command(unittest.TestCase):
         for ending in signal.SIGINT, signal.SIGTERM, signal.SIGHUP, signal.SIGQUIT:
             with tempfile.TemporaryDirectory() as folder, self.subTest(ending=ending.name):
                 running = self.start(folder=folder)
-                address = re.fullmatch(r"http://(127\.0\.0\.1:\d+)(/[\w-]{32}/)\n", running.stdout.readline())
-                connection = http.client.HTTPConnection(address[1], timeout=LIMIT)
-                connection.request("POST", address[2] + "run", LONG, {"Origin": f"http://{address[1]}"})
+                line = first_line(running)
+                [(address, path)] = re.findall(r"^http://(127\.0\.0\.1:\d+)(/[\w-]{32}/)\n$", line)
+                connection = http.client.HTTPConnection(address, timeout=LIMIT)
+                connection.request("POST", f"{path}run", LONG, {"Origin": f"http://{address}"})
                 self.assertEqual(connection.getresponse().status, 200)
                 self.assertTrue(holds(lambda: len(children(running.pid)) == 1))
                 [child] = children(running.pid)
                 running.send_signal(ending)
                 self.assertEqual(running.wait(LIMIT), 0)
-                self.assertEqual(running.stderr.read(), "")
+                self.assertEqual(errors_of(running), "")
                 self.assertTrue(holds(lambda: not Path(f"/proc/{child}").exists()))
                 self.assertEqual(os.listdir(folder), [])
                 connection.close()
@@ -343,7 +374,7 @@ class Command(unittest.TestCase):
             running = self.start("--port", str(lab.server_port), folder=folder)
             self.assertEqual(running.wait(LIMIT), 1)
             reason = f"cannot listen on port {lab.server_port}: Address already in use"
-            self.assertEqual(running.stderr.read(), f"trlab-lab: {reason}; choose another with --port\n")
+            self.assertEqual(errors_of(running), f"trlab-lab: {reason}; choose another with --port\n")
 
     def test_it_opens_a_job(self) -> None:
         path = EXAMPLES / "jams.job"
@@ -368,10 +399,10 @@ class Command(unittest.TestCase):
 class ExportedPage:
     """An exported page: its snapshots, its script and style, and the sums that its policy has of these."""
 
-    def __init__(self, page):
+    def __init__(self, page: str) -> None:
         _, run, self.script = re.findall(r"<script[^>]*>(.*?)</script>", page, re.S)
         self.run = gzip.decompress(base64.b64decode(run)).decode()
-        self.style = re.search("<style>(.*?)</style>", page, re.S)[1]
+        [self.style] = re.findall("<style>(.*?)</style>", page, re.S)
         self.sums = re.findall(r"'sha256-([^']+)'", page)
 
 

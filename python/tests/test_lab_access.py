@@ -5,11 +5,13 @@ import itertools
 import math
 import re
 import unittest
+from collections.abc import Sequence
 from typing import NamedTuple, Optional
 
 from tests.browsers import Keys, Window, missing
 from tests.lab_pages import OnPage
 from trlab import Job, Rickert, SlowToStart
+from trlab._inputs.rules import Rule
 from trlab._results.tables import Window as Row, Table
 from trlab._runs.calls import ask
 
@@ -109,6 +111,8 @@ return ['diagram', 'band'].map(id => {
     return [outlineStyle, drawnContrast(`#${colour.join('')}`)];
 })"""
 
+Matrix = Sequence[Sequence[float]]
+
 # How eyes without red, green or blue cones see linear red, green and blue (Machado, Oliveira and Fernandes 2009).
 SIGHTS = {
     "all colours": ((1, 0, 0), (0, 1, 0), (0, 0, 1)),
@@ -128,7 +132,7 @@ class Slider(NamedTuple):
     maximum: int
 
 
-def lightness_and_hue(colour, sight):
+def lightness_and_hue(colour: Sequence[float], sight: Matrix) -> tuple[float, float, float]:
     """A colour as such eyes see it, in CIELAB, in which distances are differences that one sees."""
     times = lambda matrix, column: [sum(a * b for a, b in zip(row, column)) for row in matrix]
     linear = [part / 255 / 12.92 if part <= 10 else ((part / 255 + 0.055) / 1.055) ** 2.4 for part in colour]
@@ -140,11 +144,11 @@ def lightness_and_hue(colour, sight):
 class ForEveryone(OnPage):
     """The tests, in one browser."""
 
-    def window(self, width=1280, height=900, **preferences):
+    def window(self, width: int = 1280, height: int = 900, **preferences: bool) -> contextlib.closing[Window]:
         """The page in a window of its own, for `with`."""
         return contextlib.closing(Window(self.browser, self.lab.address, width, height, **preferences))
 
-    def open_everything(self, page):
+    def open_everything(self, page: Window) -> None:
         """Show all that the page can show at once: a followed car, a second model, programs, and a rejected number."""
         page.holds(lambda: page.js("return window.lab !== undefined && lab.player.step >= 0"))
         if page.text("play") == "Pause":
@@ -152,9 +156,9 @@ class ForEveryone(OnPage):
         page.set("model", "rickert")
         page.set("model", "own")
         page.set("against", "rickert")
-        self.hold(lambda: page.js("return !lab.isWriting && lab.job.lanes === 2"))
+        self.wait_until(lambda: page.js("return !lab.isWriting && lab.job.lanes === 2"))
         verdicts = "motionverdict", "changeverdict", "textverdict"
-        self.hold(lambda: all("Accepted" in page.text(verdict) for verdict in verdicts))
+        self.wait_until(lambda: all("Accepted" in page.text(verdict) for verdict in verdicts))
         page.set("against", "vdr")
         page.set("againstp", "2")
         page.js("document.getElementById('numbers').open = true")
@@ -162,7 +166,7 @@ class ForEveryone(OnPage):
         follows = """const {car, scene} = lab.player;
             if (!car && scene) document.getElementById('follow').click();
             return lab.player.car !== null"""
-        self.hold(lambda: page.js(follows) and "Its gap is" in page.text("car") and page.text("againstpwrong") != "")
+        self.wait_until(lambda: page.js(follows) and "Its gap is" in page.text("car") and page.text("againstpwrong") != "")
 
     def test_roles_and_names(self) -> None:
         self.open_everything(self.page)
@@ -211,11 +215,11 @@ class ForEveryone(OnPage):
             with self.subTest(dark=dark), self.window(dark=dark) as page:
                 self.open_everything(page)
                 page.set("length", "5000")  # so that a part of the road is enlarged
-                self.hold(lambda: page.js("return !lab.isWriting && lab.player.film.length === 5000"))
-                self.hold(lambda: page.step() >= 0)
+                self.wait_until(lambda: page.js("return !lab.isWriting && lab.player.film.length === 5000"))
+                self.wait_until(lambda: page.step() >= 0)
                 page.js(MARKS)
                 page.js(RECORD)
-                self.hold(lambda: page.js("return window.drawnColours.size > 4 && !lab.player.stale"))
+                self.wait_until(lambda: page.js("return window.drawnColours.size > 4 && !lab.player.stale"))
                 on_canvases, in_diagram = page.js("return [...window.drawnColours]"), page.js(DIAGRAM_COLOURS)
                 self.assertTrue({"text", "path", "polyline", "circle"} <= {name for name, _ in in_diagram})
                 needed = [[colour, 3] for colour in on_canvases]
@@ -229,7 +233,7 @@ class ForEveryone(OnPage):
 
     # Drawings by keyboard
 
-    def slider(self, name):
+    def slider(self, name: str) -> Slider:
         """The description of a drawing for a screen reader: of `diagram`, or of `band`, the road."""
         return Slider(*self.page.js("""const it = document.getElementById(arguments[0]);
             const attribute = name => it.getAttribute(name);
@@ -239,13 +243,13 @@ class ForEveryone(OnPage):
     def test_points_of_the_diagram_by_keyboard(self) -> None:
         self.pause()
         self.page.click("clear")
-        self.has(Slider("slider", 0, 0, "no points yet", 0), lambda: self.slider("diagram"))
+        self.wait_for(Slider("slider", 0, 0, "no points yet", 0), lambda: self.slider("diagram"))
         self.page.js("""lab.marks.push(
                 {limit: 5, length: 1000, lanes: 1, points: [{density: 0.3, flow: 0.4}]},
                 {limit: 3, length: 500, lanes: 2, points: [{density: 0.1, flow: 0.45}]});
             lab.fundamental.draw();
             document.getElementById('diagram').focus();""")
-        self.has(Slider("slider", 0, 0, "2 points, none selected", 2), lambda: self.slider("diagram"))
+        self.wait_for(Slider("slider", 0, 0, "2 points, none selected", 2), lambda: self.slider("diagram"))
         role, name = self.page.spoken(self.page.js("return document.getElementById('diagram')"))
         self.assertEqual(role, "slider")
         self.assertIn("Arrow keys read the points", name)
@@ -286,8 +290,8 @@ class ForEveryone(OnPage):
             self.assertAlmostEqual(lens(), expected % 1000, delta=0.6)
             band = self.slider("band")
             self.assertEqual((band.value, band.maximum), (int(lens()) % 1000, 999))
-            self.assertRegex(band.words, r"^cells \d+ to \d+ of 1000: \d+ cars?, \d+ stopped$")
-            first, last, _, cars, stopped = map(int, re.findall(r"\d+", band.words))
+            self.assertRegex(band.words or "", r"^cells \d+ to \d+ of 1000: \d+ cars?, \d+ stopped$")
+            first, last, _, cars, stopped = map(int, re.findall(r"\d+", band.words or ""))
             self.assertEqual((last - first) % 1000, part - 1)
             self.assertLessEqual(abs(first - (lens() - part / 2) % 1000), 1)
             enlarged = (2 * cells())[first : first + part]
@@ -301,8 +305,8 @@ class ForEveryone(OnPage):
     def test_a_short_road_is_an_image(self) -> None:
         self.page.set("length", "100")
         is_drawn = "const {film, step, stale} = lab.player; return film.length === 100 && step >= 0 && !stale"
-        self.hold(lambda: self.page.js(is_drawn))
-        self.has(Slider("img", -1, 0, None, 0), lambda: self.slider("band"))
+        self.wait_until(lambda: self.page.js(is_drawn))
+        self.wait_for(Slider("img", -1, 0, None, 0), lambda: self.slider("band"))
 
     def test_a_phone(self) -> None:
         with self.window(400, 800, calm=True) as page:
@@ -365,11 +369,11 @@ class ForEveryone(OnPage):
     def test_numbers_as_a_table(self) -> None:
         self.run_to(30)
         self.page.js("document.getElementById('numbers').open = true")
-        self.hold(lambda: self.page.js("return document.querySelectorAll('#rows tr').length") == 10)
+        self.wait_until(lambda: self.page.js("return document.querySelectorAll('#rows tr').length") == 10)
         row = Table.read(Row, ask(["series"], self.page.job()))[self.page.step() - 1]
         expected = f"{row.step}{row.flow:.4f}{row.speed:.3f}{row.stopped_share:.3f}"
-        self.has(expected, lambda: self.page.js("return document.querySelector('#rows tr').textContent"))
-        self.hold(lambda: f"Step {row.step}: flow" in self.page.text("silent"))
+        self.wait_for(expected, lambda: self.page.js("return document.querySelector('#rows tr').textContent"))
+        self.wait_until(lambda: f"Step {row.step}: flow" in self.page.text("silent"))
 
     def test_numbers_are_not_cut(self) -> None:
         cut_numbers = """return [...document.querySelectorAll('.field input.number')]
@@ -383,7 +387,8 @@ class ForEveryone(OnPage):
             })"""
         with self.window(400, 800) as page:
             page.wait_until(lambda: page.js("return window.lab?.player.step >= 0"))
-            for rule in SlowToStart("1/64", "1/3"), Rickert("2/3", "1/7"):
+            rules: tuple[Rule, ...] = SlowToStart("1/64", "1/3"), Rickert("2/3", "1/7")
+            for rule in rules:
                 text = Job(limit=5, lanes=2, length=30, cars=17, rule=rule, steps=400).text()
                 page.js("lab.open('a.job', arguments[0])", text)
                 page.wait_until(lambda: page.job() == text and not page.js("return lab.isWriting"))
@@ -396,12 +401,12 @@ class ForEveryone(OnPage):
             page.wait_until(lambda: page.js("return window.lab?.player.step >= 0"))
             # A run that begins and does not rest, so that the next snapshots are there.
             page.js("const {player} = lab; if (!player.run) player.startRun(player.request); player.pausedAt = Infinity")
-            self.hold(lambda: page.js("return lab.player.run.waiting.length > 9"))
+            self.wait_until(lambda: page.js("return lab.player.run.waiting.length > 9"))
             # The clock of the page goes on by a second: with motion the page would show the next snapshots.
             page.js("const {player} = lab; for (let k = 1; k <= 10; k++) player.onFrame(player.lastFrame + 100)")
             self.assertEqual((page.step(), page.text("play")), (0, "Play"))
             page.click("play")
-            self.hold(lambda: page.step() > 3)
+            self.wait_until(lambda: page.step() > 3)
             self.assertLessEqual(*page.js("return [document.documentElement.scrollWidth, innerWidth]"))
             self.assertEqual(page.errors(), [])
 

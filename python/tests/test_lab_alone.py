@@ -5,7 +5,9 @@ import os
 import signal
 import tempfile
 import unittest
+import webbrowser
 from pathlib import Path
+from typing import Union
 from unittest import mock
 
 from trlab import ProgramNotFoundError
@@ -21,22 +23,28 @@ class Opening(unittest.TestCase):
         self.addCleanup(folder.cleanup)
         self.page = Path(folder.name) / "trlab-lab.html"
         self.page.write_text("")
-        self.opened, self.is_open = [], True
+        self.opened: list[str] = []
+        self.can_open = True
         self.patch(alone, "PAGE_PATHS", (Path(folder.name) / "other.html", self.page))
-        self.patch(alone.webbrowser, "open", lambda address: self.opened.append(address) or self.is_open)
+        self.patch(webbrowser, "open", self.open)
         self.patch(os, "environ", {name: value for name, value in os.environ.items() if name != "TRLAB"})
 
-    def patch(self, place, name, value):
+    def open(self, address: str) -> bool:
+        """Open an address instead of a browser, or fail."""
+        self.opened.append(address)
+        return self.can_open
+
+    def patch(self, place: object, name: str, value: object) -> None:
         """Replace a value until the test ends."""
         patch = mock.patch.object(place, name, value)
         patch.start()
         self.addCleanup(patch.stop)
 
-    def find(self, path):
+    def find(self, path: Union[str, Exception]) -> None:
         """Let the command find the program at a path, or let its search end with an error."""
         self.patch(alone, "find_program", mock.Mock(side_effect=[path, path]))
 
-    def run_main(self, *words):
+    def run_main(self, *words: str) -> tuple[str, str]:
         """The output of the command on standard output and standard error."""
         output, errors = io.StringIO(), io.StringIO()
         with contextlib.redirect_stdout(output), contextlib.redirect_stderr(errors), mock.patch("signal.signal"):
@@ -58,7 +66,7 @@ class Opening(unittest.TestCase):
 
     def test_no_browser_can_be_opened(self) -> None:
         self.find(ProgramNotFoundError("trlab is not found"))
-        self.is_open = False
+        self.can_open = False
         self.assertIn("no browser could be opened. Open this address in one.\n", self.run_main()[1])
 
     def test_a_native_program(self) -> None:
@@ -70,13 +78,14 @@ class Opening(unittest.TestCase):
         self.page.unlink()
         with self.assertRaises(SystemExit) as raised:
             self.run_main()
-        self.assertIn("trlab is not found; and there is no page that contains the program, ", raised.exception.code)
+        message = str(raised.exception.code)
+        self.assertIn("trlab is not found; and there is no page that contains the program, ", message)
         self.assertEqual(self.opened, [])
 
     def test_a_wrong_name_in_the_environment(self) -> None:
         with mock.patch.dict(os.environ, {"TRLAB": "/nothing"}), self.assertRaises(SystemExit) as raised:
             self.run_main()
-        self.assertIn("TRLAB is '/nothing'", raised.exception.code)
+        self.assertIn("TRLAB is '/nothing'", str(raised.exception.code))
         self.assertEqual(self.opened, [])
 
     def test_a_system_without_the_signal(self) -> None:

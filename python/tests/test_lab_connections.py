@@ -16,7 +16,7 @@ import unittest
 from pathlib import Path
 from unittest import mock
 
-from tests.test_lab import EXAMPLES, TOP, Serving
+from tests.test_lab import EXAMPLES, TOP, Serving, first_line
 from tests.waiting import LIMIT, first_of, holds
 from trlab import Job, Nasch
 from trlab.lab import Lab, page_of, server
@@ -28,7 +28,7 @@ POST = "POST /{token}/%s HTTP/1.1\nHost: {address}\nOrigin: http://{address}\n"
 NO_RULES = b'{"text": "", "chosen": {}, "values": {}}'
 
 
-def is_closed(connection):
+def is_closed(connection: socket.socket) -> bool:
     """Whether the server has closed a connection on which nothing has come."""
     connection.setblocking(False)
     try:
@@ -40,7 +40,7 @@ def is_closed(connection):
 
 
 class Unauthenticated(Serving):
-    def silent(self, count):
+    def silent(self, count: int) -> list[socket.socket]:
         """Connections that send nothing."""
         connections = []
         for _ in range(count):
@@ -63,7 +63,7 @@ class Unauthenticated(Serving):
         connection = http.client.HTTPConnection("127.0.0.1", port, timeout=LIMIT)
         self.addCleanup(connection.close)
 
-        def style_sheet():
+        def style_sheet() -> bytes:
             connection.request("GET", f"/{self.lab.token}/page.css")
             return connection.getresponse().read()
 
@@ -82,10 +82,10 @@ class Unauthenticated(Serving):
     def test_without_descriptors_a_stranger_goes_and_the_server_rests(self) -> None:
         silent = self.silent(3)
         self.assertTrue(holds(lambda: len(self.lab.unauthenticated.waiting) == 3))
-        pauses = []
+        pauses: list[float] = []
         no_descriptors = OSError(errno.EMFILE, "Too many open files")
         with mock.patch.object(socketserver.TCPServer, "get_request", side_effect=no_descriptors):
-            with mock.patch.object(server.time, "sleep", pauses.append):
+            with mock.patch("time.sleep", pauses.append):
                 self.assertRaises(OSError, self.lab.get_request)
         self.assertEqual(pauses, [server.RETRY_PAUSE])
         self.assertTrue(holds(lambda: is_closed(silent[0])))
@@ -96,7 +96,7 @@ class Unauthenticated(Serving):
 
 
 class Requests(Serving):
-    def send(self, head, body=b"", cut=False):
+    def send(self, head: str, body: bytes = b"", cut: bool = False) -> str:
         """The whole response to a request. {address} and {token} in `head`, its first lines, are those of the server. `cut`
         ends the sending side after the body."""
         head = head.format(address=f"127.0.0.1:{self.lab.server_port}", token=self.lab.token)
@@ -155,7 +155,7 @@ class Requests(Serving):
 class Opening(unittest.TestCase):
     """The command, with a browser that is a script."""
 
-    def start(self, folder, browser, *words):
+    def start(self, folder: str, browser: str, *words: str) -> subprocess.Popen[str]:
         """The running command. Its standard error is in the file `errors` of the folder."""
         folders = {"TMPDIR": folder, "HOME": folder, "PYTHONPATH": str(TOP / "python")}
         environment = {**os.environ, **folders, "PYTHONDONTWRITEBYTECODE": "1", "BROWSER": browser}
@@ -168,12 +168,12 @@ class Opening(unittest.TestCase):
         self.addCleanup(self.kill, running.pid)
         return running
 
-    def kill(self, group):
+    def kill(self, group: int) -> None:
         """End the command and its browser."""
         with contextlib.suppress(ProcessLookupError):
             os.killpg(group, signal.SIGKILL)
 
-    def browser(self, folder):
+    def browser(self, folder: str) -> str:
         """A browser that records the words of its command line in the file `opened` of the folder, and stays open."""
         script = Path(folder) / "browser"
         # The file is moved, so that it has its whole text as soon as it exists.
@@ -185,22 +185,22 @@ exec sleep 1000 > /dev/null
         script.chmod(0o700)
         return str(script)
 
-    def opened(self, folder):
+    def opened(self, folder: str) -> list[str]:
         """The words of the browser's command line, once it has started."""
         path = Path(folder) / "opened"
         self.assertTrue(holds(path.exists))
         return path.read_text().splitlines()
 
-    def end(self, running):
+    def end(self, running: subprocess.Popen[str]) -> None:
         """End the command by a signal. It must end without an error."""
         running.send_signal(signal.SIGTERM)
         self.assertEqual(running.wait(LIMIT), 0)
 
     def test_the_token_is_no_argument(self) -> None:
-        for words in [], [str(EXAMPLES / "jams.job")]:
+        for words in (), (str(EXAMPLES / "jams.job"),):
             with tempfile.TemporaryDirectory() as folder:
                 running = self.start(folder, self.browser(folder), *words)
-                address = running.stdout.readline().strip()
+                address = first_line(running).strip()
                 [link] = self.opened(folder)
                 token = address.split("/")[3]
                 self.assertNotIn(token, link)
@@ -226,7 +226,7 @@ exec sleep 1000 > /dev/null
         with tempfile.TemporaryDirectory() as folder:
             (Path(folder) / "large.job").write_text(job)
             running = self.start(folder, self.browser(folder), "large.job")
-            address = running.stdout.readline().strip()
+            address = first_line(running).strip()
             self.assertGreater(len(address), 2**17)  # no argument of a process is longer
             [link] = self.opened(folder)
             self.assertIn(address, Path(link.replace("file://", "", 1)).read_text())
@@ -235,7 +235,7 @@ exec sleep 1000 > /dev/null
     def test_without_a_browser_there_is_a_message(self) -> None:
         with tempfile.TemporaryDirectory() as folder:
             running = self.start(folder, f"{folder}/missing")
-            address = running.stdout.readline().strip()
+            address = first_line(running).strip()
             message = first_of(lambda: (Path(folder) / "errors").read_text() or None)
             self.assertEqual(message, f"trlab-lab: no browser could be opened. Open this address in one: {address}\n")
             self.end(running)
@@ -247,8 +247,9 @@ exec sleep 1000 > /dev/null
         for link in "x#job=\x1b[31m", "#job=", "#job=abc#job=abc", "#job=a b", "#job=%%%":
             with contextlib.redirect_stdout(io.StringIO()) as output, self.assertRaises(SystemExit) as raised:
                 main([link])
-            self.assertIn("the link is damaged", raised.exception.code)
-            self.assertNotIn("\x1b", raised.exception.code + output.getvalue())
+            message = str(raised.exception.code)
+            self.assertIn("the link is damaged", message)
+            self.assertNotIn("\x1b", message + output.getvalue())
 
     def test_a_job_that_no_address_can_hold(self) -> None:
         with tempfile.TemporaryDirectory() as folder:

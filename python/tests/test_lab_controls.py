@@ -1,5 +1,6 @@
 """The controls of the page: each changes the job, and the job file says the same."""
 import unittest
+from typing import Any
 
 import trlab
 from tests.browsers import Keys, missing
@@ -16,7 +17,7 @@ class Controls(OnPage):
         self.pause()
         page.click("again")
         # A control, its new value, and the parameters of the job that are then not those of the first job.
-        changes = [
+        changes: list[tuple[str, str, dict[str, Any]]] = [
             ("density", "0.3", {"cars": 300}),
             ("cars", "151", {"cars": 151}),
             ("limit", "7", {"cars": 151, "limit": 7}),
@@ -42,19 +43,19 @@ class Controls(OnPage):
         for name, value, parameters in changes:
             with self.subTest(name=name, value=value):
                 page.set(name, value)
-                self.has_job(job_of(**parameters))
+                self.wait_for_job(job_of(**parameters))
                 self.agree()
         page.set("model", "own")
-        self.has_line("rule own\nmotion\n")
-        self.has_line("\nchange\n")
-        self.hold(lambda: "Accepted" in page.text("motionverdict") and "Accepted" in page.text("changeverdict"))
+        self.wait_for_line("rule own\nmotion\n")
+        self.wait_for_line("\nchange\n")
+        self.wait_until(lambda: "Accepted" in page.text("motionverdict") and "Accepted" in page.text("changeverdict"))
         page.set("lanes", "1")
-        self.hold(lambda: "\nchange\n" not in page.job())
+        self.wait_until(lambda: "\nchange\n" not in page.job())
         page.click("newkey")
-        self.hold(lambda: page.value("key") != "1")
-        self.has_line(f"key {int(page.value('key')):064x}\n")
+        self.wait_until(lambda: page.value("key") != "1")
+        self.wait_for_line(f"key {int(page.value('key')):064x}\n")
 
-    def agree(self):
+    def agree(self) -> None:
         """The controls, the sentence and the file say the same, and trlab accepts it."""
         text = self.page.job()
         ask(["explain", "run"], text)
@@ -63,32 +64,32 @@ class Controls(OnPage):
         shown = lambda: self.page.js("""return Object.fromEntries(['cars', 'length', 'limit', 'lanes'].map(name =>
             [name, [...new Set([...document.querySelectorAll(`[data-set=${name}]`)].map(it => +it.value))]]))""")
         limit = int(text.split("\nlimit ")[1].split("\n")[0])
-        self.has({"cars": [cars], "length": [len(lanes[0])], "limit": [limit], "lanes": [len(lanes)]}, shown)
+        self.wait_for({"cars": [cars], "length": [len(lanes[0])], "limit": [limit], "lanes": [len(lanes)]}, shown)
 
     def test_the_sentence(self) -> None:
         self.page.select(".lead [data-set=cars]")
         self.page.press(*"200", Keys.ENTER)
-        self.has_job(job_of(cars=200))
+        self.wait_for_job(job_of(cars=200))
         self.page.select(".lead [data-set=p]")
         self.page.press("0", Keys.ENTER)
-        self.has_line("rule nasch 0\n")
+        self.wait_for_line("rule nasch 0\n")
 
     def test_sliders(self) -> None:
         for _ in range(30):
             self.page.type("#density ~ [type=range]", Keys.RIGHT)
-        self.has("0.3", lambda: self.page.value("density"))
-        self.has_job(job_of(cars=300))
-        self.hold(lambda: len(self.lab.children) <= 1 and not self.page.text("fault"))
+        self.wait_for("0.3", lambda: self.page.value("density"))
+        self.wait_for_job(job_of(cars=300))
+        self.wait_until(lambda: len(self.lab.children) <= 1 and not self.page.text("fault"))
 
     def test_every_slider(self) -> None:
         self.page.set("model", "vdr")
-        self.has_line("rule vdr ")
+        self.wait_for_line("rule vdr ")
         for name in "p", "q", "density", "limit", "length", "cars":
             value = self.page.js("""const slider = document.querySelector(`#${arguments[0]} ~ [type=range]`);
                 slider.value = +slider.min + 0.4 * (slider.max - slider.min);
                 slider.dispatchEvent(new Event('input', {bubbles: true}));
                 return slider.value""", name)
-            self.has(float(value), lambda: float(self.page.value(name)))
+            self.wait_for(float(value), lambda: float(self.page.value(name)))
             self.wait_until_written()
             self.agree()
 
@@ -98,28 +99,28 @@ class Controls(OnPage):
         width = self.page.js("return document.getElementById('band').clientWidth")
         empty = snapshots(self.page.job())[self.page.step()].lanes[0].index("." * 60) + 30
         self.page.drag("band", empty / 1000 * width, 0.8 * width, 8)
-        self.hold(lambda: abs(self.page.js("return lab.player.lens") - 800) < 5)
+        self.wait_until(lambda: abs(self.page.js("return lab.player.lens") - 800) < 5)
 
     def test_a_change_on_the_way_is_an_at_line(self) -> None:
         self.run_to(100)
         step = self.page.step()
         self.page.set("p", "0.5")
-        self.has_line(f"steps 5000\nat {step} rule nasch 1073741824\n")
+        self.wait_for_line(f"steps 5000\nat {step} rule nasch 1073741824\n")
         self.assertEqual(self.page.step(), step)
         self.run_to(step + 100)
         later = self.page.step()
         self.page.set("model", "vdr")
-        self.has_line(f"at {later} rule vdr 1073741824 1073741824\n")
+        self.wait_for_line(f"at {later} rule vdr 1073741824 1073741824\n")
         self.run_to(later + 100)
         self.are_those_of_the_run()
         self.page.click("again")
-        self.hold(lambda: self.page.value("p") == "0.25" and self.page.value("model") == "nasch")
+        self.wait_until(lambda: self.page.value("p") == "0.25" and self.page.value("model") == "nasch")
         self.page.set("density", "0.2")
-        self.has_job(job_of(cars=200))
+        self.wait_for_job(job_of(cars=200))
 
     def test_many_changes_on_the_way(self) -> None:
         self.page.set("rate", 80, "input")
-        self.hold(lambda: self.page.step() > 50)
+        self.wait_until(lambda: self.page.step() > 50)
         self.page.later("""const slider = document.querySelector('#p ~ [type=range]');
             for (let k = 1; k <= 40; k++) {
                 slider.value = k / 40;
@@ -127,7 +128,7 @@ class Controls(OnPage):
                 const step = lab.player.step;
                 if (k % 10 === 0) while (lab.isWriting || lab.player.step === step) await new Promise(requestAnimationFrame);
             }""")
-        self.has_line(" rule nasch 2147483648\n")
+        self.wait_for_line(" rule nasch 2147483648\n")
         self.run_to(self.page.step() + 50)
         self.assertGreater(self.page.job().count("\nat "), 1)
         self.are_those_of_the_run()

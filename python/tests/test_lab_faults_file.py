@@ -5,11 +5,16 @@ from tests.lab_files import InFile, lacking
 from tests.test_lab_faults import Faults
 
 
+# Only the server translates rules in Python, and one test holds back a response of the server.
+OF_THE_SERVER = "test_parameters_of_rules_in_python", "test_a_late_explanation_is_not_shown"
+
+
 class FaultsFile(InFile, Faults):
     """The tests, in one browser."""
 
-    test_parameters_of_rules_in_python = None  # Only the server translates them.
-    test_a_late_explanation_is_not_shown = None  # It holds back a response of the server.
+
+for name in OF_THE_SERVER:
+    setattr(FaultsFile, name, None)
 
 
 @unittest.skipIf(lacking("chromium"), lacking("chromium"))

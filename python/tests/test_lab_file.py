@@ -10,7 +10,7 @@ from unittest import mock
 from tests import stub_modules
 from tests.browsers import Window, missing
 from tests.lab_files import PROGRAM, File, InFile, lacking
-from tests.lab_pages import SHOTS, snapshots
+from tests.lab_pages import SHOTS, Base, snapshots
 from tests.test_lab import sha256
 from tests.test_lab_access import ForEveryone
 from tests.test_lab_controls import Controls
@@ -64,7 +64,7 @@ class FilePages(InFile, Playing, Controls, Inputs, Diagram, ForEveryone):
         self.page.js(WATCH)
         self.page.click("again")
         self.run_to(20)
-        self.hold(lambda: self.page.js("return window.running.size") == 0)
+        self.wait_until(lambda: self.page.js("return window.running.size") == 0)
         self.run_to(1000)
         expected = snapshots(self.page.job())
         for step, cells, *_ in self.page.js(SHOTS):
@@ -74,14 +74,14 @@ class FilePages(InFile, Playing, Controls, Inputs, Diagram, ForEveryone):
         self.page.js(WATCH)
         for cars in range(100, 140):
             self.page.set("cars", cars)
-        self.has_line("lane ")
-        self.has("139", lambda: self.page.value("cars"))
-        self.hold(lambda: self.page.step() > 2 and self.page.js("return window.running.size") <= 1)
+        self.wait_for_line("lane ")
+        self.wait_for("139", lambda: self.page.value("cars"))
+        self.wait_until(lambda: self.page.step() > 2 and self.page.js("return window.running.size") <= 1)
 
     def test_unread_output_is_bounded(self) -> None:
         self.page.set("stepcount", 500000)
         self.page.set("length", 100000)
-        self.hold(lambda: self.page.js("return lab.player.film.length") == 100000)
+        self.wait_until(lambda: self.page.js("return lab.player.film.length") == 100000)
         self.page.js(WATCH)
         self.page.click("again")
         self.run_to(60)
@@ -91,12 +91,12 @@ class FilePages(InFile, Playing, Controls, Inputs, Diagram, ForEveryone):
 
     def test_rules_in_python_need_the_server(self) -> None:
         self.page.set("model", "own")
-        self.hold(lambda: "Rules in Python need the command trlab-lab" in self.page.text("pythonverdict"))
+        self.wait_until(lambda: "Rules in Python need the command trlab-lab" in self.page.text("pythonverdict"))
         self.assertTrue(self.page.js("return document.getElementById('python').hidden"))
         # A run that begins takes a message away.
         self.wait_until_written()
         self.open(server.examples()["overtake.py"], "overtake.py")
-        self.hold(lambda: "Rules in Python need the command trlab-lab" in self.page.text("fault"))
+        self.wait_until(lambda: "Rules in Python need the command trlab-lab" in self.page.text("fault"))
 
 
 for name in OF_THE_SERVER:
@@ -107,7 +107,7 @@ class WithoutWaiting(InFile):
     """A browser that cannot suspend the program: a run with much unread output ends, and is run again."""
 
     @classmethod
-    def text(cls):
+    def text(cls) -> str:
         text = super().text()
         for old, new in (
             ("const canSuspend = ", "const canSuspend = false && "),
@@ -127,13 +127,15 @@ class WithoutWaiting(InFile):
 
     def test_a_table(self) -> None:
         self.page.set("stepcount", 12000)
-        self.has_line("steps 12000\n")
+        self.wait_for_line("steps 12000\n")
         self.wait_until_written()
-        self.assertEqual(Diagram.saved(self, "savetable"), ask(["series"], self.page.job()))
+        self.assertEqual(self.saved("savetable"), ask(["series"], self.page.job()))
 
 
-class Ends:
+class Ends(Base):
     """Runs without a result: a message says why, and the console has no error."""
+
+    browser = ""
 
     def test_messages(self) -> None:
         page = Window(self.browser, "about:blank")
@@ -148,7 +150,7 @@ class Ends:
             (b"\0asm\1\0\0\0\x7f", "This browser cannot run the program."),  # not a module of WebAssembly
         ):
             with self.subTest(message=message):
-                page.get(File(self, whole_page(program, {})).address)
+                page.get(File(type(self), whole_page(program, {})).address)
                 page.wait_until(lambda: page.text("fault"))
                 self.assertEqual(page.text("fault")[: len(message)], message)
                 self.assertEqual(page.errors(), [])
@@ -196,9 +198,9 @@ class Whole(unittest.TestCase):
         self.text = whole_page(stub_modules.TRAP, {"a.job": "</script><!-- \u00e9", "b.py": "no"})
 
     def test_it_loads_nothing(self) -> None:
-        policy = re.search('http-equiv="Content-Security-Policy" content="([^"]*)"', self.text)[1]
-        style = re.search("<style>(.*?)</style>", self.text, re.S)[1]
-        script = re.search('<script type="module">(.*?)</script>', self.text, re.S)[1]
+        [policy] = re.findall('http-equiv="Content-Security-Policy" content="([^"]*)"', self.text)
+        [style] = re.findall("<style>(.*?)</style>", self.text, re.S)
+        [script] = re.findall('<script type="module">(.*?)</script>', self.text, re.S)
         expected = {
             "default-src": "'none'",
             "script-src": f"'sha256-{sha256(script)}' 'wasm-unsafe-eval'",
@@ -218,7 +220,8 @@ class Whole(unittest.TestCase):
 
     def test_the_examples_and_the_program(self) -> None:
         self.assertIn('id="examples">{"a.job": "\\u003c/script>\\u003c!-- \\u00e9"}</script>', self.text)
-        self.assertEqual(gzip.decompress(base64.b64decode(PROGRAM.search(self.text)[1])), stub_modules.TRAP)
+        [program] = PROGRAM.findall(self.text)
+        self.assertEqual(gzip.decompress(base64.b64decode(program)), stub_modules.TRAP)
         self.assertEqual(self.text, whole_page(stub_modules.TRAP, {"a.job": "</script><!-- \u00e9"}))
 
     def test_a_page_of_another_form(self) -> None:

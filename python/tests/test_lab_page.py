@@ -6,6 +6,7 @@ import trlab
 from tests.browsers import Keys, missing
 from tests.lab_pages import SHOTS, OnPage, snapshots
 from trlab import Job, Nasch, Rickert
+from trlab._inputs.rules import Rule
 from trlab._results.tables import Window as Row, Table
 from trlab._runs.calls import ask
 
@@ -53,10 +54,11 @@ class Playing(OnPage):
 
     def test_every_dot_is_that_of_the_run(self) -> None:
         for lanes, length in (1, 100), (2, 80):
-            rule = Rickert(0.25, 0.5) if lanes == 2 else Nasch(0.25)
-            road = {"limit": 5, "length": length, "lanes": lanes, "density": 0.3, "start": trlab.random_cells(3)}
-            self.open(Job(**road, rule=rule, steps=400, key=5).text())
-            self.hold(lambda: self.page.js("return lab.job.length") == length)
+            rule: Rule = Rickert(0.25, 0.5) if lanes == 2 else Nasch(0.25)
+            start = trlab.random_cells(3)
+            job = Job(limit=5, length=length, lanes=lanes, density=0.3, start=start, rule=rule, steps=400, key=5)
+            self.open(job.text())
+            self.wait_until(lambda: self.page.js("return lab.job.length") == length)
             self.run_to(60)
             step, run = self.page.step(), snapshots(self.page.job())
             characters, top = self.page.js(CHARACTERS), self.page.js("return lab.player.rows.top")
@@ -75,7 +77,7 @@ class Playing(OnPage):
         for length, steps, reached, distance in (10, 4, 4, 1), (100, 400, 60, 10), (1000, 5000, 700, 50):
             with self.subTest(length=length, steps=steps):
                 self.open(Job(limit=5, length=length, cars=2, rule=Nasch(0.25), steps=steps).text())
-                self.hold(lambda: self.page.js("return lab.job.length") == length)
+                self.wait_until(lambda: self.page.js("return lab.job.length") == length)
                 self.run_to(reached)
                 top, marks = self.page.js("return lab.player.rows.top"), self.page.js(marks_of_steps)
                 expected = [step for step in range(0, self.page.step() + 1, distance) if step >= top]
@@ -88,7 +90,7 @@ class Playing(OnPage):
             with self.subTest(length=length, steps=steps):
                 self.open(Job(limit=5, length=length, cars=5, rule=Nasch(0.25), steps=steps).text())
                 size = lambda: self.page.js("const {film} = lab.player; return [film.length, film.steps]")
-                self.has([length, steps], size)
+                self.wait_for([length, steps], size)
                 self.run_to(steps)
                 height, top = self.page.js("const {top, rowHeight} = lab.player.rows; return [rowHeight, top]")
                 self.assertEqual((height, top), (row_height, max(0, steps + 1 - 300 // row_height)))
@@ -96,15 +98,15 @@ class Playing(OnPage):
 
     def test_the_flow_is_an_average_over_steps(self) -> None:
         self.open(Job(limit=5, length=60, cars=6, start=trlab.moving, rule=Nasch(0), steps=12).text())
-        self.hold(lambda: self.page.js("return lab.player.film.length") == 60)
+        self.wait_until(lambda: self.page.js("return lab.player.film.length") == 60)
         for step in 1, 12:
             self.run_to(step)
             self.page.js("lab.player.showStep(arguments[0])", step)
-            self.has(["0.500", "5.00"], lambda: [self.page.text("flow"), self.page.text("speed")])
+            self.wait_for(["0.500", "5.00"], lambda: [self.page.text("flow"), self.page.text("speed")])
 
     def test_cars_move_between_steps(self) -> None:
         self.open(Job(limit=5, length=100, cars=1, rule=Nasch(0), steps=400).text())
-        self.hold(lambda: self.page.js("return lab.job.length") == 100)
+        self.wait_until(lambda: self.page.js("return lab.job.length") == 100)
         self.run_to(50)
         # The car drives 5 cells per step. It is drawn at four times of a step, and looked for at its four places.
         drawn = self.page.js("""const {player} = lab, {scene: {cell: [end]}} = player, shares = [0, 0.4, 0.6, 1];
@@ -125,12 +127,13 @@ class Playing(OnPage):
         seen = self.page.js("""const {film, step, car} = lab.player, cars = [];
             for (let now = film.first; now <= step; now++) cars.push(film.follow(car, now));
             return cars.map(it => [it.step, it.lane, it.cell])""")
-        car = list(zip(trips.lane[0], trips.cell[0])).index(tuple(seen[0][1:]))
+        _, lane, cell = seen[0]
+        car = list(zip(trips.lane[0], trips.cell[0])).index((lane, cell))
         self.assertEqual(seen, [[step, trips.lane[step][car], trips.cell[step][car]] for step in range(len(seen))])
-        self.hold(lambda: self.page.js("return document.getElementById('follow').ariaPressed") == "true")
-        self.hold(lambda: "You follow the car in lane" in self.page.text("car"))
+        self.wait_until(lambda: self.page.js("return document.getElementById('follow').ariaPressed") == "true")
+        self.wait_until(lambda: "You follow the car in lane" in self.page.text("car"))
         self.page.keys(Keys.UP)
-        self.hold(lambda: self.page.js("return lab.player.car.cell") != seen[-1][2])
+        self.wait_until(lambda: self.page.js("return lab.player.car.cell") != seen[-1][2])
         self.follows_none()
 
     def test_a_click_follows_a_car(self) -> None:
@@ -140,15 +143,15 @@ class Playing(OnPage):
         angle = 2 * math.pi * (cell + 0.5) / 1000
         self.page.click_at("ring", 150 + 135 * math.sin(angle), 150 - 135 * math.cos(angle))
         follows_a_car_near = lambda: abs(self.page.js("return lab.player.car?.cell ?? -99") - cell) <= 4
-        self.hold(follows_a_car_near)
+        self.wait_until(follows_a_car_near)
         self.follows_none()
         width = self.page.js("return document.getElementById('band').clientWidth")
         self.page.click_at("band", width * (cell + 0.5) / 1000, 10)
-        self.hold(follows_a_car_near)
+        self.wait_until(follows_a_car_near)
         self.follows_none()
         step = self.page.step()
         self.page.click_at("spacetime", width * (cell + 0.5) / 1000, step - self.page.js("return lab.player.rows.top"))
-        self.hold(follows_a_car_near)
+        self.wait_until(follows_a_car_near)
 
     # Playback
 
@@ -156,38 +159,38 @@ class Playing(OnPage):
         self.pause()
         step = self.page.step()
         self.page.click("one")
-        self.hold(lambda: self.page.step() == step + 1)
+        self.wait_until(lambda: self.page.step() == step + 1)
         self.page.keys(Keys.RIGHT)
-        self.hold(lambda: self.page.step() == step + 2)
+        self.wait_until(lambda: self.page.step() == step + 2)
         self.page.click("back")
         self.page.keys(Keys.LEFT)
-        self.hold(lambda: self.page.step() == step)
+        self.wait_until(lambda: self.page.step() == step)
         self.page.keys(Keys.HOME)
-        self.hold(lambda: self.page.step() == 0)
+        self.wait_until(lambda: self.page.step() == 0)
         self.page.click("back")
         self.assertEqual(self.page.step(), 0)
         self.page.keys(" ")
-        self.hold(lambda: self.page.step() > step + 3 and self.page.text("play") == "Pause")
+        self.wait_until(lambda: self.page.step() > step + 3 and self.page.text("play") == "Pause")
         self.page.set("rate", 0, "input")
-        self.has("1", lambda: self.page.text("rateout"))
+        self.wait_for("1", lambda: self.page.text("rateout"))
         self.assertEqual(self.page.js("document.getElementById('again').click(); return lab.player.step"), 0)
 
     def test_the_end_of_a_run(self) -> None:
         self.pause()
         self.page.set("stepcount", 40)
-        self.hold(lambda: self.page.js("const {film, step} = lab.player; return film.steps === 40 && step >= 0"))
+        self.wait_until(lambda: self.page.js("const {film, step} = lab.player; return film.steps === 40 && step >= 0"))
         self.page.click("clear")
         self.page.set("rate", 100, "input")
         self.page.click("play")
-        self.hold(lambda: self.page.step() == 40 and self.page.text("play") == "Play")
+        self.wait_until(lambda: self.page.step() == 40 and self.page.text("play") == "Play")
         self.assertEqual(self.page.js("return lab.marks.length"), 1)
         self.page.click("one")
         self.assertEqual(self.page.step(), 40)
         self.page.set("rate", 0, "input")  # one step per second
         self.page.click("play")
-        self.hold(lambda: self.page.step() < 40 and self.page.text("play") == "Pause")
+        self.wait_until(lambda: self.page.step() < 40 and self.page.text("play") == "Pause")
         self.page.set("rate", 100, "input")
-        self.hold(lambda: self.page.step() == 40 and self.page.text("play") == "Play")
+        self.wait_until(lambda: self.page.step() == 40 and self.page.text("play") == "Play")
 
     def test_a_long_run_is_bounded(self) -> None:
         self.page.set("stepcount", 500000)
@@ -200,11 +203,11 @@ class Playing(OnPage):
         run = snapshots(self.page.job().replace("steps 500000", f"steps {last}"))
         self.assertEqual(shots, [(snapshot.step, "".join(snapshot.lanes)) for snapshot in run[first:]])
         self.page.click("again")
-        self.hold(lambda: self.page.step() >= 0 and self.page.js("return lab.player.film.first") == 0)
+        self.wait_until(lambda: self.page.step() >= 0 and self.page.js("return lab.player.film.first") == 0)
 
     def test_a_paused_run_ends_and_goes_on(self) -> None:
         self.run_to(20)
-        self.hold(lambda: not self.lab.children)
+        self.wait_until(lambda: not self.lab.children)
         self.run_to(1000)
         self.test_every_snapshot_is_that_of_the_run()
 

@@ -15,11 +15,11 @@ class Processes(OnPage):
 
     def test_an_interrupted_run(self) -> None:
         self.page.set("length", 100000)
-        self.hold(lambda: self.page.js("return lab.player.film.length") == 100000 and self.page.step() >= 0)
+        self.wait_until(lambda: self.page.js("return lab.player.film.length") == 100000 and self.page.step() >= 0)
         os.kill(first_of(self.only_run).pid, signal.SIGKILL)
-        self.hold(lambda: self.page.text("fault") != "")
+        self.wait_until(lambda: self.page.text("fault") != "")
         self.page.set("length", 1000)
-        self.hold(lambda: self.page.text("fault") == "" and self.page.step() > 2)
+        self.wait_until(lambda: self.page.text("fault") == "" and self.page.step() > 2)
         self.page.get("about:blank")
         self.page.errors()  # the browser reports the cut stream too, at some time
 
@@ -27,24 +27,24 @@ class Processes(OnPage):
         self.page.set("stepcount", 500000)
         first, _ = self.page.open()
         self.page.get(self.lab.address)
-        self.hold(lambda: self.page.js("return window.lab?.player.step > 5"))
+        self.wait_until(lambda: self.page.js("return window.lab?.player.step > 5"))
         self.page.set("stepcount", 500000)
-        self.hold(lambda: self.page.step() > 5 and len(self.lab.children) >= 1)
+        self.wait_until(lambda: self.page.step() > 5 and len(self.lab.children) >= 1)
         self.page.leave(first)
         before = self.page.step()
-        self.hold(lambda: self.page.step() > before)
-        self.hold(lambda: len(self.lab.children) <= 1)
+        self.wait_until(lambda: self.page.step() > before)
+        self.wait_until(lambda: len(self.lab.children) <= 1)
 
     def test_reloading(self) -> None:
         self.page.set("stepcount", 500000)
-        self.has_line("\nsteps 500000\n")
-        self.hold(lambda: not self.page.js("return lab.isWriting") and self.page.step() > 2)
+        self.wait_for_line("\nsteps 500000\n")
+        self.wait_until(lambda: not self.page.js("return lab.isWriting") and self.page.step() > 2)
         child = first_of(self.only_run)
         self.page.refresh()
-        self.hold(lambda: self.page.js("return window.lab?.player.step > 2"))
-        self.hold(lambda: child.returncode is not None)
+        self.wait_until(lambda: self.page.js("return window.lab?.player.step > 2"))
+        self.wait_until(lambda: child.returncode is not None)
         self.page.get("about:blank")
-        self.hold(lambda: not self.lab.children)
+        self.wait_until(lambda: not self.lab.children)
 
     def test_another_origin(self) -> None:
         with http.server.ThreadingHTTPServer(("127.0.0.1", 0), Empty) as other:
@@ -62,7 +62,7 @@ class Processes(OnPage):
                     "await new Promise(go => { frame.onload = go; });"
                     "try { return String(frame.contentWindow.lab); } catch { return 'closed'; }", self.lab.address)
                 self.assertIn(framed, {"closed", "undefined"})
-                self.hold(lambda: not self.lab.children)  # those of the page before
+                self.wait_until(lambda: not self.lab.children)  # those of the page before
             finally:
                 other.shutdown()
                 thread.join()
@@ -73,13 +73,13 @@ class Processes(OnPage):
 class Empty(http.server.BaseHTTPRequestHandler):
     """A page of another origin."""
 
-    def do_GET(self):
+    def do_GET(self) -> None:
         self.send_response(200)
         self.send_header("Content-Type", "text/html")
         self.end_headers()
         self.wfile.write(b"<!doctype html><link rel=icon href='data:,'><body></body>")
 
-    def log_message(self, *_):
+    def log_message(self, *_: object) -> None:
         pass
 
 

@@ -4,21 +4,27 @@ import math
 import random
 import unittest
 import warnings
+from collections.abc import Callable, Sequence
 from decimal import Decimal
 from fractions import Fraction
 from pathlib import Path
+from typing import Any, Optional, Union
 from unittest import mock
 
 import trlab
 from tests.page_scripts import MISSING, Thrown, answer, answers
 from trlab import Job, Nasch, Own, ParameterError, Rickert, SlowToStart, Sweep
 from trlab._inputs.numbers import ALWAYS, parts, probability
+from trlab._inputs.rules import Rule
 from trlab._inputs.states import halved, no_warning_of_lanes
 from trlab.lab import scripts
 
+# Controls of the page, or those of a rule: their values by name.
+Values = dict[str, Any]
+Call = Sequence[object]
 EXAMPLES = Path(__file__).resolve().parents[2] / "examples"
 # The initial states of a seed.
-STATES = {
+STATES: dict[str, Callable[[int], Any]] = {
     "even": lambda seed: trlab.even,
     "moving": lambda seed: trlab.moving,
     "jam": lambda seed: trlab.jammed,
@@ -29,15 +35,19 @@ PROGRAMS = [MOTION, f"motion\n{MOTION}", f"\n\n{MOTION}\n\n", MOTION[:-1], "code
 CHANGES = ["", " \n", "stay\n", "change\nstay", "code 01"]
 
 
-def rule_of(controls, lanes):
+def rule_of(controls: Values, lanes: int) -> Rule:
     """The rule of these controls in Python."""
     if controls["model"] == "own":
         return Own(controls["motion"], controls["change"] if lanes == 2 and controls["change"].strip() else None)
-    models = {"nasch": lambda p, q: Nasch(p), "vdr": SlowToStart, "rickert": Rickert}
+    models: dict[str, Callable[[float, float], Rule]] = {
+        "nasch": lambda p, q: Nasch(p),
+        "vdr": SlowToStart,
+        "rickert": Rickert,
+    }
     return models[controls["model"]](controls["p"], controls["q"])
 
 
-def job_of(controls):
+def job_of(controls: Values) -> Job:
     """The job of these controls in Python."""
     first, *later = controls["rules"]
     if controls["start"] == "file":
@@ -51,12 +61,13 @@ def job_of(controls):
         return Job(limit=controls["limit"], steps=controls["steps"], key=key, rule=rule, at=at, **road)
 
 
-def sweep_of(controls):
+def sweep_of(controls: Values) -> Sweep:
     """The sweep of these controls in Python, with the densities of docs/LAB.md."""
-    cells, lanes = controls["length"] * controls["lanes"], controls["lanes"]
-    cars = {round((k / 50 if k <= 16 else 0.32 + (k - 16) * 0.045) * cells) for k in range(1, 31)}
+    length, lanes = controls["length"], controls["lanes"]
+    densities = [k / 50 if k <= 16 else 0.32 + (k - 16) * 0.045 for k in range(1, 31)]
+    cars: set[int] = {round(density * (length * lanes)) for density in densities}
     if lanes == 2:
-        cars = {min(halved(count, controls["length"]), key=lambda near: abs(near - count)) for count in cars}
+        cars = {min(halved(count, length), key=lambda near: abs(near - count)) for count in cars}
     same = {name: controls[name] for name in ("limit", "length", "lanes", "warm", "measure")}
     return Sweep(rule=rule_of(controls["rule"], lanes), cars=sorted(cars), key=int(controls["key"]), **same)
 
@@ -64,22 +75,22 @@ def sweep_of(controls):
 class Controls:
     """Random controls, the same in every run."""
 
-    def __init__(self, seed):
+    def __init__(self, seed: int) -> None:
         self.numbers = random.Random(seed)
 
-    def probability(self):
+    def probability(self) -> float:
         draw = self.numbers
         decimals, multiples = [round(draw.random(), 2), draw.random()], [draw.randrange(2**31), draw.randrange(2**31) + 0.5]
         return draw.choice([0, 1, 0.5, 0.25, *decimals, *(multiple / 2**31 for multiple in multiples)])
 
-    def rule(self, at):
+    def rule(self, at: int) -> Values:
         choose = self.numbers.choice
         return {
             "at": at, "model": choose(["nasch", "vdr", "rickert", "own"]), "p": self.probability(), "q": self.probability(),
             "motion": choose(PROGRAMS), "change": choose(CHANGES),
         }
 
-    def job(self):
+    def job(self) -> Values:
         draw = self.numbers
         lanes, length = draw.choice([1, 2]), draw.choice([1, 2, draw.randint(1, 60), draw.randint(1, 3000)])
         steps = draw.choice([0, 1, 500000, draw.randint(1, 9999)])
@@ -96,12 +107,12 @@ class Controls:
             "rules": [self.rule(at) for at in [0, *steps_of_rules]],
         }
 
-    def sweep(self):
+    def sweep(self) -> Values:
         measure = self.numbers.randint(1, 9999)
         return {**self.job(), "rule": self.rule(0), "warm": self.numbers.randint(0, 6000), "measure": measure}
 
 
-def text_of(input_of):
+def text_of(input_of: Callable[[], Union[Job, Sweep]]) -> Optional[str]:
     """The file of an input that a call makes, or None if Python rejects the input."""
     try:
         return input_of().text()
@@ -113,7 +124,7 @@ def text_of(input_of):
 class Files(unittest.TestCase):
     """Job files and sweep files from controls."""
 
-    def check_files(self, calls, expected):
+    def check_files(self, calls: Sequence[Call], expected: Sequence[str]) -> None:
         """Check that each call of a script returns the expected file."""
         for call, result, text in zip(calls, answers(calls), expected):
             self.assertEqual(result, text, call)
@@ -177,9 +188,10 @@ class Files(unittest.TestCase):
         for decimal, number in zip(answers([("checks", "shortestDecimal", value) for value in values]), values):
             written = Fraction(repr(decimal))
             self.assertEqual((parts(decimal), parts(written)), (number, number), decimal)
-            fewer_digits = -Decimal(repr(decimal)).normalize().as_tuple().exponent - 1
-            if fewer_digits >= 0:
-                shorter = Fraction(round(number * 10**fewer_digits / ALWAYS), 10**fewer_digits)
+            digits = max(0, len(f"{Decimal(repr(decimal)).normalize():f}") - len("0."))
+            if digits > 0:
+                scale = 10 ** (digits - 1)
+                shorter = Fraction(round(number * scale / ALWAYS), scale)
                 self.assertNotEqual(parts(shorter), number, decimal)
 
 
@@ -187,7 +199,7 @@ class Files(unittest.TestCase):
 class Errors(unittest.TestCase):
     """Controls that make no file: the messages are those of Python, unless the page has something else to do."""
 
-    job = {
+    job: Values = {
         "key": "7", "limit": 5, "lanes": 1, "length": 50, "cars": 20, "start": "random", "steps": 9, "road": None,
         "rules": [{"at": 0, "model": "nasch", "p": 0.25, "q": 0.5, "motion": "", "change": ""}],
     }
@@ -195,7 +207,7 @@ class Errors(unittest.TestCase):
     def test_messages_of_python(self) -> None:
         [rule] = self.job["rules"]
         own_programs = "", "  ", "change\nstay", "code 00\ncode 01", "go r0\nend\n", "go r0 ; \ud800"
-        changes = [
+        changes: list[Values] = [
             {"limit": 0}, {"limit": 36}, {"limit": 2.5}, {"length": 0}, {"length": 100001}, {"lanes": 3},
             {"cars": 51}, {"cars": -1}, {"cars": 0.5}, {"key": str(2**256), "start": "even"},
             *({"start": "file", "road": road} for road in (["0.6"], ["0..", "0."], ["0X."])),
@@ -215,7 +227,8 @@ class Errors(unittest.TestCase):
         """A value that is not a number of the right kind is an error, and never gives a file."""
         [right_rule] = self.job["rules"]
         sweep = {**self.job, "rule": right_rule, "warm": 3, "measure": 4}
-        for value in True, False, 1.5, None, [], {}, -1, 1e300, "x", "5", "":
+        values: list[object] = [True, False, 1.5, None, [], {}, -1, 1e300, "x", "5", ""]
+        for value in values:
             key = [] if value == "5" else ["key"]  # a key is a text of digits
             job_fields = "limit", "lanes", "length", "cars", "steps", *key, "start"
             sweep_fields = "limit", "lanes", "length", "warm", "measure", *key
@@ -230,7 +243,7 @@ class Errors(unittest.TestCase):
 
     def test_messages_of_the_page(self) -> None:
         rules = self.job["rules"]
-        changes = (
+        changes: tuple[tuple[Values, str], ...] = (
             ({"steps": 500001}, "steps must be between 0 and 500000, not 500001"),
             ({"key": "1e3"}, "the key must have 1 to 78 decimal digits, not '1e3'"),
             ({"start": "moved"}, "the initial state is even, moving, random, jam or file, not 'moved'"),
@@ -300,7 +313,7 @@ class Reading(unittest.TestCase):
 class Curves(unittest.TestCase):
     """Exact curves. A plot of 316 pixels shows three digits; nine are demanded."""
 
-    def curves(self, *cases):
+    def curves(self, *cases: tuple[int, int, Values, int]) -> list[Any]:
         """The curves of (limit, length, rule, lanes)."""
         rest = {"motion": "", "change": "", "p": 0.25, "q": 0.5}
         controls = [
@@ -310,7 +323,7 @@ class Curves(unittest.TestCase):
         return answers([("exact", "exactCurve", control) for control in controls])
 
     def test_the_triangle(self) -> None:
-        rules = (
+        rules: tuple[Values, ...] = (
             {"model": "nasch", "p": 0}, {"model": "vdr", "p": 0, "q": 0}, {"model": "rickert", "p": 0, "q": 0},
             {"model": "own", "motion": MOTION},
         )
@@ -323,7 +336,8 @@ class Curves(unittest.TestCase):
 
     def test_the_stationary_flow(self) -> None:
         lengths, probabilities = (1, 2, 3, 12, 99, 100, 1000, 100000), (1e-9, 0.01, 1 / 3, 0.9999, 1 - 1e-9, 1)
-        cases = [(1, length, {"model": "nasch", "p": brake}, 1) for length in lengths for brake in probabilities]
+        rules: list[Values] = [{"model": "nasch", "p": brake} for brake in probabilities]
+        cases = [(1, length, rule, 1) for length in lengths for rule in rules]
         for (_, length, rule, _), curve in zip(cases, self.curves(*cases)):
             counts = sorted({round(k * length / 100) for k in range(101)})
             self.assertEqual([vertex["density"] for vertex in curve["points"]], [cars / length for cars in counts])
@@ -392,24 +406,25 @@ UNNOTICED = {"draw < highest ? found.push(cell)"}
 
 @unittest.skipIf(MISSING, MISSING)
 class Planted(unittest.TestCase):
-    def calls(self):
+    def calls(self) -> list[Call]:
         """Calls of the scripts whose results the other tests compare with Python."""
         draw = Controls(8)
         jobs, sweeps = [draw.job() for _ in range(250)], [{**draw.sweep(), "warm": 3, "measure": 4} for _ in range(40)]
         texts = [text for text in (text_of(lambda: job_of(job)) for job in jobs) if text]
-        calls = [("jobs", "jobFile", job) for job in jobs] + [("jobs", "sweepFile", sweep) for sweep in sweeps]
+        calls: list[Call] = [("jobs", "jobFile", job) for job in jobs]
+        calls += [("jobs", "sweepFile", sweep) for sweep in sweeps]
         calls += [("reading", "controlsOf", text) for text in texts]
         probabilities = 1e-10, 0.5 / 2**31, 1.5 / 2**31, 2.5 / 2**31, 0.3
         calls += [("checks", "checkedParts", "brake", probability) for probability in probabilities]
         calls += [("checks", "shortestDecimal", multiple) for multiple in (1, 715827883, 2**20, 2**31 - 1)]
         calls.append(("random", "randomNumbers", "7", 99))
-        vdr = {"model": "vdr", "p": 0.25, "q": 0.5, "motion": "", "change": ""}
+        vdr: Values = {"model": "vdr", "p": 0.25, "q": 0.5, "motion": "", "change": ""}
         for rule in vdr, {**vdr, "q": 0.25}, {**vdr, "p": 0, "q": 0}:
-            roads = [{"limit": limit, "length": 99, "lanes": 1} for limit in (1, 2)]
-            calls += [("exact", "exactCurve", {**road, "rule": rule}) for road in roads]
+            roads = [{"limit": limit, "length": 99, "lanes": 1, "rule": rule} for limit in (1, 2)]
+            calls += [("exact", "exactCurve", road) for road in roads]
         return calls
 
-    def results(self, calls, edit):
+    def results(self, calls: Sequence[Call], edit: Callable[[str], str]) -> Optional[list[Any]]:
         """The results of the edited scripts, with errors as texts; None if the scripts end with an error."""
         try:
             return [str(result) if isinstance(result, Thrown) else result for result in answers(calls, edit)]
@@ -433,7 +448,10 @@ class LongFiles(unittest.TestCase):
         """Each line is taken once. The test counts this, because no test depends on time."""
         count = """this.all.counted = (this.all.counted ?? 0) + 1;
             if (this.all.counted > this.all.length) throw new Error('lines are taken again');"""
-        edit = lambda script: script.replace("  takeLine() {\n", f"  takeLine() {{\n{count}\n", 1)
+
+        def edit(script: str) -> str:
+            return script.replace("  takeLine() {\n", f"  takeLine() {{\n{count}\n", 1)
+
         key = "key " + 64 * "0"
         head = ["sweep 1", key, "limit 5", "length 9", "lanes 1", "rule nasch 0", "warm 0", "measure 1"]
         points = [*head, *10000 * ["cars 3"]]

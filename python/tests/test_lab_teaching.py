@@ -1,13 +1,15 @@
 """The page for teaching: models and examples in words, units, the followed car, and a disturbance by the user."""
 import re
 import unittest
+from typing import Any
 
 import trlab
 from tests.browsers import Keys, missing
 from tests.lab_pages import OnPage, snapshots
-from trlab import Job, Nasch, Own, Rickert, SlowToStart
+from trlab import Job, Nasch, Own, Rickert, SlowToStart, Snapshot
+from trlab._inputs.rules import Rule
+from trlab._inputs.states import SPEEDS
 
-SPEEDS = "0123456789abcdefghijklmnopqrstuvwxyz"
 # Why each car brakes at each step up to words[0]: step, lane, cell, speed and reason.
 REASONS = """const {reasonOf} = await import('./following.js'), {film} = lab.player, [rule] = lab.job.rules, found = [];
 for (let step = 1; step <= words[0]; step++) film.at(step).cells.forEach((byte, k) => {
@@ -17,7 +19,7 @@ for (let step = 1; step <= words[0]; step++) film.at(step).cells.forEach((byte, 
 return found"""
 
 
-def speeds_by_origin(snapshot):
+def speeds_by_origin(snapshot: Snapshot) -> dict[tuple[int, int], int]:
     """The speed of each car by its lane and the cell from which it moved."""
     speeds = {}
     for lane, cells in enumerate(snapshot.lanes):
@@ -31,17 +33,18 @@ def speeds_by_origin(snapshot):
 class Teaching(OnPage):
     """The tests, in one browser."""
 
-    def choose(self, example):
+    def choose(self, example: str) -> None:
         self.page.set("example", example)
         self.wait_until_written()
 
-    def show_job(self, **changes):
+    def show_job(self, **changes: Any) -> str:
         """Open a job of 24 cars on 60 cells, with changes, and return its file."""
         road = {"limit": 3, "length": 60, "cars": 24, "start": trlab.random_cells(3)}
-        text = Job(**{**road, "rule": Nasch("1/4"), "steps": 400, "key": 5, **changes}).text()
+        parameters: dict[str, Any] = {**road, "rule": Nasch("1/4"), "steps": 400, "key": 5, **changes}
+        text = Job(**parameters).text()
         self.open(text)
-        self.has_job(text)
-        self.hold(lambda: self.page.js("return lab.player.film.length") == 60 and self.page.step() >= 0)
+        self.wait_for_job(text)
+        self.wait_until(lambda: self.page.js("return lab.player.film.length") == 60 and self.page.step() >= 0)
         return text
 
     # Models and examples
@@ -50,7 +53,7 @@ class Teaching(OnPage):
         words = {"vdr": "stopped cars", "rickert": "changes lanes", "own": "verifier", "nasch": "random braking"}
         for model, word in words.items():
             self.page.set("model", model)
-            self.hold(lambda: word in self.page.text("about"))
+            self.wait_until(lambda: word in self.page.text("about"))
             address, relation, link_text = self.page.js("""const it = document.querySelector('#about a');
                 return [it.getAttribute('href'), it.rel, it.textContent]""")
             self.assertTrue(address.startswith("#" if model == "own" else "https://doi.org/10."), address)
@@ -62,7 +65,7 @@ class Teaching(OnPage):
     def test_the_model_of_a_file_is_explained(self) -> None:
         for rule, word in (SlowToStart("1/8", "3/4"), "stopped cars"), (Nasch("1/4"), "random braking"):
             self.show_job(rule=rule)
-            self.hold(lambda: word in self.page.text("about"))
+            self.wait_until(lambda: word in self.page.text("about"))
             self.assertTrue(self.is_visible("about"), word)
 
     def test_every_example_has_a_name_and_a_sentence(self) -> None:
@@ -74,7 +77,7 @@ class Teaching(OnPage):
             self.assertNotIn(".", name)
         for name in "queue.job", "nasch.rule":
             self.choose(name)
-            self.hold(lambda: self.page.text("story").endswith(f". {name}"))
+            self.wait_until(lambda: self.page.text("story").endswith(f". {name}"))
 
     def test_there_is_time_to_watch_an_example(self) -> None:
         for example, steps, rate in (
@@ -85,23 +88,23 @@ class Teaching(OnPage):
             ("triangle.sweep", 5000, "33"),
         ):
             self.choose(example)
-            self.has([steps, rate], lambda: [self.page.js("return lab.job.steps"), self.page.text("rateout")])
+            self.wait_for([steps, rate], lambda: [self.page.js("return lab.job.steps"), self.page.text("rateout")])
 
     def test_the_road_of_a_sweep_shows_its_phenomenon(self) -> None:
         self.choose("lane_rule.sweep")
-        self.hold(lambda: self.page.value("cars") == "60" and self.page.js("return lab.job.lanes") == 2)
+        self.wait_until(lambda: self.page.value("cars") == "60" and self.page.js("return lab.job.lanes") == 2)
         self.run_to(100)
         first_lane, second_lane = self.page.js("return lab.player.film.at(100).densities")
         self.assertGreater(first_lane, 1.5 * second_lane)
         self.choose("two_lanes.sweep")
-        self.has("150", lambda: self.page.value("cars"))
+        self.wait_for("150", lambda: self.page.value("cars"))
 
     def test_hysteresis_is_an_example(self) -> None:
         self.page.set("warm", 2)
         self.page.set("measure", 3)
         self.choose("Hysteresis")
-        self.has_line("rule vdr 33554432 1610612736\n")
-        self.has(["moving", "jam"], lambda: self.page.js("return lab.marks.filter(it => it.name).map(it => it.start)"))
+        self.wait_for_line("rule vdr 33554432 1610612736\n")
+        self.wait_for(["moving", "jam"], lambda: self.page.js("return lab.marks.filter(it => it.name).map(it => it.start)"))
         self.assertEqual(self.page.value("start"), "moving")
         self.assertIn("initial state decides", self.page.text("story"))
 
@@ -118,7 +121,7 @@ class Teaching(OnPage):
         self.assertEqual(maxima(), ["0.75", "1", "3"])
         self.assertIn("density (cars per cell)", axis())
         self.page.set("units", "road")
-        self.hold(lambda: "vehicles per hour and lane" in "".join(axis()) and "81 km/h" in self.page.text("legend"))
+        self.wait_until(lambda: "vehicles per hour and lane" in "".join(axis()) and "81 km/h" in self.page.text("legend"))
         hourly_flow, cars_per_km, kmh = shown()
         self.assertEqual(cars_per_km, 53)  # 0.4 cars per cell of 7.5 m
         # Both numbers are rounded: the flow per step to 3 digits, the speed in cells per step to 2, and the others to 0.
@@ -127,7 +130,7 @@ class Teaching(OnPage):
         self.assertEqual(maxima(), ["2700", "133", "81"])
         self.assertTrue({"500", "1000", "20", "40", "120"} <= set(axis()))
         self.page.click("follow")
-        self.hold(lambda: re.search(r"at \d+ km/h\. Its gap is [\d.]+ m", self.page.text("car")))
+        self.wait_until(lambda: re.search(r"at \d+ km/h\. Its gap is [\d.]+ m", self.page.text("car")))
 
     def test_points_of_other_roads(self) -> None:
         self.page.set("limit", 3)
@@ -136,7 +139,7 @@ class Teaching(OnPage):
             {limit: 5, length: 1000, lanes: 1, points: [{density: 0.2, flow: 0.4}]},
             {limit: 3, length: 1000, lanes: 1, points: [{density: 0.2, flow: 0.3}]})""")
         self.page.set("units", "cells")
-        self.hold(lambda: "runs: v_max 5, 1000 cells" in self.page.text("diagram"))
+        self.wait_until(lambda: "runs: v_max 5, 1000 cells" in self.page.text("diagram"))
         title = self.page.js("return document.querySelector('path.point title').textContent")
         self.assertIn("flow 0.400, v_max 5, 1000 cells", title)
         self.assertEqual(self.page.js("return document.querySelectorAll('path.point').length"), 1)
@@ -146,7 +149,7 @@ class Teaching(OnPage):
             lab.marks.push({...road, name: 'p 0.123456789, two lanes', start: 'jam', group: 1, points})""")
         self.page.set("units", "road")
         self.page.set("units", "cells")
-        self.hold(lambda: "2 × 100000 cells" in self.page.text("diagram"))
+        self.wait_until(lambda: "2 × 100000 cells" in self.page.text("diagram"))
         right = self.page.js("""const boxes = [...document.querySelectorAll('#diagram text')].map(it => it.getBBox());
             return Math.max(...boxes.map(({x, width}) => x + width))""")
         self.assertLessEqual(right, 360)
@@ -155,7 +158,11 @@ class Teaching(OnPage):
 
     def test_why_a_car_brakes(self) -> None:
         """A car has braked at random if it is slower than without random braking, from the same road."""
-        rules = (Nasch("1/4"), Nasch(0)), (SlowToStart("1/8", "3/4"), SlowToStart(0, 0)), (Rickert("1/4", 1), Rickert(0, 1))
+        rules: tuple[tuple[Rule, Rule], ...] = (
+            (Nasch("1/4"), Nasch(0)),
+            (SlowToStart("1/8", "3/4"), SlowToStart(0, 0)),
+            (Rickert("1/4", 1), Rickert(0, 1)),
+        )
         for rule, without_braking in rules:
             lanes = 2 if isinstance(rule, Rickert) else 1
             cars = 24 * lanes
@@ -183,22 +190,22 @@ class Teaching(OnPage):
         self.show_job(start=["3..0.." + 54 * "."], cars=None, length=None, rule=Nasch(0))
         self.pause()
         self.page.click("again")
-        self.hold(lambda: self.page.step() == 0)
+        self.wait_until(lambda: self.page.step() == 0)
         self.page.js("lab.player.car = {step: 0, lane: 0, cell: 0}; lab.player.redraw()")
-        self.has(
+        self.wait_for(
             "You follow the car in cell 0, at 3 cells per step. Its gap is 2 cells, and the car ahead drives at 0 cells per "
             "step.", lambda: self.page.text("car"))
         self.page.click("one")
-        self.has(
+        self.wait_for(
             "You follow the car in cell 2, at 2 cells per step. Its gap is 1 cell, and the car ahead drives at 1 cell per "
             "step. It braked from 3 to 2 cells per step, because its gap was 2 cells.", lambda: self.page.text("car"))
 
     # A disturbance by the user
 
-    def follows_in_the_new_run(self, car):
+    def follows_in_the_new_run(self, car: dict[str, int]) -> None:
         """Wait until the page follows a car in the run that begins with its stop."""
         stopped = {"step": 0, "lane": car["lane"], "cell": car["cell"]}
-        self.has(stopped, lambda: self.page.js("const {film, car} = lab.player; return car && film.follow(car, 0)"))
+        self.wait_for(stopped, lambda: self.page.js("const {film, car} = lab.player; return car && film.follow(car, 0)"))
 
     def test_a_car_brakes(self) -> None:
         text = self.show_job(rule=Nasch("1/4"), at={390: Nasch("1/2")})
@@ -213,8 +220,8 @@ class Teaching(OnPage):
         self.page.keys("b")
         stopped = lane[:car["cell"]] + "0" + lane[car["cell"] + 1:]
         expected = Job(limit=3, start=[stopped], rule=Nasch("1/4"), steps=400, key=5, at={390 - step: Nasch("1/2")})
-        self.has_job(expected.text())
-        self.hold(lambda: f"braked to a stop at step {step}." in self.page.text("story"))
+        self.wait_for_job(expected.text())
+        self.wait_until(lambda: f"braked to a stop at step {step}." in self.page.text("story"))
         self.follows_in_the_new_run(car)
         self.run_to(50)
         shots = self.page.js("return lab.player.film.snapshots.map(it => String.fromCharCode(...it.cells))")
@@ -230,10 +237,10 @@ class Teaching(OnPage):
         lanes = [list(lane) for lane in snapshots(text)[step].lanes]
         lanes[car["lane"]][car["cell"]] = "0"
         start = ["".join(lane) for lane in lanes]
-        self.has_job(Job(limit=3, start=start, rule=Rickert("1/4", "1/2"), steps=400, key=5).text())
+        self.wait_for_job(Job(limit=3, start=start, rule=Rickert("1/4", "1/2"), steps=400, key=5).text())
         self.follows_in_the_new_run(car)
         self.page.keys(Keys.ESCAPE)
-        self.hold(lambda: self.page.js("return lab.player.car") is None)
+        self.wait_until(lambda: self.page.js("return lab.player.car") is None)
 
     def test_a_car_that_brakes_is_followed_no_longer(self) -> None:
         """Escape counts also before the new run has begun, and before it has a snapshot."""
@@ -254,7 +261,7 @@ class Teaching(OnPage):
                 self.page.act("""const {player} = lab, brake = document.getElementById('brake');
                     const escape = new KeyboardEvent('keydown', {key: 'Escape', bubbles: true});
                     const pressEscape = () => document.body.dispatchEvent(escape);""" + script)
-                self.hold(lambda: self.page.job() != text and self.page.step() == 0)
+                self.wait_until(lambda: self.page.job() != text and self.page.step() == 0)
                 self.assertIsNone(self.page.js("return lab.player.car"))
 
 

@@ -55,7 +55,8 @@ REWRITTEN = {
     "define internal noundef { i64, i8 } @f(ptr %a0, i1 noundef zeroext %a1) #0 {",
     'attributes #0 = { nounwind "probe-stack"="inline-asm" "target-cpu"="x86-64-v3" }': "attributes #0 = { nounwind }",
     '@s = private constant <{ ptr, [5 x i8] }> <{ ptr getelementptr (i8, ptr @s, i64 8), [5 x i8] c"}>, x" }>, align 8':
-    '@s = private constant <{ ptr, i32, [5 x i8] }> <{ ptr getelementptr (i8, ptr @s, i64 8), i32 0, [5 x i8] c"}>, x" }>, align 8',
+    '@s = private constant <{ ptr, i32, [5 x i8] }> '
+    '<{ ptr getelementptr (i8, ptr @s, i64 8), i32 0, [5 x i8] c"}>, x" }>, align 8',
     "  call void @llvm.x86.sse2.pause()": None,
 }
 # Lines of other forms: an unexpected pointer, another processor, or a meaning that depends on the size of pointers.

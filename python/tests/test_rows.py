@@ -215,14 +215,9 @@ class OfTheProgram(unittest.TestCase):
             right = rows[1][column]
             rows[1][column] = data.draw(some.integers(0, 2 * right + 2).filter(lambda number: number != right))
             wrong = WINDOWS + "".join(",".join(map(str, row)) + "\n" for row in rows)
-            with with_numpy():
-                self.assertRaisesRegex(
-                    OutputFormatError, "^line [2-4] of the table is impossible", Table.read, Window, wrong
-                )
-            with without_numpy():
-                self.assertRaisesRegex(
-                    OutputFormatError, "^line [2-4] of the table is impossible", Table.read, Window, wrong
-                )
+            for numpy_or_not in with_numpy, without_numpy:
+                with numpy_or_not(), self.assertRaisesRegex(OutputFormatError, "^line [2-4] of the table is impossible"):
+                    Table.read(Window, wrong)
 
         read()
 
