@@ -150,7 +150,7 @@ class ForEveryone(OnPage):
 
     def open_everything(self, page: Window) -> None:
         """Show all that the page can show at once: a followed car, a second model, programs, and a rejected number."""
-        page.holds(lambda: page.js("return window.lab !== undefined && lab.player.step >= 0"))
+        page.wait_until(lambda: page.js("return window.lab !== undefined && lab.player.step >= 0"))
         if page.text("play") == "Pause":
             page.click("play")
         page.set("model", "rickert")
