@@ -24,9 +24,9 @@ MAX_WORDS = {
     "docs/PROGRAMS.md": 2650,
     "docs/PYTHON.md": 2780,
     "docs/README.md": 310,
-    "docs/RELIABILITY.md": 1650,
+    "docs/RELIABILITY.md": 1800,
     "docs/SPEED.md": 630,
-    "docs/STUDIES.md": 2450,
+    "docs/STUDIES.md": 2700,
     "docs/TUTORIAL.md": 1440,
     "docs/VERIFIER.md": 1020,
     "docs/dev/ARCHITECTURE.md": 2050,
@@ -36,7 +36,7 @@ MAX_WORDS = {
     "docs/dev/EMBEDDING.md": 520,
     "docs/dev/EXTENDING.md": 1250,
     "docs/dev/GLOSSARY.md": 470,
-    "docs/dev/GUARANTEES.md": 5300,
+    "docs/dev/GUARANTEES.md": 5550,
     "docs/dev/README.md": 60,
 }
 # For pages with many blocks, which do not count.
