@@ -8,7 +8,7 @@ from .files import FENCED, content, documents
 # Pages grow with every change, and each sentence seems useful. When a page comes to its limit, somebody should read it as a
 # whole: what another page says goes, and otherwise the limit rises. No page is cut for its limit.
 MAX_WORDS = {
-    "CHANGELOG.md": 1720,
+    "CHANGELOG.md": 1900,
     "CONTRIBUTING.md": 2280,
     "README.md": 1330,
     "docs/CHEATSHEET.md": 730,
