@@ -13,7 +13,9 @@ use trlab_texts::word::{head_word, number_from};
 
 /// The names of the probabilities in the line of each model, in their order.
 const NASCH_NAMES: [&str; 2] = ["p", "p"];
+
 const VDR_NAMES: [&str; 2] = ["p", "p0"];
+
 const RICKERT_NAMES: [&str; 2] = ["p", "c"];
 
 /// Adds the probabilities after the name of a model.
